@@ -1,0 +1,1 @@
+// Definitions and laws that several rooms share. No code of its own.
