@@ -1,0 +1,30 @@
+-- Laws of a message that is filled up with 2B, and of one block more in it.
+use mathlib.Core.Path.{_≡_, sym, ap, _∙_}
+use mathlib.Core.List.{List, _++_, append-assoc}
+use Prim.Native.Nat.{ℕ, _+_, _*_, _-_, _≤_}
+use native.Mathlib.Omega.{arith}
+use lib.ListN.{length, take, drop, replicate, length-append, length-take, length-drop}
+use lib.Seq.{drop-drop, take-all}
+use borrow.Rule.Slice.PartMut.{midOf, putMid}
+use Rattle.laws.proofs.Parts.{put-copy, drop-replicate}
+use Rattle.block.specs.Paper.{filled}
+
+module _ (t : ℕ) (o p : List ℕ) (room : t ≤ 3) (long : length o ≡ 88) (whole : length p ≡ 23)
+    (rest : drop (22 * t) o ≡ replicate (88 - 22 * t) 43) where
+  -- a block's content over the 2B where it belongs: the octets up to it, filled
+  pub filled-next : take (22 * t) o ++ (drop 1 p ++ drop (22 * t + 22) o) ≡ filled (take (22 * t) o ++ drop 1 p)
+  filled-next =
+      let tail : drop (22 * t + 22) o ≡ replicate (88 - 22 * t - 22) 43 =
+      sym (drop-drop 22 (22 * t) o) ∙ ap (λ (l : List ℕ). drop 22 l) rest ∙ drop-replicate 22 (88 - 22 * t) 43 in
+      let size : 88 - length (take (22 * t) o ++ drop 1 p) ≡ 88 - 22 * t - 22 =
+      simp (length-append, length-take, length-drop) (omega arith) in
+      rw (tail, size) (sym (append-assoc (take (22 * t) o) (drop 1 p) (replicate (88 - 22 * t - 22) 43)))
+
+  -- the same for a content that is copied over the part lent
+  pub filled-copy : (y : List ℕ)
+      → y ≡ take (length (midOf 1 (length p - 1) p)) (midOf 1 (length p - 1) p) ++ drop (length (midOf 1 (length p - 1) p)) (midOf (22 * t) (22 * t + 22 - 22 * t) o)
+      → putMid (22 * t) (22 * t + 22 - 22 * t) o y ≡ filled (take (22 * t) o ++ drop 1 p)
+  filled-copy y q =
+      let content : midOf 1 (length p - 1) p ≡ drop 1 p = take-all (length p - 1) (drop 1 p) (simp length-drop (omega arith)) in
+      let size : length (midOf 1 (length p - 1) p) ≡ 22 * t + 22 - 22 * t = rw content (simp length-drop (omega arith)) in
+      put-copy (22 * t) (22 * t + 22) o (midOf 1 (length p - 1) p) y (omega arith) (omega arith) size q ∙ rw content filled-next

@@ -1,0 +1,5 @@
+pub mod Answers
+pub mod Blank
+pub mod Filled
+pub mod Steps
+pub mod Write

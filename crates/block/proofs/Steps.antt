@@ -1,0 +1,92 @@
+-- The cases of `step`: what it is for an improper state, and for a proper one by the place of the piece.
+use mathlib.Core.Path.{_≡_, refl, sym, ap, _∙_}
+use mathlib.Core.Bool.{Bool, true, false, cond, not, false≢true, _&&_}
+use mathlib.Core.List.{List, []}
+use Prim.Native.Nat.{ℕ, suc, _*_, _-_, _≤_}
+use native.Mathlib.Omega.{arith}
+use lib.ListN.{length, drop, replicate, length-drop}
+use lib.Dec.{eqb, leb, lit≤}
+use borrow.Author.Tests.{eqb-true, leb-true, not-false}
+use Rattle.laws.specs.Ruled.{ruled}
+use Rattle.laws.proofs.Ruled.{ruled-map, ruling, Ruling, refuses, passes}
+use Rattle.laws.proofs.Tests.{both}
+use Rattle.block.specs.Paper.{Kind, page, schedule, kindNumber, Held, Given, proper, allBlank, refusal, code, follows, faults, last, begun, made, added, handed, kept, step, blank}
+use Rattle.block.specs.Place.{Place, none, first, next, placeOf}
+use Rattle.block.specs.Coded.{held, outcome, Adds}
+use Rattle.block.proofs.Blank.{allBlank-is}
+
+pub step-improper : (h : Held) (p : List ℕ) → proper h ≡ false → step h p ≡ refusal 8
+unfolding step
+step-improper h p e = rw e
+
+-- the answer that a place means for a piece and a proper state
+abbrev pub met : Held → List ℕ → Place → Given
+met h p (none n) = refusal n
+met h p (first k l) = outcome l (added (held (kindNumber k) 0 []) p)
+met h p (next l) = outcome l (added h p)
+
+-- where nothing refuses, the place gives the answer of the paper
+met-passed : (h : Held) (p : List ℕ) (f e : Bool) → follows (code p) ≡ f → eqb (code p) 8 ≡ e
+    → met h p (cond (follows (code p)) (next (last p (suc (h .taken)))) (first (cond (eqb (code p) 8) schedule page) (last p 1)))
+    ≡ outcome (last p (made h p .taken)) (made h p)
+met-passed h p true e q r = rw q
+met-passed h p false true q r = rw (q, r)
+met-passed h p false false q r = rw (q, r)
+
+pub step-met : (h : Held) (p : List ℕ) → proper h ≡ true → step h p ≡ met h p (placeOf (h .taken) p)
+unfolding step placeOf
+step-met h p e =
+    let x = cond (follows (code p)) (next (last p (suc (h .taken)))) (first (cond (eqb (code p) 8) schedule page) (last p 1)) in
+    rw e
+    (ap (ruled refusal (faults (h .taken) p)) (sym (met-passed h p _ _ refl refl)) ∙ sym (ruled-map (met h p) none (faults (h .taken) p) x))
+
+-- the answer that the place of a piece means is the answer to it
+pub step-by : (h : Held) (p : List ℕ) (x : Place) (g : Given) → proper h ≡ true → placeOf (h .taken) p ≡ x → g ≡ met h p x → g ≡ step h p
+step-by h p x g e q r = r ∙ sym (step-met h p e ∙ ap (met h p) q)
+
+-- a proper state leaves room for a block, and its rest is 2B
+pub record Proper (h : Held) : Type 0 where
+  pub long : length (h .octets) ≡ 88
+  pub room : h .taken ≤ 3
+  pub rest : drop (22 * h .taken) (h .octets) ≡ replicate (88 - 22 * h .taken) 43
+
+few : (k t : ℕ) (b : Bool) → eqb k 0 ≡ b → cond (eqb k 0) (eqb t 0) (leb k 2 && (leb 1 t && leb t 3)) ≡ true → t ≤ 3
+few k t true q e = omega (arith, eqb-true t 0 (rw q at e))
+few k t false q e = leb-true t 3 (both (leb 1 t) (leb t 3) (both (leb k 2) (leb 1 t && leb t 3) (rw q at e) .1) .1)
+
+pub proper-facts : (h : Held) → proper h ≡ true → Proper h
+unfolding proper
+proper-facts h e =
+    let parts = both _ _ e in
+    let long = eqb-true (length (h .octets)) 88 (parts .0) in
+    let kinds = both _ _ (parts .1) in
+    let rest = drop (22 * h .taken) (h .octets) in
+    let size : length rest ≡ 88 - 22 * h .taken = length-drop (22 * h .taken) (h .octets) ∙ ap (λ (n : ℕ). n - 22 * h .taken) long in
+    record {
+      long = long;
+      room = few (h .kind) (h .taken) _ refl (kinds .0);
+      rest = allBlank-is rest (kinds .1) ∙ ap (λ (n : ℕ). replicate n 43) size;
+    }
+
+abbrev pub isTaken : Place → Bool
+isTaken (none n) = false
+isTaken (first k l) = true
+isTaken (next l) = true
+
+whole : (t : ℕ) (p : List ℕ) (y r : Place) → Ruling none (faults t p) y r → isTaken r ≡ true → length p ≡ 23
+whole t p y r (refuses n a q) e = absurd (false≢true (ap isTaken (sym q) ∙ e))
+whole t p y r (passes h q) e = eqb-true (length p) 23 (not-false _ (h .0))
+
+-- a piece that has a place is a whole block
+placeOf-whole : (t : ℕ) (p : List ℕ) → isTaken (placeOf t p) ≡ true → length p ≡ 23
+unfolding placeOf
+placeOf-whole t p e = whole t p _ (placeOf t p) (ruling none (faults t p) _) e
+
+-- a piece that has a place can be added to a message with nothing taken, and to a proper state
+pub adds-first : (t : ℕ) (p : List ℕ) (x : Place) → placeOf t p ≡ x → isTaken x ≡ true → Adds 0 blank p
+adds-first t p x q e = record { whole = placeOf-whole t p (ap isTaken q ∙ e); room = lit≤ tt; rest = refl }
+
+pub adds-next : (h : Held) (p : List ℕ) (x : Place) → proper h ≡ true → placeOf (h .taken) p ≡ x → isTaken x ≡ true → Adds (h .taken) (h .octets) p
+adds-next h p x g q e =
+    let facts = proper-facts h g in
+    record { whole = placeOf-whole (h .taken) p (ap isTaken q ∙ e); room = facts .room; rest = facts .rest }

@@ -1,0 +1,50 @@
+-- `block::is_blank` meets its contract. The invariant: the verdict on the octets is that so far and that on those ahead.
+use mathlib.Core.Path.{_≡_, refl}
+use mathlib.Core.Bool.{_&&_}
+use mathlib.Core.Logic.{⊎-elim}
+use Prim.Native.Nat.{_-_}
+use lib.ListN.{length, drop}
+use native.Mathlib.Omega.{arith}
+use borrow.Author.Needs.{needs}
+use Rattle.block.specs.Paper.{allBlank}
+use Rattle.block.proofs.Blank.{allBlank-end, allBlank-same, allBlank-other}
+use Rattle.block.proofs.is_blank.Statement.{statement}
+use Rattle.block.proofs.is_blank.Tie as tie
+
+abbrev Inv-loop : tie.InvT-loop
+Inv-loop octets from blank₀ i₀ blank i = allBlank (drop from octets) ≡ (blank && allBlank (drop i octets))
+
+abbrev μ-loop : tie.MeasureT-loop
+μ-loop octets from blank₀ i₀ blank i = length octets - i
+
+loop-holds : tie.Need-loop-holds Inv-loop μ-loop
+loop-holds c = refl
+
+shared-slice-read-if1 : tie.Need-shared-slice-read-if1 Inv-loop μ-loop
+shared-slice-read-if1 c = search needs
+
+add-i : tie.Need-add-i Inv-loop μ-loop
+add-i c = search needs
+
+loop-less : tie.Need-loop-less Inv-loop μ-loop
+loop-less c = search needs
+
+loop-again : tie.Need-loop-again Inv-loop μ-loop
+loop-again c =
+    let l = c .before .before .before .loop in
+    let a = c .before .before .before .before .args in
+    let turn = c .before .before .loop-test .taken in
+    ⊎-elim
+    (λ w. rw (w .1) (allBlank-other (a .octets .now) (l .i) turn _ (l .blank) (l .inv) (w .0 .taken)))
+    (λ w. rw (w .1) (allBlank-same (a .octets .now) (l .i) turn _ (l .blank) (l .inv) (w .0 .left)))
+    (c .if1 .came)
+
+returns : tie.Need-returns Inv-loop μ-loop
+returns c =
+    let l = c .before .loop in
+    allBlank-end (c .before .before .args .octets .now) (l .i) _ (l .blank) (c .loop-test .left) (l .inv)
+
+pub is-blank-spec : {M : Type 1} → statement M
+is-blank-spec =
+    tie.close
+    (tie.spec Inv-loop μ-loop loop-holds shared-slice-read-if1 add-i loop-less loop-again returns)

@@ -1,0 +1,165 @@
+-- `block::write_blocks` meets its contract. The invariant: the blocks so far stand at the front, and the rest is as it was.
+use mathlib.Core.Path.{_≡_, refl, sym, ap, _∙_}
+use mathlib.Core.List.{_++_}
+use Prim.Native.Nat.{_+_, _*_, _-_, _≤_}
+use lib.ListN.{length, drop, length-set}
+use native.Mathlib.Omega.{arith}
+use borrow.Author.Needs.{needs}
+use borrow.Author.Tests.{eq-eqb, ne-eqb, le-ltb, lt-ltb}
+use Rattle.block.specs.Paper.{blocks, written}
+use Rattle.block.specs.Coded.{kindOf}
+use Rattle.block.proofs.Write.{write-turn, length-written, written-all}
+use Rattle.block.proofs.write_blocks.Statement.{statement}
+use Rattle.block.proofs.write_blocks.Tie as tie
+
+abbrev Inv-loop : tie.InvT-loop
+Inv-loop message kind used out₀ i₀ out i =
+    (i ≤ 4) × (out ≡ blocks (kindOf kind) used message i ++ drop (23 * i) out₀) × (length out ≡ 92)
+
+abbrev μ-loop : tie.MeasureT-loop
+μ-loop message kind used out₀ i₀ out i = 4 - i
+
+returns : tie.Need-returns Inv-loop μ-loop
+unfolding written
+returns c = simp (ne-eqb _ _ (c .if1 .taken))
+
+returns-2 : tie.Need-returns-2 Inv-loop μ-loop
+unfolding written
+returns-2 c = simp (eq-eqb _ _ (c .before .if1 .left), ne-eqb _ _ (c .if2 .taken))
+
+returns-3 : tie.Need-returns-3 Inv-loop μ-loop
+unfolding written
+returns-3 c = simp (eq-eqb _ _ (c .before .before .if1 .left), eq-eqb _ _ (c .before .if2 .left), c .if3 .taken)
+
+returns-4 : tie.Need-returns-4 Inv-loop μ-loop
+unfolding written
+returns-4 c =
+    let b = c .before .before in
+    simp
+    (eq-eqb _ _ (b .before .if1 .left), eq-eqb _ _ (b .if2 .left), ne-eqb _ _ (c .before .if3 .left), lt-ltb _ _ (c .if4 .taken))
+
+loop-holds : tie.Need-loop-holds Inv-loop μ-loop
+unfolding blocks
+loop-holds c = (omega arith, refl, c .before .before .before .if1 .left)
+
+block-type-requires : tie.Need-block-type-requires Inv-loop μ-loop
+block-type-requires c κs = search needs
+
+mul-out : tie.Need-mul-out Inv-loop μ-loop
+mul-out c = search needs
+
+slice-write-out : tie.Need-slice-write-out Inv-loop μ-loop
+slice-write-out c = search needs
+
+mul-copy : tie.Need-mul-copy Inv-loop μ-loop
+mul-copy c = search needs
+
+mul-copy-2 : tie.Need-mul-copy-2 Inv-loop μ-loop
+mul-copy-2 c = search needs
+
+add-copy : tie.Need-add-copy Inv-loop μ-loop
+add-copy c = search needs
+
+sub-copy : tie.Need-sub-copy Inv-loop μ-loop
+sub-copy c = search needs
+
+part-copy-start : tie.Need-part-copy-start Inv-loop μ-loop
+part-copy-start c = search needs
+
+part-copy-end : tie.Need-part-copy-end Inv-loop μ-loop
+part-copy-end c = search needs
+
+mul-copy-3 : tie.Need-mul-copy-3 Inv-loop μ-loop
+mul-copy-3 c = search needs
+
+add-copy-2 : tie.Need-add-copy-2 Inv-loop μ-loop
+add-copy-2 c = search needs
+
+mul-copy-4 : tie.Need-mul-copy-4 Inv-loop μ-loop
+mul-copy-4 c = search needs
+
+add-copy-3 : tie.Need-add-copy-3 Inv-loop μ-loop
+add-copy-3 c = search needs
+
+sub-copy-2 : tie.Need-sub-copy-2 Inv-loop μ-loop
+sub-copy-2 c = search needs
+
+part-copy-start-2 : tie.Need-part-copy-start-2 Inv-loop μ-loop
+part-copy-start-2 c = search needs
+
+part-copy-end-2 : tie.Need-part-copy-end-2 Inv-loop μ-loop
+part-copy-end-2 c = simp length-set (omega arith)
+
+copy-requires : tie.Need-copy-requires Inv-loop μ-loop
+copy-requires c κs = search needs
+
+add-i : tie.Need-add-i Inv-loop μ-loop
+add-i c = search needs
+
+loop-less : tie.Need-loop-less Inv-loop μ-loop
+loop-less c = search needs
+
+loop-again : tie.Need-loop-again Inv-loop μ-loop
+loop-again c =
+    let l = c .before .before .before .before .before .before .before in
+    let s = l .before .before .before .before .before .before .before in
+    let k = kindOf (s .args .kind) in
+    let m = s .args .message .now in
+    let size = l .before .before .before .before .if1 .left in
+    let long = l .before .before .before .if2 .left in
+    let n : l .loop .i + 1 ≤ 4 = omega arith in
+    let again =
+    write-turn k (s .args .used) m long (l .loop .i) (s .args .out .now) (l .loop .out) (c .before .before .before .before .before .before .loop-test .taken) size
+    (l .loop .inv .1) (c .before .before .before .before .before .block-type .result) (c .before .before .copy .last .1 .0)
+    (c .before .before .before .before .before .block-type .ensures) (c .before .before .copy .ensures .1) in
+    (n, again, length-written k (s .args .used) m long (l .loop .i + 1) (s .args .out .now) _ n size again)
+
+same-length : tie.Need-same-length Inv-loop μ-loop
+same-length c = c .before .loop .inv .2 ∙ sym (c .before .before .before .before .before .if1 .left)
+
+returns-5 : tie.Need-returns-5 Inv-loop μ-loop
+unfolding written
+returns-5 c =
+    let l = c .before in
+    let s = l .before .before .before .before .before .before .before in
+    let size = l .before .before .before .before .if1 .left in
+    let long = l .before .before .before .if2 .left in
+    let end : l .loop .i ≡ 4 = omega arith in
+    let all = (rw end at (l .loop .inv .1)) ∙ written-all (kindOf (s .args .kind)) (s .args .used) (s .args .message .now) long (s .args .out .now) size in
+    simp
+    (eq-eqb _ _ size, eq-eqb _ _ long, ne-eqb _ _ (l .before .before .if3 .left), le-ltb _ _ (l .before .if4 .left))
+    (λ i. record { number = 0; output = all i })
+
+pub write-blocks-spec : {M : Type 1} → statement M
+write-blocks-spec =
+    tie.close
+    (tie.spec
+    Inv-loop
+    μ-loop
+    returns
+    returns-2
+    returns-3
+    returns-4
+    loop-holds
+    block-type-requires
+    mul-out
+    slice-write-out
+    mul-copy
+    mul-copy-2
+    add-copy
+    sub-copy
+    part-copy-start
+    part-copy-end
+    mul-copy-3
+    add-copy-2
+    mul-copy-4
+    add-copy-3
+    sub-copy-2
+    part-copy-start-2
+    part-copy-end-2
+    copy-requires
+    add-i
+    loop-less
+    loop-again
+    same-length
+    returns-5)

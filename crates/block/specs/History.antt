@@ -1,0 +1,1 @@
+-- Pieces given one after the other from a started state: the statements of demand 2.

@@ -1,0 +1,4 @@
+pub mod Paper
+pub mod Place
+pub mod Coded
+pub mod History
