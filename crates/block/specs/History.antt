@@ -1,1 +1,81 @@
 -- Pieces given one after the other from a started state: the statements of demand 2.
+use mathlib.Core.Path.{_≡_}
+use mathlib.Core.Bool.{cond, true}
+use mathlib.Core.List.{List, [], _∷_, _++_}
+use mathlib.Core.Logic.{_⊎_, _↔_}
+use Prim.Native.Nat.{ℕ, zero, suc, _*_, _-_, _≤_, _<_}
+use lib.ListN.{length, take, drop, getD}
+use lib.Dec.{eqb, ltb}
+use Rattle.block.specs.Paper.{Kind, link, mark, code, codeOf, completes, kindNumber, lastUsed, blocks, Held, Given, filled, start, proper, refusal, handed, kept, step}
+
+-- 01 Intake: what pieces, given in order, leave of a state
+unfoldable pub after : Held → List (List ℕ) → Held
+after h [] = h
+after h (p ∷ ps) = after (step h p .next) ps
+
+-- 00 demand 2: the answer to a piece after others, from a started state
+abbrev pub answered : List (List ℕ) → List ℕ → Given
+answered ps p = step (after start ps) p
+
+-- 01 Blocks: p is block i of a message of kind k, counted from 0
+pub record IsBlock (k : Kind) (i : ℕ) (p : List ℕ) : Type 0 where
+  pub whole : length p ≡ 23
+  pub ours : link p ≡ 1
+  pub numbered : code p ≡ codeOf k i
+
+-- 00 demand 2: a first block and its consecutive followers, ending at the first last-block mark or at the fourth block
+pub record Run (k : Kind) (r : List (List ℕ)) : Type 0 where
+  pub some : 1 ≤ length r
+  pub most : length r ≤ 4
+  pub each : (i : ℕ) → i < length r → IsBlock k i (getD r i [])
+  pub unmarked : (i : ℕ) → suc i < length r → mark (getD r i []) ≡ 0
+  pub ended : (mark (getD r (length r - 1) []) ≡ 1) ⊎ (length r ≡ 4)
+
+-- 00 demand 2: the latest pieces, up to and with p, are r
+pub record Latest (ps : List (List ℕ)) (p : List ℕ) (r : List (List ℕ)) : Type 0 where
+  pub older : List (List ℕ)
+  pub split : ps ++ (p ∷ []) ≡ older ++ r
+
+-- 01 Intake: the octets of blocks without their type octets
+unfoldable pub contents : List (List ℕ) → List ℕ
+contents [] = []
+contents (p ∷ r) = drop 1 p ++ contents r
+
+-- 00 demand 2: a message of kind k is complete at a piece exactly when the latest pieces are a run of it
+abbrev pub CompleteExactly : Type 0
+CompleteExactly =
+    (k : Kind) (ps : List (List ℕ)) (p : List ℕ)
+    → (answered ps p .number ≡ completes k) ↔ ((r : List (List ℕ)) × Latest ps p r × Run k r)
+
+-- 00 demand 2: then the octets are those of the run, and 22 are received for each of its blocks
+abbrev pub CompleteGives : Type 0
+CompleteGives =
+    (k : Kind) (ps : List (List ℕ)) (p : List ℕ) (r : List (List ℕ)) → Latest ps p r → Run k r
+    → answered ps p ≡ record { number = completes k; received = 22 * length r; octets = filled (contents r); next = start }
+
+-- 00, the first version's fault: what came before a run has no say in what is handed out
+abbrev pub NeverFinishesLeftovers : Type 0
+NeverFinishesLeftovers =
+    (k : Kind) (ps qs : List (List ℕ)) (p : List ℕ) (r : List (List ℕ)) → Latest ps p r → Latest qs p r → Run k r
+    → answered ps p ≡ answered qs p
+
+-- 01 Blocks: block i of the four that were written, as it is cut from the 92 octets
+abbrev pub piece : Kind → ℕ → List ℕ → ℕ → List ℕ
+piece k used m i = take 23 (drop (23 * i) (blocks k used m 4))
+
+-- the first n of them
+unfoldable pub pieces : Kind → ℕ → List ℕ → ℕ → List (List ℕ)
+pieces k used m zero = []
+pieces k used m (suc n) = pieces k used m n ++ (piece k used m n ∷ [])
+
+-- 01 Blocks, Intake: the answer to block i of a written message: taken before the last used block, handed out at it, not next after it
+abbrev pub expected : Kind → ℕ → List ℕ → ℕ → Given
+expected k used m i =
+    let sofar : Held = record { kind = kindNumber k; taken = suc i; octets = filled (take (22 * suc i) m) } in
+    cond (ltb (suc i) (lastUsed used)) (kept sofar) (cond (eqb (suc i) (lastUsed used)) (handed sofar) (refusal 6))
+
+-- the four blocks of a written message, taken in order from any proper state, hand out exactly the used part, rounded up to blocks
+abbrev pub BlocksTaken : Type 0
+BlocksTaken =
+    (k : Kind) (used : ℕ) (m : List ℕ) (h : Held) → length m ≡ 88 → 1 ≤ used → used ≤ 88 → proper h ≡ true → (i : ℕ) → i < 4
+    → step (after h (pieces k used m i)) (piece k used m i) ≡ expected k used m i

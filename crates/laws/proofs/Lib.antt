@@ -1,3 +1,4 @@
 pub mod Parts
 pub mod Ruled
+pub mod Snoc
 pub mod Tests
