@@ -13,10 +13,10 @@ use borrow.Author.Tests.{eq-eqb, ne-eqb, eqb-true, eqb-false, leb-true, leb-fals
 use Rattle.laws.proofs.Ruled.{ruling, Ruling, refuses, passes, Among, NoneHolds}
 use Rattle.laws.proofs.Snoc.{length-snoc, snoc-injective, each-snoc}
 use Rattle.laws.proofs.Tests.{both, neither, either}
-use Rattle.block.specs.Paper.{Kind, page, schedule, kindNumber, completes, codeOf, link, mark, code, last, follows, reserved, faults, filled, Held, Given, start, proper, allBlank, refusal, handed, kept, made, step}
+use Rattle.block.specs.Paper.{Kind, page, schedule, kindNumber, completes, codeOf, link, mark, code, last, follows, reserved, faults, filled, Held, Given, start, proper, refusal, handed, kept, made, step}
 use Rattle.block.specs.Coded.{outcome}
 use Rattle.block.specs.History.{IsBlock, Run, Latest, contents, after, answered, CompleteExactly, CompleteGives, NeverFinishesLeftovers}
-use Rattle.block.proofs.Joins.{Part, nothing, more, Base, fresh, holds, join, holding, length-part, proper-holding}
+use Rattle.block.proofs.Joins.{Part, nothing, more, Base, fresh, holds, join, holding, length-part, proper-holding, proper-start}
 
 pub after-append : (h : Held) (ps qs : List (List ℕ)) → after h (ps ++ qs) ≡ after (after h ps) qs
 unfolding after
@@ -27,10 +27,6 @@ after-append h (p ∷ ps) qs = after-append (step h p .next) ps qs
 pub data Standing (h : Held) (ps : List (List ℕ)) : Type 0 where
   idle : h ≡ start → Standing h ps
   busy : (k : Kind) (older u : List (List ℕ)) → ps ≡ older ++ u → Part k u → 1 ≤ length u → h ≡ holding k u → Standing h ps
-
-proper-start : proper start ≡ true
-unfolding proper allBlank
-proper-start = refl
 
 standing-proper : {h : Held} {ps : List (List ℕ)} → Standing h ps → proper h ≡ true
 standing-proper (idle e) = rw e proper-start

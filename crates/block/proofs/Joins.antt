@@ -9,8 +9,8 @@ use lib.Seq.{take-at, drop-at}
 use lib.Dec.{eqb, leb, lit≤}
 use borrow.Author.Tests.{eq-eqb, ne-eqb, le-leb}
 use Rattle.laws.proofs.Snoc.{length-snoc}
-use Rattle.block.specs.Paper.{Kind, page, schedule, kindNumber, firstCode, codeOf, link, mark, code, last, filled, Held, Given, start, proper, added, step}
-use Rattle.block.specs.Place.{first, next, placeOf}
+use Rattle.block.specs.Paper.{Kind, page, schedule, kindNumber, firstCode, codeOf, link, mark, code, last, filled, Held, start, proper, allBlank, refusal, added, step}
+use Rattle.block.specs.Place.{none, first, next, placeOf}
 use Rattle.block.specs.Coded.{held, outcome}
 use Rattle.block.specs.History.{IsBlock, contents}
 use Rattle.block.proofs.Blank.{allBlank-replicate}
@@ -61,19 +61,27 @@ proper-holding {k} {u} part some =
     known page = refl
     known schedule = refl
 
+pub proper-start : proper start ≡ true
+unfolding proper allBlank
+proper-start = refl
+
 -- the place of a first block, and of a follower
 place-first : (k : Kind) (t : ℕ) (p : List ℕ) → IsBlock k 0 p → placeOf t p ≡ first k (last p 1)
 unfolding placeOf
 place-first page t p b = simp (eq-eqb _ _ (b .whole), eq-eqb _ _ (b .ours), b .numbered)
 place-first schedule t p b = simp (eq-eqb _ _ (b .whole), eq-eqb _ _ (b .ours), b .numbered)
 
-place-next : (k : Kind) (t : ℕ) (p : List ℕ) → 1 ≤ t → t ≤ 3 → IsBlock k t p → placeOf t p ≡ next (last p (suc t))
+place-follower : (k : Kind) (t i : ℕ) (p : List ℕ) → 1 ≤ i → i ≤ 3 → IsBlock k i p → placeOf t p ≡ cond (eqb i t) (next (last p (suc t))) (none 6)
 unfolding placeOf
-place-next k t p some few b =
-    let own : eqb t 0 ≡ false = ne-eqb t 0 (omega arith) in
-    let number : code p ≡ t = b .numbered ∙ rw own in
-    let real : eqb t 15 ≡ false = ne-eqb t 15 (omega arith) in
-    simp (eq-eqb _ _ (b .whole), eq-eqb _ _ (b .ours), number, le-leb _ _ few, le-leb _ _ some, real, eq-eqb t t refl)
+place-follower k t i p some few b =
+    let own : eqb i 0 ≡ false = ne-eqb i 0 (omega arith) in
+    let number : code p ≡ i = b .numbered ∙ rw own in
+    let real : eqb i 15 ≡ false = ne-eqb i 15 (omega arith) in
+    simp (eq-eqb _ _ (b .whole), eq-eqb _ _ (b .ours), number, le-leb _ _ few, le-leb _ _ some, real) (go (eqb i t))
+  where
+    go : (c : Bool) → cond (not c) (none 6) (next (last p (suc t))) ≡ cond c (next (last p (suc t))) (none 6)
+    go true = refl
+    go false = refl
 
 -- a first block begins a message whatever is held
 join-first : (k : Kind) (h : Held) (p : List ℕ) → proper h ≡ true → IsBlock k 0 p → step h p ≡ outcome (last p 1) (holding k (p ∷ []))
@@ -86,8 +94,13 @@ join-next : (k : Kind) (h : Held) (u : List (List ℕ)) (p : List ℕ) → Part 
 join-next k h u p part some e b =
     rw e
     (step-met (holding k u) p (proper-holding part some)
-    ∙ ap (met (holding k u) p) (place-next k (length u) p some (length-part part) b)
+    ∙ ap (met (holding k u) p) (rw (eq-eqb (length u) (length u) refl) at (place-follower k (length u) (length u) p some (length-part part) b))
     ∙ ap (outcome (last p (suc (length u)))) (added-holding p part))
+
+-- a follower is refused in a started state
+pub not-next : (k : Kind) (i : ℕ) (p : List ℕ) → 1 ≤ i → i ≤ 3 → IsBlock k i p → step start p ≡ refusal 6
+not-next k i p some few b =
+    step-met start p proper-start ∙ ap (met start p) (rw (ne-eqb i 0 (λ e. omega arith)) at (place-follower k 0 i p some few b))
 
 -- a proper state takes a first block; after it, a state that holds the blocks before
 pub data Base (k : Kind) (h : Held) : List (List ℕ) → Type 0 where

@@ -1,0 +1,8 @@
+-- Answers that meet a contract of `answer` are equal.
+use mathlib.Core.Path.{_≡_, sym, _∙_}
+use Prim.Native.Nat.{ℕ}
+use Rattle.answer.specs.declared.Refusal.{Refusal}
+use Rattle.answer.specs.Number.{numberOf}
+
+pub determined-number : (refusal : Refusal) (r s : ℕ) → r ≡ numberOf refusal → s ≡ numberOf refusal → r ≡ s
+determined-number refusal r s p q = p ∙ sym q
