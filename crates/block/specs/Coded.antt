@@ -15,7 +15,7 @@ use Rattle.block.specs.declared.Place.the-variants.{None, First, Next}
 use Rattle.block.specs.declared.Answer.{Answer}
 use Rattle.block.specs.declared.Answer.the-variants as answers
 use Rattle.block.specs.declared.Reply.{Reply}
-use Rattle.block.specs.Paper.{Kind, page, schedule, Left, Held, Given, handed, kept}
+use Rattle.block.specs.Paper.{Kind, page, schedule, Left, Held, Given, blank, handed, kept}
 use Rattle.block.specs.Place.{Place, none, first, next}
 
 -- the two kinds
@@ -50,6 +50,10 @@ answerOf (answers.Refused r) = numberOf r
 
 abbrev pub givenOf : Reply → Given
 givenOf r = record { number = answerOf (r .answer); received = r .received; octets = r .octets; next = heldOf (r .state) }
+
+-- an answer by a number alone, and the state afterwards
+abbrev pub leaving : ℕ → Held → Given
+leaving n h = record { number = n; received = 0; octets = blank; next = h }
 
 -- the answer to a piece that is added: handed out with the last block, kept before it
 abbrev pub outcome : Bool → Held → Given

@@ -3,10 +3,10 @@ ghost use mathlib.Core.Path.{_≡_};
 ghost use Prim.Native.Nat.{_<_, _≤_};
 ghost use lib.ListN.{drop};
 ghost use Rattle.answer.specs.Number.{numberOf};
-ghost use Rattle.block.specs.Paper.{kindNumber, codeOf, typeOf, written, allBlank, proper, added, refusal as refusalOf, step};
+ghost use Rattle.block.specs.Paper.{kindNumber, codeOf, typeOf, written, allBlank, proper, added, step};
 ghost use Rattle.block.specs.Paper.{start as startOf};
 ghost use Rattle.block.specs.Place.{placeOf};
-ghost use Rattle.block.specs.Coded.{kindOf, sentOf, held, heldOf, givenOf, placed, outcome, Adds};
+ghost use Rattle.block.specs.Coded.{kindOf, sentOf, held, heldOf, givenOf, placed, leaving, outcome, Adds};
 use answer::Refusal;
 
 // 000 3.3.1: the octets of a block's content, of a message, of a block and of four blocks.
@@ -206,12 +206,13 @@ pub fn intake(state: State, piece: &[u8]) -> Reply
     let kind = state.kind;
     let taken = state.taken;
     let octets = state.octets;
+    let started = start();
     if !is_proper(kind, taken, &octets) {
-        return refused(Refusal::StateImproper);
+        return refused(Refusal::StateImproper, started);
     }
     let place = place_of(taken, piece);
     match place {
-        Place::None(refusal) => refused(refusal),
+        Place::None(refusal) => refused(refusal, started),
         Place::First(first, last) => add(kind_number(first), 0, [FILLER; 88], piece, last),
         Place::Next(last) => add(kind, taken, octets, piece, last),
     }
@@ -227,14 +228,15 @@ pub fn kind_number(kind: Kind) -> u8
     }
 }
 
-fn refused(refusal: Refusal) -> Reply
-    ensures { λ r. ⌜ givenOf r ≡ refusalOf (numberOf refusal) ⌝ }
+// The answer to a refused piece, with the state afterwards.
+fn refused(refusal: Refusal, state: State) -> Reply
+    ensures { λ r. ⌜ givenOf r ≡ leaving (numberOf refusal) (heldOf state) ⌝ }
 {
     Reply {
         answer: Answer::Refused(refusal),
         received: 0,
         octets: [FILLER; 88],
-        state: start(),
+        state,
     }
 }
 
