@@ -1,0 +1,83 @@
+-- Laws of a state in lent memory: two octets in front, and the 88 behind them.
+use mathlib.Core.Path.{_≡_, refl, sym, ap, _∙_}
+use mathlib.Core.Bool.{Bool, true, false, cond}
+use mathlib.Core.List.{List, [], _∷_, _++_, append-nil}
+use Prim.Native.Nat.{ℕ, suc, _+_, _*_, _-_, _≤_}
+use native.Mathlib.Nat.{add-zero}
+use native.Mathlib.Numerals.{add-one}
+use native.Mathlib.Omega.{arith}
+use lib.ListN.{length, take, drop, set, length-drop, drop-of-length-le}
+use lib.Seq.{take-all, take-length}
+use lib.Dec.{eqb}
+use borrow.Author.Tests.{ne-eqb}
+use borrow.Rule.Slice.PartMut.{midOf, putMid}
+use Rattle.laws.proofs.Parts.{put-copy}
+use Rattle.block.specs.Paper.{filled, start, refusal, added}
+use Rattle.block.specs.Coded.{held, outcome, Adds}
+use Rattle.block.proofs.Filled.{filled-next}
+use Rattle.firmware.specs.Paper.{Left, lent, moved}
+
+-- the front octets written, the rest as it is
+pub set-front : (w : List ℕ) (a b : ℕ) → 2 ≤ length w → set (set w 0 a) 1 b ≡ a ∷ b ∷ drop 2 w
+set-front [] a b h = absurd (omega arith)
+set-front (x ∷ []) a b h = absurd (omega arith)
+set-front (x ∷ y ∷ w) a b h = refl
+
+-- the octets of a state with a part replaced
+drop-front : (s c : List ℕ) (n : ℕ) → 2 ≤ length s
+    → drop 2 (take (2 + n) s ++ (c ++ drop (2 + n + 22) s)) ≡ take n (drop 2 s) ++ (c ++ drop (n + 22) (drop 2 s))
+drop-front [] c n h = absurd (omega arith)
+drop-front (x ∷ []) c n h = absurd (omega arith)
+drop-front (x ∷ y ∷ s) c n h =
+    let past : 2 + n + 22 ≡ suc (suc (n + 22)) = omega arith in
+    let up-to : 2 + n ≡ suc (suc n) = omega arith in
+    rw (past, up-to)
+
+-- a content that is copied behind those of the blocks taken
+pub put-content : (s p y : List ℕ) (t : ℕ) → length s ≡ 90 → Adds t (drop 2 s) p
+    → y ≡ take (length (midOf 1 (length p - 1) p)) (midOf 1 (length p - 1) p)
+    ++ drop (length (midOf 1 (length p - 1) p)) (midOf (2 + 22 * t) (2 + 22 * t + 22 - (2 + 22 * t)) s)
+    → drop 2 (putMid (2 + 22 * t) (2 + 22 * t + 22 - (2 + 22 * t)) s y) ≡ filled (take (22 * t) (drop 2 s) ++ drop 1 p)
+put-content s p y t long adds q =
+    let whole = adds .whole in
+    let room = adds .room in
+    let size : length (drop 2 s) ≡ 88 = length-drop 2 s ∙ omega arith in
+    let content : midOf 1 (length p - 1) p ≡ drop 1 p = take-all (length p - 1) (drop 1 p) (simp length-drop (omega arith)) in
+    let fits : length (midOf 1 (length p - 1) p) ≡ 2 + 22 * t + 22 - (2 + 22 * t) = rw content (simp length-drop (omega arith)) in
+    ap (λ (l : List ℕ). drop 2 l)
+    (put-copy (2 + 22 * t) (2 + 22 * t + 22) s (midOf 1 (length p - 1) p) y (omega arith) (omega arith) fits q)
+    ∙ rw content (drop-front s (drop 1 p) (22 * t) (omega arith) ∙ filled-next t (drop 2 s) p room size whole (adds .rest))
+
+-- the octets behind the front ones, as they are lent
+pub behind : (s : List ℕ) → midOf 2 (length s - 2) s ≡ drop 2 s
+behind s = take-all (length s - 2) (drop 2 s) (simp length-drop (omega arith))
+
+-- a whole message that is copied to the output
+pub handed-over : (s o y : List ℕ) → length s ≡ 90 → length o ≡ 88
+    → y ≡ take (length (midOf 2 (length s - 2) s)) (midOf 2 (length s - 2) s) ++ drop (length (midOf 2 (length s - 2) s)) o → y ≡ drop 2 s
+handed-over s o y long size q =
+    let rest : drop (length (drop 2 s)) o ≡ [] = drop-of-length-le o {i = length (drop 2 s)} (simp length-drop (omega arith)) in
+    q ∙ rw (behind s, take-length (drop 2 s), rest) (append-nil (drop 2 s))
+
+module _ (last : Bool) (k t : ℕ) (s p o w : List ℕ) (content : w ≡ filled (take (22 * t) (drop 2 s) ++ drop 1 p)) where
+  -- what a block leaves that is only taken
+  pub taken-over : (v : List ℕ) → last ≡ false → v ≡ k ∷ ((t + 1) ∷ w)
+      → _≡_ {A = Left} (record { returned = 1; state = v; output = o }) (moved (outcome last (added (held k t (drop 2 s)) p)) o)
+  taken-over v e q =
+      let state = rw (add-one t, content) at q in
+      rw e (λ i. record { returned = 1; state = state i; output = o })
+
+  -- what the last block leaves
+  pub complete-over : (r : ℕ) (v : List ℕ) → last ≡ true → v ≡ lent start → r ≡ cond (eqb k 2) 7 0 + 256 * (22 * (t + 1))
+      → _≡_ {A = Left} (record { returned = r; state = v; output = w }) (moved (outcome last (added (held k t (drop 2 s)) p)) o)
+  complete-over r v e q n =
+      let some : eqb (22 * suc t) 0 ≡ false = ne-eqb (22 * suc t) 0 (omega arith) in
+      let returned = rw (add-one t) at n in
+      rw (e, some) (λ i. record { returned = returned i; state = q i; output = content i })
+
+-- what a refused piece leaves
+pub refused-over : (n r : ℕ) (v o : List ℕ) → r ≡ n → v ≡ lent start
+    → _≡_ {A = Left} (record { returned = r; state = v; output = o }) (moved (refusal n) o)
+refused-over n r v o e q =
+    let returned = e ∙ sym (add-zero n) in
+    λ i. record { returned = returned i; state = q i; output = o }

@@ -1,0 +1,23 @@
+-- `firmware::cb_start` meets its contract.
+use borrow.Author.Needs.{needs}
+use borrow.Author.Tests.{eq-eqb, ne-eqb}
+use Rattle.firmware.specs.Paper.{startCall}
+use Rattle.firmware.proofs.cb_start.Statement.{statement}
+use Rattle.firmware.proofs.cb_start.Tie as tie
+
+returns : tie.Need-returns
+unfolding startCall
+returns c = simp (ne-eqb _ _ (c .if1 .taken))
+
+clear-requires : tie.Need-clear-requires
+clear-requires c κs = search needs
+
+same-length : tie.Need-same-length
+same-length c = search needs
+
+returns-2 : tie.Need-returns-2
+unfolding startCall
+returns-2 c = simp (eq-eqb _ _ (c .before .before .before .before .if1 .left)) (λ i. record { number = 0; state = c .before .before .clear .ensures i })
+
+pub cb-start-spec : {M : Type 1} → statement M
+cb-start-spec = tie.close (tie.spec returns clear-requires same-length returns-2)

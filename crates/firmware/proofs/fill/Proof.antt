@@ -1,0 +1,55 @@
+-- `firmware::fill` meets its contract. The invariant: the octets so far are the given one, and the rest is as it was.
+use mathlib.Core.Path.{_≡_}
+use mathlib.Core.List.{_++_, append-nil}
+use Prim.Native.Nat.{_-_, _≤_, _<_}
+use native.Mathlib.Omega.{arith}
+use lib.ListN.{length, drop, replicate, length-set}
+use lib.Seq.{drop-length}
+use borrow.Author.Fill.{fill-none, fill-more}
+use borrow.Author.Needs.{needs}
+use Rattle.firmware.proofs.fill.Statement.{statement}
+use Rattle.firmware.proofs.fill.Tie as tie
+
+abbrev Inv-loop : tie.InvT-loop
+Inv-loop memory₀ octet i₀ memory i =
+    (i ≤ length memory₀) × (memory ≡ replicate i octet ++ drop i memory₀) × (length memory ≡ length memory₀)
+
+abbrev μ-loop : tie.MeasureT-loop
+μ-loop memory₀ octet i₀ memory i = length memory₀ - i
+
+loop-holds : tie.Need-loop-holds Inv-loop μ-loop
+loop-holds c = (omega arith, fill-none (c .args .memory .now) (c .args .octet), search needs)
+
+slice-write-memory : tie.Need-slice-write-memory Inv-loop μ-loop
+slice-write-memory c = search needs
+
+add-i : tie.Need-add-i Inv-loop μ-loop
+add-i c = search needs
+
+loop-less : tie.Need-loop-less Inv-loop μ-loop
+loop-less c = search needs
+
+loop-again : tie.Need-loop-again Inv-loop μ-loop
+loop-again c =
+    let l = c .before .loop in
+    let a = c .before .before .args in
+    let inside : l .i < length (a .memory .now) = omega arith in (
+      omega arith,
+      rw (l .inv .1) (fill-more (l .i) (a .octet) (a .memory .now) inside),
+      simp length-set (l .inv .2),
+    )
+
+same-length : tie.Need-same-length Inv-loop μ-loop
+same-length c = c .before .loop .inv .2
+
+returns : tie.Need-returns Inv-loop μ-loop
+returns c =
+    let l = c .before .loop in
+    let m = c .before .before .args .memory .now in
+    let end : l .i ≡ length m = omega arith in
+    rw (end, drop-length m, append-nil) at (l .inv .1)
+
+pub fill-spec : {M : Type 1} → statement M
+fill-spec =
+    tie.close
+    (tie.spec Inv-loop μ-loop loop-holds slice-write-memory add-i loop-less loop-again same-length returns)

@@ -1,0 +1,1 @@
+-- The history of calls: the statement of demand 2 for C.

@@ -1,0 +1,126 @@
+// The intake for C firmware, on memory that it lends: 90 octets of state, a piece, 88 octets of output.
+ghost use mathlib.Core.Path.{_≡_};
+ghost use mathlib.Core.List.{_++_};
+ghost use Prim.Native.Nat.{_*_};
+ghost use lib.ListN.{length, take, drop, replicate};
+ghost use Rattle.block.specs.Paper.{start, added, filled, step};
+ghost use Rattle.block.specs.Coded.{held, outcome, Adds};
+ghost use Rattle.firmware.specs.Paper.{lent, heldIn, moved, startCall, intakeCall};
+use answer::Refusal;
+use block::Place;
+
+const STATE: usize = 90;
+
+const MESSAGE: usize = 88;
+
+const CONTENT: usize = 22;
+
+const FILLER: u8 = 0x2B;
+
+// Makes a state as it must be before the first piece.
+#[no_mangle]
+pub extern "C" fn cb_start(state: &mut [u8]) -> u32
+    ensures { λ r. ⌜ record { number = r; state = now (state .exit) } ≡ startCall (now (state .entry)) ⌝ }
+{
+    if state.len() != STATE {
+        return 8;
+    }
+    clear(state);
+    0
+}
+
+// Takes in one piece; a message that it completes is written to output.
+#[no_mangle]
+pub extern "C" fn cb_intake(state: &mut [u8], piece: &[u8], output: &mut [u8]) -> u32
+    ensures { λ r. ⌜ record { returned = r; state = now (state .exit); output = now (output .exit) } ≡ intakeCall (now (state .entry)) (now (piece .entry)) (now (output .entry)) ⌝ }
+{
+    if output.len() != MESSAGE {
+        return 15;
+    }
+    if state.len() != STATE {
+        return 8;
+    }
+    take_in(state, piece, output)
+}
+
+// The same for memory of the right lengths.
+fn take_in(state: &mut [u8], piece: &[u8], output: &mut [u8]) -> u32
+    requires { ⌜ (length (now state) ≡ 90) × (length (now output) ≡ 88) ⌝ }
+    ensures { λ r. ⌜ record { returned = r; state = now (state .exit); output = now (output .exit) } ≡ moved (step (heldIn (now (state .entry))) (now (piece .entry))) (now (output .entry)) ⌝ }
+{
+    let kind = state[0];
+    let taken = state[1];
+    if !block::is_proper(kind, taken, &state[2..]) {
+        clear(state);
+        return 8;
+    }
+    let place = block::place_of(taken, piece);
+    match place {
+        Place::None(refusal) => {
+            clear(state);
+            answer::number(refusal) as u32
+        }
+        Place::First(first, last) => {
+            clear(state);
+            add(block::kind_number(first), 0, last, state, piece, output)
+        }
+        Place::Next(last) => add(kind, taken, last, state, piece, output),
+    }
+}
+
+// The state as after start.
+fn clear(state: &mut [u8])
+    requires { ⌜ length (now state) ≡ 90 ⌝ }
+    ensures { λ _. ⌜ now (state .exit) ≡ lent start ⌝ }
+{
+    fill(state, FILLER);
+    state[0] = 0;
+    state[1] = 0;
+}
+
+fn fill(memory: &mut [u8], octet: u8)
+    ensures { λ _. ⌜ now (memory .exit) ≡ replicate (length (now (memory .entry))) octet ⌝ }
+{
+    let mut i = 0;
+    while i < memory.len() {
+        memory[i] = octet;
+        i += 1;
+    }
+}
+
+// Adds a piece to the message in state; last: it completes the message.
+fn add(kind: u8, taken: u8, last: bool, state: &mut [u8], piece: &[u8], output: &mut [u8]) -> u32
+    requires { ⌜ (length (now state) ≡ 90) × (length (now output) ≡ 88) × Adds taken (drop 2 (now state)) (now piece) ⌝ }
+    ensures { λ r. ⌜ record { returned = r; state = now (state .exit); output = now (output .exit) } ≡ moved (outcome last (added (held kind taken (drop 2 (now (state .entry)))) (now (piece .entry)))) (now (output .entry)) ⌝ }
+{
+    put(state, taken, piece);
+    if !last {
+        state[0] = kind;
+        state[1] = taken + 1;
+        return 1;
+    }
+    hand_out(state, output);
+    let received = 22 * (taken as u32 + 1);
+    if kind == 2 {
+        return 7 + 256 * received;
+    }
+    256 * received
+}
+
+// Copies the content of a piece behind that of the blocks taken.
+fn put(state: &mut [u8], taken: u8, piece: &[u8])
+    requires { ⌜ (length (now state) ≡ 90) × Adds taken (drop 2 (now state)) (now piece) ⌝ }
+    ensures { λ _. ⌜ drop 2 (now (state .exit)) ≡ filled (take (22 * taken) (drop 2 (now (state .entry))) ++ drop 1 (now (piece .entry))) ⌝ }
+{
+    let at = 2 + CONTENT * taken as usize;
+    bytes::copy(&piece[1..], &mut state[at..at + CONTENT]);
+}
+
+// Copies the message to output, and leaves the state as after start.
+fn hand_out(state: &mut [u8], output: &mut [u8])
+    requires { ⌜ (length (now state) ≡ 90) × (length (now output) ≡ 88) ⌝ }
+    ensures { λ _. ⌜ (now (state .exit) ≡ lent start) × (now (output .exit) ≡ drop 2 (now (state .entry))) ⌝ }
+{
+    bytes::copy(&state[2..], output);
+    clear(state);
+}
