@@ -28,7 +28,7 @@ pub data Standing (h : Held) (ps : List (List ℕ)) : Type 0 where
   idle : h ≡ start → Standing h ps
   busy : (k : Kind) (older u : List (List ℕ)) → ps ≡ older ++ u → Part k u → 1 ≤ length u → h ≡ holding k u → Standing h ps
 
-standing-proper : {h : Held} {ps : List (List ℕ)} → Standing h ps → proper h ≡ true
+pub standing-proper : {h : Held} {ps : List (List ℕ)} → Standing h ps → proper h ≡ true
 standing-proper (idle e) = rw e proper-start
 standing-proper (busy k older u s part some e) = rw e (proper-holding part some)
 
@@ -39,7 +39,7 @@ data View (h : Held) (ps : List (List ℕ)) (p : List ℕ) : Type 0 where
       → step h p ≡ outcome (last p (suc (length u))) (holding k (u ++ (p ∷ []))) → View h ps p
 
 -- no refusal has the number of a message complete
-refusing : (h : Held) (p : List ℕ) (n : ℕ) → Among n ((not (proper h), 8) ∷ faults (h .taken) p) → (n ≡ 0 → ⊥) × (n ≡ 7 → ⊥)
+refusing : (h : Held) (p : List ℕ) (n : ℕ) → Among n ((not (proper h), 8) ∷ faults (h .taken) p) → (n ≡ 0 → ⊥) × (n ≡ 7 → ⊥) × (n ≤ 8)
 refusing h p n (inl e) = omega arith
 refusing h p n (inr (inl e)) = omega arith
 refusing h p n (inr (inr (inl e))) = omega arith
@@ -91,6 +91,22 @@ passing {h} {ps} p s f = go (follows (code p)) refl s
 rules : (h : Held) (p : List ℕ) → Ruling refusal ((not (proper h), 8) ∷ faults (h .taken) p) (outcome (last p (made h p .taken)) (made h p)) (step h p)
 unfolding step
 rules h p = ruling refusal ((not (proper h), 8) ∷ faults (h .taken) p) (outcome (last p (made h p .taken)) (made h p))
+
+-- every answer's number is small enough to share the returned number with the octets received
+pub number-small : (h : Held) (p : List ℕ) → step h p .number ≤ 8
+number-small h p = go (rules h p)
+  where
+    answers : (l : Bool) (a : Held) → outcome l a .number ≤ 8
+    answers false a = lit≤ tt
+    answers true a = by (eqb (a .kind) 2) refl
+      where
+        by : (b : Bool) → eqb (a .kind) 2 ≡ b → cond (eqb (a .kind) 2) 7 0 ≤ 8
+        by true e = rw e (lit≤ tt)
+        by false e = rw e (lit≤ tt)
+
+    go : Ruling refusal ((not (proper h), 8) ∷ faults (h .taken) p) (outcome (last p (made h p .taken)) (made h p)) (step h p) → step h p .number ≤ 8
+    go (refuses n a q) = rw q (refusing h p n a .2)
+    go (passes f q) = rw q (answers (last p (made h p .taken)) (made h p))
 
 view : {h : Held} {ps : List (List ℕ)} (p : List ℕ) → Standing h ps → View h ps p
 view {h} {ps} p s = go (rules h p)

@@ -12,9 +12,11 @@ use lib.Dec.{eqb}
 use borrow.Author.Tests.{ne-eqb}
 use borrow.Rule.Slice.PartMut.{midOf, putMid}
 use Rattle.laws.proofs.Parts.{put-copy}
-use Rattle.block.specs.Paper.{filled, start, refusal, added}
+use Rattle.block.specs.Paper.{Held, Given, filled, start, proper, refusal, added, step}
+use Rattle.block.specs.Place.{Place, placeOf}
 use Rattle.block.specs.Coded.{held, outcome, Adds}
 use Rattle.block.proofs.Filled.{filled-next}
+use Rattle.block.proofs.Steps.{met, step-by}
 use Rattle.firmware.specs.Paper.{Left, lent, moved}
 
 -- the front octets written, the rest as it is
@@ -81,3 +83,8 @@ pub refused-over : (n r : ℕ) (v o : List ℕ) → r ≡ n → v ≡ lent start
 refused-over n r v o e q =
     let returned = e ∙ sym (add-zero n) in
     λ i. record { returned = returned i; state = q i; output = o }
+
+-- what the place of a piece means is what the call leaves
+pub moved-step : (h : Held) (p o : List ℕ) (x : Place) (l : Left) → proper h ≡ true → placeOf (h .taken) p ≡ x
+    → l ≡ moved (met h p x) o → l ≡ moved (step h p) o
+moved-step h p o x l good e q = q ∙ ap (λ (g : Given). moved g o) (step-by h p x (met h p x) good e refl)

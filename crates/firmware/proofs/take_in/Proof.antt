@@ -8,9 +8,9 @@ use Rattle.block.specs.declared.Place.{Place}
 use Rattle.block.specs.Paper.{Given, proper}
 use Rattle.block.specs.Place.{placeOf}
 use Rattle.block.specs.Coded.{placed}
-use Rattle.block.proofs.Steps.{step-improper, step-by, adds-first, adds-next}
+use Rattle.block.proofs.Steps.{step-improper, adds-first, adds-next}
 use Rattle.firmware.specs.Paper.{heldIn, moved}
-use Rattle.firmware.proofs.Lent.{behind, refused-over}
+use Rattle.firmware.proofs.Lent.{behind, refused-over, moved-step}
 use Rattle.firmware.proofs.take_in.Statement.{statement}
 use Rattle.firmware.proofs.take_in.Tie as tie
 
@@ -104,9 +104,8 @@ returns-2 : tie.Need-returns-2
 returns-2 c =
     let b = c .before .before .before .before .before .before .before .before in
     let a = b .before .before .before .before .before .before .before .before .before .before .args in
-    refused-over _ _ _ (a .output .now) (c .number .ensures) (c .before .before .before .clear2 .ensures)
-    ∙ ap (λ (g : Given). moved g (a .output .now))
-    (step-by (heldIn (a .state .now)) (a .piece .now) _ _ (good b) (found b _ (c .before .before .before .before .before .before .place .given .1)) refl)
+    moved-step (heldIn (a .state .now)) (a .piece .now) (a .output .now) _ _ (good b) (found b _ (c .before .before .before .before .before .before .place .given .1))
+    (refused-over _ _ _ (a .output .now) (c .number .ensures) (c .before .before .before .clear2 .ensures))
 
 same-length-3 : tie.Need-same-length-3
 same-length-3 c = search needs
@@ -118,9 +117,8 @@ returns-3 : tie.Need-returns-3
 returns-3 c =
     let b = c .before .before .before .before .before .before .before .before .before .before .before .before .before .before .before in
     let a = b .before .before .before .before .before .before .before .before .before .before .args in
-    rw (c .before .before .before .before .before .before .before .kind-number .ensures) at (c .before .before .before .before .add .ensures)
-    ∙ ap (λ (g : Given). moved g (a .output .now))
-    (step-by (heldIn (a .state .now)) (a .piece .now) _ _ (good b) (found b _ (c .before .before .before .before .before .before .before .before .before .before .before .before .before .place2 .given .1)) refl)
+    moved-step (heldIn (a .state .now)) (a .piece .now) (a .output .now) _ _ (good b) (found b _ (c .before .before .before .before .before .before .before .before .before .before .before .before .before .place2 .given .1))
+    (rw (c .before .before .before .before .before .before .before .kind-number .ensures) at (c .before .before .before .before .add .ensures))
 
 same-length-5 : tie.Need-same-length-5
 same-length-5 c = search needs
@@ -132,9 +130,7 @@ returns-4 : tie.Need-returns-4
 returns-4 c =
     let b = c .before .before .before .before .before .before .before .before .before .before in
     let a = b .before .before .before .before .before .before .before .before .before .before .args in
-    c .before .before .before .before .add2 .ensures
-    ∙ ap (λ (g : Given). moved g (a .output .now))
-    (step-by (heldIn (a .state .now)) (a .piece .now) _ _ (good b) (found b _ (c .before .before .before .before .before .before .before .before .place3 .given .1)) refl)
+    moved-step (heldIn (a .state .now)) (a .piece .now) (a .output .now) _ _ (good b) (found b _ (c .before .before .before .before .before .before .before .before .place3 .given .1)) (c .before .before .before .before .add2 .ensures)
 
 pub take-in-spec : {M : Type 1} → statement M
 take-in-spec =
