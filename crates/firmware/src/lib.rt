@@ -3,6 +3,7 @@ ghost use mathlib.Core.Path.{_≡_};
 ghost use mathlib.Core.List.{_++_};
 ghost use Prim.Native.Nat.{_*_};
 ghost use lib.ListN.{length, take, drop, replicate};
+ghost use Rattle.answer.specs.Number.{numberOf};
 ghost use Rattle.block.specs.Paper.{start, added, filled, step};
 ghost use Rattle.block.specs.Coded.{held, outcome, Adds};
 ghost use Rattle.firmware.specs.Paper.{lent, heldIn, moved, startCall, intakeCall};
@@ -22,11 +23,11 @@ const FILLER: u8 = 0x2B;
 pub extern "C" fn cb_start(state: &mut [u8]) -> u32
     ensures { λ r. ⌜ record { number = r; state = now (state .exit) } ≡ startCall (now (state .entry)) ⌝ }
 {
-    if state.len() != STATE {
-        return 8;
+    if state.len() == STATE {
+        clear(state);
+        return 0;
     }
-    clear(state);
-    0
+    8
 }
 
 // Takes in one piece; a message that it completes is written to output.
@@ -51,21 +52,26 @@ fn take_in(state: &mut [u8], piece: &[u8], output: &mut [u8]) -> u32
     let kind = state[0];
     let taken = state[1];
     if !block::is_proper(kind, taken, &state[2..]) {
-        clear(state);
-        return 8;
+        return refuse(state, Refusal::StateImproper);
     }
     let place = block::place_of(taken, piece);
     match place {
-        Place::None(refusal) => {
-            clear(state);
-            answer::number(refusal) as u32
-        }
+        Place::None(refusal) => refuse(state, refusal),
         Place::First(first, last) => {
             clear(state);
             add(block::kind_number(first), 0, last, state, piece, output)
         }
         Place::Next(last) => add(kind, taken, last, state, piece, output),
     }
+}
+
+// A refused piece is lost, and so is what was held.
+fn refuse(state: &mut [u8], refusal: Refusal) -> u32
+    requires { ⌜ length (now state) ≡ 90 ⌝ }
+    ensures { λ r. ⌜ (r ≡ numberOf refusal) × (now (state .exit) ≡ lent start) ⌝ }
+{
+    clear(state);
+    answer::number(refusal) as u32
 }
 
 // The state as after start.

@@ -5,19 +5,21 @@ use Rattle.firmware.specs.Paper.{startCall}
 use Rattle.firmware.proofs.cb_start.Statement.{statement}
 use Rattle.firmware.proofs.cb_start.Tie as tie
 
-returns : tie.Need-returns
-unfolding startCall
-returns c = simp (ne-eqb _ _ (c .if1 .taken))
-
 clear-requires : tie.Need-clear-requires
 clear-requires c κs = search needs
 
 same-length : tie.Need-same-length
 same-length c = search needs
 
+returns : tie.Need-returns
+unfolding startCall
+returns c =
+    let b = c .before .before in
+    simp (eq-eqb _ _ (b .before .before .if1 .taken)) (λ i. record { number = 0; state = b .clear .ensures i })
+
 returns-2 : tie.Need-returns-2
 unfolding startCall
-returns-2 c = simp (eq-eqb _ _ (c .before .before .before .before .if1 .left)) (λ i. record { number = 0; state = c .before .before .clear .ensures i })
+returns-2 c = simp (ne-eqb _ _ (c .if1 .left))
 
 pub cb-start-spec : {M : Type 1} → statement M
-cb-start-spec = tie.close (tie.spec returns clear-requires same-length returns-2)
+cb-start-spec = tie.close (tie.spec clear-requires same-length returns returns-2)

@@ -32,8 +32,8 @@ part-is-proper-end c = search needs
 is-proper-requires : tie.Need-is-proper-requires
 is-proper-requires c κs = search needs
 
-clear-requires : tie.Need-clear-requires
-clear-requires c κs = search needs
+refuse-requires : tie.Need-refuse-requires
+refuse-requires c κs = search needs
 
 same-length : tie.Need-same-length
 same-length c = search needs
@@ -43,7 +43,7 @@ returns c =
     let b = c .before .before .before .before .before in
     let a = b .before .before .before .before .before .before .before .before .args in
     let bad = sym (rw (behind (a .state .now)) at (b .is-proper .ensures)) ∙ not-true _ (c .before .before .before .before .if1 .taken) in
-    refused-over 8 8 _ (a .output .now) refl (c .before .before .clear .ensures)
+    refused-over 8 _ _ (a .output .now) (c .before .before .refuse .ensures .0) (c .before .before .refuse .ensures .1)
     ∙ ap (λ (g : Given). moved g (a .output .now)) (sym (step-improper (heldIn (a .state .now)) (a .piece .now) bad))
 
 -- past the first test the state is proper
@@ -61,20 +61,14 @@ place-of-requires c κs = search needs
 enum-known-place : tie.Need-enum-known-place
 enum-known-place c = search needs
 
-clear-requires-2 : tie.Need-clear-requires-2
-clear-requires-2 c κs = search needs
-
-number-requires : tie.Need-number-requires
-number-requires c κs = search needs
-
-cast-result : tie.Need-cast-result
-cast-result c = search needs
+refuse-requires-2 : tie.Need-refuse-requires-2
+refuse-requires-2 c κs = search needs
 
 enum-known-place-2 : tie.Need-enum-known-place-2
 enum-known-place-2 c = search needs
 
-clear-requires-3 : tie.Need-clear-requires-3
-clear-requires-3 c κs = search needs
+clear-requires : tie.Need-clear-requires
+clear-requires c κs = search needs
 
 kind-number-requires : tie.Need-kind-number-requires
 kind-number-requires c κs = search needs
@@ -84,7 +78,7 @@ add-requires c κs =
     let b = c .before .before .before .before .before .before .before .before .before .before in
     let a = b .before .before .before .before .before .before .before .before .before .before .args in
     let s = b .before .before .before .before .before .before .before .before .before .before in
-    rw (c .before .before .before .before .before .clear3 .ensures)
+    rw (c .before .before .before .before .before .clear .ensures)
     (refl, s .pre .1, adds-first (getD (a .state .now) 1 0) (a .piece .now) _ (found b _ (c .before .before .before .before .before .before .before .before .place2 .given .1)) refl)
 
 enum-known-place-3 : tie.Need-enum-known-place-3
@@ -102,10 +96,10 @@ same-length-2 c = search needs
 
 returns-2 : tie.Need-returns-2
 returns-2 c =
-    let b = c .before .before .before .before .before .before .before .before in
+    let b = c .before .before .before .before .before .before .before in
     let a = b .before .before .before .before .before .before .before .before .before .before .args in
-    moved-step (heldIn (a .state .now)) (a .piece .now) (a .output .now) _ _ (good b) (found b _ (c .before .before .before .before .before .before .place .given .1))
-    (refused-over _ _ _ (a .output .now) (c .number .ensures) (c .before .before .before .clear2 .ensures))
+    moved-step (heldIn (a .state .now)) (a .piece .now) (a .output .now) _ _ (good b) (found b _ (c .before .before .before .before .before .place .given .1))
+    (refused-over _ _ _ (a .output .now) (c .before .before .refuse2 .ensures .0) (c .before .before .refuse2 .ensures .1))
 
 same-length-3 : tie.Need-same-length-3
 same-length-3 c = search needs
@@ -142,16 +136,14 @@ take-in-spec =
     part-is-proper-start
     part-is-proper-end
     is-proper-requires
-    clear-requires
+    refuse-requires
     same-length
     returns
     place-of-requires
     enum-known-place
-    clear-requires-2
-    number-requires
-    cast-result
+    refuse-requires-2
     enum-known-place-2
-    clear-requires-3
+    clear-requires
     kind-number-requires
     add-requires
     enum-known-place-3
