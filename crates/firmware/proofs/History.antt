@@ -20,7 +20,7 @@ length-lent : (ps : List (List ℕ)) → length (lent (after start ps)) ≡ 90
 length-lent ps = omega (arith, proper-facts (after start ps) (standing-proper (standing ps)) .long)
 
 -- a call with the right lengths does what the intake does
-right : (s p o : List ℕ) → length s ≡ 90 → length o ≡ 88 → intakeCall s p o ≡ moved (step (heldIn s) p) o
+pub right : (s p o : List ℕ) → length s ≡ 90 → length o ≡ 88 → intakeCall s p o ≡ moved (step (heldIn s) p) o
 unfolding intakeCall
 right s p o long size = simp (eq-eqb _ _ size, eq-eqb _ _ long)
 
@@ -60,7 +60,7 @@ called-answered m cs p o long size =
     rw (started m long, lent-after [] cs) (right (lent (after start (counted cs))) p o (length-lent (counted cs)) size)
 
 -- the answer can be read off the returned number
-answer-of : (n r : ℕ) → n ≤ 8 → (n + 256 * r) % 256 ≡ n
+pub answer-of : (n r : ℕ) → n ≤ 8 → (n + 256 * r) % 256 ≡ n
 answer-of n r h = omega arith
 
 -- some blocks are some octets
