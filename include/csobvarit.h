@@ -1,0 +1,72 @@
+/* The calls of Csobvarit for C: cell broadcast blocks taken in one at a time, on memory that the caller lends. */
+#ifndef CSOBVARIT_H
+#define CSOBVARIT_H
+
+#include <stddef.h>
+#include <stdint.h>
+
+#ifdef __cplusplus
+extern "C" {
+#endif
+
+/* Sizes, in octets. */
+#define CB_STATE  90 /* kind (0 none, 1 page, 2 schedule), blocks taken (0 to 3), the 88 octets of a message */
+#define CB_PIECE  23 /* GSM 04.12, 3.1: a block, which is its type and 22 octets */
+#define CB_OUTPUT 88 /* GSM 04.12, 3.1: a message */
+
+/* Answers. */
+#define CB_DONE            0 /* cb_start: the state is ready */
+#define CB_PAGE            0 /* a page is complete */
+#define CB_TAKEN           1 /* the block is taken, and its message goes on */
+#define CB_PIECE_LENGTH    2 /* refused: the piece isn't 23 octets long; GSM 04.12, 3.1 */
+#define CB_DISCRIMINATOR   3 /* refused: the link discriminator isn't 01; GSM 04.12, 3.3.1 */
+#define CB_RESERVED_CODE   4 /* refused: sequence code 4 to 7 or 9 to 14; GSM 04.12, Table 1 */
+#define CB_NULL_CODE       5 /* refused: sequence code 15, a null block, whatever its content; GSM 04.12, 3.4 */
+#define CB_NOT_NEXT        6 /* refused: a second to fourth block that isn't the next one of the message held */
+#define CB_SCHEDULE        7 /* a schedule message is complete; GSM 04.12, 3.5 */
+#define CB_STATE_IMPROPER  8 /* refused: the state isn't 90 octets long, or neither call can have left it so */
+#define CB_OUTPUT_LENGTH  15 /* refused: the output isn't 88 octets long */
+
+/* What cb_intake returns is answer + 256 * octets received. */
+#define CB_ANSWER(returned)   ((uint32_t)(returned) & 0xFFu)
+#define CB_RECEIVED(returned) ((uint32_t)(returned) >> 8) /* 22, 44, 66 or 88 if a message is complete, otherwise 0 */
+
+/*
+ * Makes a state ready for its first piece. Call it once before the first cb_intake, at every power-up:
+ * what memory happens to hold can look like a message half taken, and cb_intake can't tell.
+ *
+ *   CB_DONE             state: no message, 88 octets of 2B
+ *   CB_STATE_IMPROPER   state_len isn't 90; state: untouched
+ */
+uint32_t cb_start(uint8_t *state, size_t state_len);
+
+/*
+ * Takes in one piece, of any length. A refused piece drops the message held, save where the state is
+ * untouched; no later block can finish it.
+ *
+ *   answer                     state                          output
+ *   CB_PAGE, CB_SCHEDULE       as after cb_start              the message: octets received, then 2B up to 88
+ *   CB_TAKEN                   holds the block                untouched
+ *   CB_PIECE_LENGTH (2) to
+ *     CB_NOT_NEXT (6)          as after cb_start              untouched
+ *   CB_STATE_IMPROPER
+ *     if state_len is 90       as after cb_start              untouched (the piece is lost)
+ *     if it isn't              untouched                      untouched
+ *   CB_OUTPUT_LENGTH           untouched                      untouched
+ *
+ * Where several refusals apply, the answer is the first of 15, 8, 2, 3, and then 4, 5 or 6 by the code.
+ * A first block begins a message anew, whatever is held; a message is complete at the last-block mark or at
+ * its fourth block (GSM 04.12, 3.3.1).
+ *
+ * The state and the output may not overlap, nor may the piece with either, and no pointer may be null, even
+ * at length 0. Give each call the state as the call before left it. Nothing is kept elsewhere, so two channels
+ * take two states.
+ */
+uint32_t cb_intake(uint8_t *state, size_t state_len, const uint8_t *piece, size_t piece_len,
+                   uint8_t *output, size_t output_len);
+
+#ifdef __cplusplus
+}
+#endif
+
+#endif
