@@ -113,13 +113,16 @@ fn add(kind: u8, taken: u8, last: bool, state: &mut [u8], piece: &[u8], output: 
     256 * received
 }
 
-// Copies the content of a piece behind that of the blocks taken.
+// Copies the content of a piece behind that of the blocks taken. It goes by way of a local array, which the state
+// cannot overlap, so that it is moved in a few steps and not octet by octet.
 fn put(state: &mut [u8], taken: u8, piece: &[u8])
     requires { ⌜ (length (now state) ≡ 90) × Adds taken (drop 2 (now state)) (now piece) ⌝ }
     ensures { λ _. ⌜ drop 2 (now (state .exit)) ≡ filled (take (22 * taken) (drop 2 (now (state .entry))) ++ drop 1 (now (piece .entry))) ⌝ }
 {
+    let mut content = [0u8; 22];
+    bytes::copy(&piece[1..], &mut content);
     let at = 2 + CONTENT * taken as usize;
-    bytes::copy(&piece[1..], &mut state[at..at + CONTENT]);
+    bytes::copy(&content, &mut state[at..at + CONTENT]);
 }
 
 // Copies the message to output, and leaves the state as after start.

@@ -8,13 +8,16 @@ use lib.ListN.{length, take, drop, replicate, drop-of-length-le}
 use lib.Seq.{take-length}
 use borrow.Rule.Slice.PartMut.{midOf, putMid, post-is, mid-len}
 
+-- a source that is copied over memory of its length is what stands there
+pub copy-whole : (d s y : List ℕ) → length d ≤ length s → y ≡ take (length s) s ++ drop (length s) d → y ≡ s
+copy-whole d s y h q = q ∙ rw (take-length s, drop-of-length-le d h) (append-nil s)
+
 -- a source that is copied over a whole part stands there when the part is back
 pub put-copy : (a e : ℕ) (d s y : List ℕ) → a ≤ e → e ≤ length d → length s ≡ e - a
     → y ≡ take (length s) s ++ drop (length s) (midOf a (e - a) d) → putMid a (e - a) d y ≡ take a d ++ (s ++ drop e d)
 put-copy a e d s y h g n q =
     let long : length (midOf a (e - a) d) ≤ length s = omega (arith, mid-len a e d g) in
-    let whole : y ≡ s = q ∙ rw (take-length s, drop-of-length-le (midOf a (e - a) d) long) (append-nil s) in
-    rw (whole, post-is a e d h)
+    rw (copy-whole (midOf a (e - a) d) s y long q, post-is a e d h)
 
 -- a repeat without its first elements is a shorter one
 pub drop-replicate : (m n a : ℕ) → drop m (replicate n a) ≡ replicate (n - m) a
