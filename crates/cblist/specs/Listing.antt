@@ -1,10 +1,12 @@
 -- The listing of a log as document 01 has it.
+use mathlib.Core.Path.{_≡_}
 use mathlib.Core.Bool.{cond}
 use mathlib.Core.List.{List, [], _∷_, _++_}
 use Prim.Native.Nat.{ℕ, zero, suc, _+_, _*_, _/_, _%_}
 use lib.ListN.{length, take, drop}
 use lib.Dec.{ltb}
-use Rattle.block.specs.Paper.{Held, Given, step}
+use Rattle.block.specs.Paper.{Held, step}
+use Rattle.block.specs.History.{after}
 
 -- the decimal digits of a number that has at most k + 1 of them, in ASCII
 unfoldable pub spelled : ℕ → ℕ → List ℕ
@@ -32,3 +34,9 @@ pieces (suc k) at log = take 23 (drop at log) ∷ pieces k (at + 23) log
 -- 01 cblist: a log, 23 octets at a time, and a shorter tail
 abbrev pub cut : List ℕ → List (List ℕ)
 cut log = pieces ((length log + 22) / 23) 0 log
+
+-- a log listed in chunks of whole pieces is listed as one
+abbrev pub InChunks : Type 0
+InChunks =
+    (h : Held) (n k : ℕ) (chunk rest : List ℕ) → length chunk ≡ 23 * k
+    → lines h n (cut (chunk ++ rest)) ≡ lines h n (cut chunk) ++ lines (after h (cut chunk)) (n + k) (cut rest)
