@@ -1,2 +1,3 @@
+-- What `answer` proves.
 pub mod Determined
 pub mod Inverse

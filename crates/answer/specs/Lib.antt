@@ -1,1 +1,2 @@
+-- What `answer` defines.
 pub mod Number

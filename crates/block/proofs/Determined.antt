@@ -5,7 +5,6 @@ use mathlib.Core.List.{List}
 use mathlib.Core.Logic.{inl, inr}
 use Prim.Native.Nat.{ℕ}
 use lib.Dec.{eqb, lit≤}
-use Rattle.answer.specs.Number.{numberOf}
 use Rattle.answer.proofs.Inverse.{refusalOf, refusalOf-numberOf, not-done}
 use Rattle.block.specs.declared.Kind.{Kind as KindCode}
 use Rattle.block.specs.declared.Kind.the-variants.{Page, Schedule}
@@ -17,7 +16,7 @@ use Rattle.block.specs.declared.Place.the-variants.{None, First, Next}
 use Rattle.block.specs.declared.Answer.{Answer}
 use Rattle.block.specs.declared.Answer.the-variants as answers
 use Rattle.block.specs.declared.Reply.{Reply}
-use Rattle.block.specs.Paper.{Kind, page, schedule, kindNumber, Left, Held, Given, written, proper, start, step}
+use Rattle.block.specs.Paper.{Kind, page, schedule, kindNumber, Left, Given, written, proper, start, step}
 use Rattle.block.specs.Place.{Place, none, first, next, placeOf}
 use Rattle.block.specs.Coded.{kindOf, sentOf, held, heldOf, placed, answerOf, givenOf}
 

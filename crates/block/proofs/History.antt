@@ -1,19 +1,19 @@
 -- Demand 2: a message is handed out exactly when the latest pieces are a run of its blocks, and its octets are theirs.
 use mathlib.Core.Path.{_≡_, refl, sym, ap, _∙_, subst}
-use mathlib.Core.Bool.{Bool, true, false, cond, not, _&&_, _||_, false≢true, or-true}
+use mathlib.Core.Bool.{Bool, true, false, cond, not, false≢true, or-true}
 use mathlib.Core.List.{List, [], _∷_, _++_, append-assoc, append-nil}
 use mathlib.Core.Logic.{_⊎_, inl, inr, ⊎-elim}
-use Prim.Native.Nat.{ℕ, zero, suc, _+_, _*_, _-_, _%_, _≤_, _<_}
+use Prim.Native.Nat.{ℕ, zero, suc, _*_, _-_, _≤_, _<_}
 use native.Mathlib.Nat.{not-suc-le-zero}
 use native.Mathlib.Omega.{arith}
-use lib.ListN.{length, take, drop, getD, length-append, length-take, List·getD-append}
+use lib.ListN.{length, take, getD, List·getD-append}
 use lib.Seq.{getD-append-seam, take-suc, take-all, length-take-le}
 use lib.Dec.{eqb, leb, lit≤}
-use borrow.Author.Tests.{eq-eqb, ne-eqb, eqb-true, eqb-false, leb-true, leb-false, le-leb, not-false}
+use borrow.Author.Tests.{eq-eqb, ne-eqb, eqb-true, eqb-false, leb-true, le-leb, not-false}
 use Rattle.laws.proofs.Ruled.{ruling, Ruling, refuses, passes, Among, NoneHolds}
 use Rattle.laws.proofs.Snoc.{length-snoc, snoc-injective, each-snoc}
 use Rattle.laws.proofs.Tests.{both, neither, either}
-use Rattle.block.specs.Paper.{Kind, page, schedule, kindNumber, completes, codeOf, link, mark, code, last, follows, reserved, faults, filled, Held, Given, start, proper, refusal, handed, kept, made, step}
+use Rattle.block.specs.Paper.{Kind, page, schedule, kindNumber, completes, codeOf, link, mark, code, last, follows, reserved, faults, filled, Held, Given, start, proper, refusal, made, step}
 use Rattle.block.specs.Coded.{outcome}
 use Rattle.block.specs.History.{IsBlock, Run, Latest, contents, after, answered, CompleteExactly, CompleteGives, NeverFinishesLeftovers}
 use Rattle.block.proofs.Joins.{Part, nothing, more, Base, fresh, holds, join, holding, length-part, proper-holding, proper-start}

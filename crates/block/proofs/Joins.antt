@@ -2,14 +2,14 @@
 use mathlib.Core.Path.{_≡_, refl, sym, ap, _∙_}
 use mathlib.Core.Bool.{Bool, true, false, cond, not, _&&_}
 use mathlib.Core.List.{List, [], _∷_, _++_, append-assoc, append-nil}
-use Prim.Native.Nat.{ℕ, zero, suc, _+_, _*_, _-_, _≤_, _<_}
+use Prim.Native.Nat.{ℕ, suc, _*_, _-_, _≤_}
 use native.Mathlib.Omega.{arith}
 use lib.ListN.{length, take, drop, replicate, length-append, length-drop, length-replicate}
 use lib.Seq.{take-at, drop-at}
 use lib.Dec.{eqb, leb, lit≤}
 use borrow.Author.Tests.{eq-eqb, ne-eqb, le-leb}
 use Rattle.laws.proofs.Snoc.{length-snoc}
-use Rattle.block.specs.Paper.{Kind, page, schedule, kindNumber, firstCode, codeOf, link, mark, code, last, filled, Held, start, proper, allBlank, refusal, added, step}
+use Rattle.block.specs.Paper.{Kind, page, schedule, kindNumber, mark, code, last, filled, Held, start, proper, allBlank, refusal, added, step}
 use Rattle.block.specs.Place.{none, first, next, placeOf}
 use Rattle.block.specs.Coded.{held, outcome}
 use Rattle.block.specs.History.{IsBlock, contents}

@@ -1,3 +1,4 @@
+-- What `block` proves.
 pub mod Answers
 pub mod Blank
 pub mod Determined

@@ -1,6 +1,6 @@
 -- The cases of `step`: what it is for an improper state, and for a proper one by the place of the piece.
 use mathlib.Core.Path.{_≡_, refl, sym, ap, _∙_}
-use mathlib.Core.Bool.{Bool, true, false, cond, not, false≢true, _&&_}
+use mathlib.Core.Bool.{Bool, true, false, cond, false≢true, _&&_}
 use mathlib.Core.List.{List, []}
 use Prim.Native.Nat.{ℕ, suc, _*_, _-_, _≤_}
 use native.Mathlib.Omega.{arith}
@@ -10,7 +10,7 @@ use borrow.Author.Tests.{eqb-true, leb-true, not-false}
 use Rattle.laws.specs.Ruled.{ruled}
 use Rattle.laws.proofs.Ruled.{ruled-map, ruling, Ruling, refuses, passes}
 use Rattle.laws.proofs.Tests.{both}
-use Rattle.block.specs.Paper.{Kind, page, schedule, kindNumber, Held, Given, proper, allBlank, refusal, code, follows, faults, last, begun, made, added, handed, kept, step, blank}
+use Rattle.block.specs.Paper.{page, schedule, kindNumber, Held, Given, proper, refusal, code, follows, faults, last, made, added, step, blank}
 use Rattle.block.specs.Place.{Place, none, first, next, placeOf}
 use Rattle.block.specs.Coded.{held, outcome, Adds}
 use Rattle.block.proofs.Blank.{allBlank-is}

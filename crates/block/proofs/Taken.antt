@@ -1,22 +1,20 @@
 -- The blocks that the writer writes, taken in: what each of the four is answered.
 use mathlib.Core.Path.{_≡_, refl, sym, ap, _∙_}
-use mathlib.Core.Bool.{Bool, true, false, cond, or-true}
+use mathlib.Core.Bool.{Bool, true, false}
 use mathlib.Core.List.{List, [], _∷_, _++_}
-use Prim.Native.Nat.{ℕ, zero, suc, _+_, _*_, _-_, _/_, _%_, _≤_, _<_}
+use Prim.Native.Nat.{ℕ, zero, suc, _+_, _*_, _/_, _%_, _≤_, _<_}
 use native.Mathlib.Nat.{le-of-lt}
 use native.Mathlib.Omega.{arith}
-use lib.ListN.{length, take, drop, length-drop, length-append}
+use lib.ListN.{length, take, drop, length-drop}
 use lib.Seq.{drop-at, take-all, take-append-le, drop-append-le, take-add}
 use lib.Dec.{eqb, leb, ltb, lit≤}
-use borrow.Author.Tests.{eq-eqb, ne-eqb, le-leb, lt-leb, lt-ltb, le-ltb, eqb-true, eqb-false, ltb-true, ltb-false}
+use borrow.Author.Tests.{ne-eqb, le-leb, lt-leb, eqb-true, eqb-false, ltb-true, ltb-false}
 use Rattle.laws.proofs.Snoc.{length-snoc}
-use Rattle.block.specs.Paper.{Kind, kindNumber, mark, code, codeOf, markOf, typeOf, lastUsed, block, blocks, filled, Held, Given, start, proper, refusal, kept, handed, last, step}
-use Rattle.block.specs.Place.{none, placeOf}
+use Rattle.block.specs.Paper.{Kind, kindNumber, mark, codeOf, markOf, lastUsed, block, blocks, filled, Held, Given, start, proper, handed, last, step}
 use Rattle.block.specs.Coded.{outcome}
 use Rattle.block.specs.History.{IsBlock, contents, after, piece, pieces, expected, BlocksTaken}
 use Rattle.block.proofs.Write.{codeOf-small, length-block, length-blocks}
-use Rattle.block.proofs.Steps.{step-met, met}
-use Rattle.block.proofs.Joins.{Part, nothing, more, join, not-next, holding, contents-snoc}
+use Rattle.block.proofs.Joins.{Part, nothing, more, join, not-next, contents-snoc}
 use Rattle.block.proofs.History.{after-append, held-part}
 
 markOf-small : (used i : ℕ) → markOf used i ≤ 1

@@ -7,9 +7,8 @@ use native.Mathlib.Nat.{le-of-lt}
 use native.Mathlib.Numerals.{add-one}
 use native.Mathlib.Omega.{arith}
 use lib.ListN.{length, take, drop, set, length-append, length-take, length-drop, length-set, drop-of-length-le}
-use lib.Seq.{take-at, drop-at, drop-drop, drop-append-add, take-suc-set, drop-set-lt, append-snoc}
+use lib.Seq.{take-at, drop-at, drop-drop, take-suc-set, drop-set-lt}
 use lib.Dec.{eqb, lit≤}
-use borrow.Author.Tests.{eqb-true}
 use borrow.Rule.Slice.PartMut.{midOf, putMid}
 use Rattle.laws.proofs.Parts.{put-copy}
 use Rattle.block.specs.Paper.{Kind, page, schedule, firstCode, codeOf, typeOf, block, blocks}

@@ -1,3 +1,4 @@
+-- What `block` defines.
 pub mod Paper
 pub mod Place
 pub mod Coded

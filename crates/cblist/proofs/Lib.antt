@@ -1,3 +1,4 @@
+-- What `cblist` proves.
 pub mod Chunks
 pub mod Listed
 pub mod Text

@@ -7,13 +7,13 @@ use native.Mathlib.Nat.{pow-suc, one-le-pow, pow-le-pow-right, mod-lt, mod-eq-of
 use native.Mathlib.Numerals.{add-one}
 use native.Mathlib.Omega.{arith}
 use lib.ListN.{length, take, drop, set, length-take, length-append}
-use lib.Seq.{take-at, take-suc-set, length-take-le}
-use lib.Dec.{ltb, leb, lit<}
+use lib.Seq.{take-at, take-suc-set}
+use lib.Dec.{leb, lit<}
 use borrow.Author.Tests.{lt-ltb, le-ltb, leb-true, leb-false}
 use borrow.Rule.Slice.PartMut.{midOf, putMid}
 use Rattle.io.specs.Digits.{glyph, digits, Fewest}
 use Rattle.laws.proofs.Parts.{put-copy}
-use Rattle.cblist.specs.Listing.{spelled, decimal}
+use Rattle.cblist.specs.Listing.{spelled}
 
 glyph-digit : (n : ℕ) → glyph (n % 10) ≡ 48 + n % 10
 glyph-digit n = rw (lt-ltb (n % 10) 10 (mod-lt n (lit< tt)))

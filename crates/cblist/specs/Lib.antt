@@ -1,1 +1,2 @@
+-- What `cblist` defines.
 pub mod Listing

@@ -2,18 +2,17 @@
 use mathlib.Core.Path.{_≡_, refl, sym, ap, _∙_}
 use mathlib.Core.Bool.{Bool, true, false}
 use mathlib.Core.List.{List, [], _∷_, _++_, append-assoc, append-nil}
-use mathlib.Core.Logic.{_↔_}
 use Prim.Native.Nat.{ℕ, _+_, _*_, _%_, _≤_}
 use native.Mathlib.Omega.{arith}
 use lib.ListN.{length}
 use lib.Dec.{eqb}
 use borrow.Author.Tests.{eq-eqb, ne-eqb, eqb-true}
-use Rattle.block.specs.Paper.{Kind, completes, Held, Given, start, step, filled}
-use Rattle.block.specs.History.{Latest, Run, contents, after, answered}
+use Rattle.block.specs.Paper.{Given, start, step}
+use Rattle.block.specs.History.{after, answered}
 use Rattle.block.proofs.History.{standing, standing-proper, after-append, number-small, complete-exactly, complete-gives}
 use Rattle.block.proofs.Steps.{proper-facts}
 use Rattle.firmware.specs.Paper.{Left, lent, heldIn, moved, startCall, intakeCall}
-use Rattle.firmware.specs.History.{Call, on, off, afterCall, afterCalls, counted, called, LentHistory}
+use Rattle.firmware.specs.History.{Call, on, off, afterCalls, counted, called, LentHistory}
 
 -- memory that holds what pieces leave is 90 octets long
 length-lent : (ps : List (List ℕ)) → length (lent (after start ps)) ≡ 90

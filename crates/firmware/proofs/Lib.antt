@@ -1,3 +1,4 @@
+-- What `firmware` proves.
 pub mod Determined
 pub mod History
 pub mod Lent

@@ -1,2 +1,3 @@
+-- What `firmware` defines.
 pub mod Paper
 pub mod History

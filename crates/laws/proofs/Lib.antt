@@ -1,3 +1,4 @@
+-- What `laws` proves.
 pub mod Parts
 pub mod Ruled
 pub mod Snoc

@@ -1,1 +1,2 @@
+-- What `laws` defines.
 pub mod Ruled

@@ -4,7 +4,6 @@ use mathlib.Core.Bool.{_&&_}
 use mathlib.Core.Logic.{⊎-elim}
 use Prim.Native.Nat.{_-_}
 use lib.ListN.{length, drop}
-use native.Mathlib.Omega.{arith}
 use borrow.Author.Needs.{needs}
 use Rattle.block.specs.Paper.{allBlank}
 use Rattle.block.proofs.Blank.{allBlank-end, allBlank-same, allBlank-other}

@@ -1,10 +1,7 @@
 -- `cblist::list` meets its contract. The invariant: the text so far and the lines to come are the listing.
-use mathlib.Core.Path.{_≡_, refl, sym, _∙_}
-use Prim.Native.Nat.{_+_, _-_, _≤_, _<_}
-use native.Mathlib.Omega.{arith}
+use Prim.Native.Nat.{_-_}
 use lib.ListN.{length}
 use borrow.Author.Needs.{needs}
-use Rattle.cblist.specs.Listing.{lines, pieces}
 use Rattle.cblist.proofs.Listed.{Listed, listed-start, listed-turn, listed-end}
 use Rattle.cblist.proofs.list.Statement.{statement}
 use Rattle.cblist.proofs.list.Tie as tie

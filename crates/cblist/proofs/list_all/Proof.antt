@@ -1,7 +1,6 @@
 -- `cblist::list_all` is safe and ends. The invariant: the buffers keep their lengths, and the number is that of a chunk's first block.
 use mathlib.Core.Path.{_≡_}
-use Prim.Native.Nat.{_-_, _≤_}
-use native.Mathlib.Omega.{arith}
+use Prim.Native.Nat.{_-_}
 use lib.ListN.{length}
 use borrow.Author.Needs.{needs}
 use Rattle.cblist.proofs.list_all.Statement.{statement}

@@ -1,6 +1,5 @@
 -- `cblist::put_line` meets its contract: three numbers, each behind the text so far, and the octets between them.
 use mathlib.Core.Path.{_≡_, _∙_}
-use Prim.Native.Nat.{_+_, _<_}
 use native.Mathlib.Omega.{arith}
 use lib.ListN.{length, length-set}
 use borrow.Author.Needs.{needs}

@@ -1,8 +1,7 @@
 -- `cblist::read_whole` meets its contract. The invariant: no more than the buffer is filled.
 use mathlib.Core.Path.{_≡_}
 use Prim.Native.Nat.{_-_, _≤_}
-use native.Mathlib.Omega.{arith}
-use lib.ListN.{length, length-take, length-drop}
+use lib.ListN.{length}
 use borrow.Author.Needs.{needs}
 use Rattle.cblist.proofs.read_whole.Statement.{statement}
 use Rattle.cblist.proofs.read_whole.Tie as tie

@@ -1,5 +1,5 @@
 -- `firmware::add` meets its contract: a block that is only taken leaves the output, the last one fills it.
-use mathlib.Core.Path.{_≡_, sym, _∙_}
+use mathlib.Core.Path.{_∙_}
 use Prim.Native.Nat.{_+_, _≤_}
 use native.Mathlib.Nat.{zero-add}
 use native.Mathlib.Omega.{arith}

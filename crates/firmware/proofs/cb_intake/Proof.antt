@@ -1,5 +1,4 @@
 -- `firmware::cb_intake` meets its contract: the lengths are refused in order, and the rest is `take_in`'s.
-use mathlib.Core.Path.{sym, _∙_}
 use borrow.Author.Needs.{needs}
 use borrow.Author.Tests.{eq-eqb, ne-eqb}
 use Rattle.firmware.specs.Paper.{intakeCall}
