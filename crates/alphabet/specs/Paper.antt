@@ -1,6 +1,6 @@
 -- The default alphabet: what document 01 says of septets and code points.
 use Prim.Native.Nat.{ℕ, suc, _%_}
-use mathlib.Core.Bool.{Bool, cond, not, _&&_}
+use mathlib.Core.Bool.{cond, not, _&&_}
 use mathlib.Core.List.{List, [], _∷_}
 use lib.Dec.{eqb}
 use lib.ListN.{getD}

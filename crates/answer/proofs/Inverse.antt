@@ -2,6 +2,7 @@
 use mathlib.Core.Path.{_≡_, refl, sym, ap, _∙_}
 use mathlib.Core.Bool.{cond}
 use Prim.Native.Nat.{ℕ}
+use native.Mathlib.Omega.{arith}
 use lib.Dec.{eqb}
 use Rattle.answer.specs.declared.Refusal.{Refusal}
 use Rattle.answer.specs.declared.Refusal.the-variants.{PieceLength, Discriminator, ReservedCode, NullCode, NotNext, StateImproper, TextLength, NotInAlphabet, EndsInCr, Scheme, PageParameter, OutputLength, MessageLength, UsedOctets, ReceivedOctets, ScheduleType, BeginOrEnd, NewPastEnd, DescriptionPastReceived, RepeatOfNoFirst, PlanMark, PlanVersion, PlanLength, PlanEntry, DescriptionsTooLong, PlanEmpty, Untrue, SlotNumber, WantedCount}
@@ -75,3 +76,9 @@ refusalOf-numberOf WantedCount = refl
 -- two refusals of one number are one refusal
 pub numberOf-injective : (r s : Refusal) → numberOf r ≡ numberOf s → r ≡ s
 numberOf-injective r s e = sym (refusalOf-numberOf r) ∙ ap refusalOf e ∙ refusalOf-numberOf s
+
+-- no refusal has the number 0, which stands for done
+pub numberOf-positive : (r : Refusal) → numberOf r ≡ 0 → ⊥
+numberOf-positive r e =
+    let q : numberOf r ≡ 42 = ap numberOf (sym (refusalOf-numberOf r) ∙ ap refusalOf e) in
+    omega arith
