@@ -1,2 +1,3 @@
+pub mod Radix
 pub mod Ruled
 pub mod Table

@@ -1,13 +1,13 @@
--- `alphabet::code_point` meets its contract: its table is the paper's alphabet, entry by entry.
+-- `alphabet::code_point` meets its contract: its constant is computed to be the paper's alphabet.
 use mathlib.Core.Path.{refl}
 use borrow.Author.Needs.{needs}
-use Rattle.alphabet.specs.Paper.{alphabet, codePoint}
+use Rattle.alphabet.specs.Paper.{alphabet}
 use Rattle.alphabet.proofs.code_point.Statement.{statement}
 use Rattle.alphabet.proofs.code_point.Tie as tie
 
-returns : tie.Need-returns
-unfolding codePoint alphabet
-returns c = refl
+code-point-by-requires : tie.Need-code-point-by-requires
+unfolding alphabet
+code-point-by-requires c κs = refl
 
 pub code-point-spec : {M : Type 1} → statement M
-code-point-spec = tie.close (tie.spec (λ c. search needs) (λ c. search needs) (λ c. search needs) returns)
+code-point-spec = tie.close (tie.spec code-point-by-requires (λ c. search needs))
