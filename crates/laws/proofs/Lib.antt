@@ -1,3 +1,4 @@
+pub mod Parts
 pub mod Radix
 pub mod Ruled
 pub mod Table

@@ -1,12 +1,13 @@
 -- Laws of numbers and their digits: lists joined and cut, and digits of one base read in another.
-use mathlib.Core.Path.{_≡_, refl, sym, ap, ap₂, _∙_}
-use mathlib.Core.List.{List, [], _∷_, _++_}
+use mathlib.Core.Path.{_≡_, refl, sym, ap, _∙_}
+use mathlib.Core.List.{List, [], _∷_, _++_, append-assoc, append-nil}
 use Prim.Native.Nat.{ℕ, zero, suc, _+_, _*_, _/_, _%_, _^_, _-_, _<_, _≤_}
-use native.Mathlib.Nat.{add-zero, zero-add, suc-add, add-suc, add-assoc, mul-add, mul-assoc, mul-zero, one-mul, pow-zero, pow-succ', div-one, div-div-eq-div-mul, add-mul-mod-self-left, add-mul-div-left, mod-lt, mod-eq-of-lt, div-eq-of-lt, mul-le-mul-left, mul-suc, one-le-pow, le-of-suc-le-suc, not-suc-le-zero, le-refl, mod-add-div, mod-mod-of-dvd, dvd-mul-right, mod-one}
+use native.Mathlib.Nat.{zero-add, suc-add, add-assoc, mul-add, mul-assoc, mul-zero, one-mul, mul-one, mul-comm, add-comm, pow-zero, pow-succ', div-one, div-div-eq-div-mul, add-mul-mod-self-left, add-mul-div-left, mod-eq-of-lt, div-eq-of-lt, mul-le-mul-left, mul-suc, add-sub-cancel-left, add-sub-of-le, one-le-pow, pow-suc, pow-le-pow-right, lt-of-lt-of-le, sub-le, le-refl}
 use native.Mathlib.Numerals.{add-one}
 use native.Mathlib.Omega.{arith}
-use lib.ListN.{length, getD, take, drop, length-append}
-use lib.Seq.{drop-cons, take-nil}
+use lib.ListN.{length, getD, take, drop, set, replicate, length-append, length-drop, take-append-drop, drop-of-length-le}
+use lib.Pow.{pow-add}
+use lib.Seq.{drop-cons, getD-drop, set-at, append-snoc, take-at, take-add, take-all, length-take-le}
 use Rattle.laws.specs.Radix.{value, digits, Below}
 
 pub length-digits : (b n v : ℕ) → length (digits b n v) ≡ n
@@ -19,6 +20,24 @@ below-nil b h i = h
 
 pub below-tail : (b x : ℕ) (xs : List ℕ) → Below b (x ∷ xs) → Below b xs
 below-tail b x xs h i = h (suc i)
+
+pub below-take : (b n : ℕ) (xs : List ℕ) → Below b xs → Below b (take n xs)
+below-take b zero xs h i = omega (arith, h 0)
+below-take b (suc n) [] h i = h i
+below-take b (suc n) (x ∷ xs) h zero = h 0
+below-take b (suc n) (x ∷ xs) h (suc i) = below-take b n xs (below-tail b x xs h) i
+
+pub below-cons : (b x : ℕ) (xs : List ℕ) → x < b → Below b xs → Below b (x ∷ xs)
+below-cons b x xs h low zero = h
+below-cons b x xs h low (suc i) = low i
+
+pub below-append : (b : ℕ) (xs ys : List ℕ) → Below b xs → Below b ys → Below b (xs ++ ys)
+below-append b [] ys h k = k
+below-append b (x ∷ xs) ys h k = below-cons b x (xs ++ ys) (h 0) (below-append b xs ys (below-tail b x xs h) k)
+
+pub below-replicate : (b n x : ℕ) → x < b → Below b (replicate n x)
+below-replicate b zero x h = below-nil b (omega arith)
+below-replicate b (suc n) x h = below-cons b x (replicate n x) h (below-replicate b n x h)
 
 -- a number is below the base's power that its digits fill
 pub value-lt : (b : ℕ) (xs : List ℕ) → Below b xs → value b xs < b ^ length xs
@@ -39,6 +58,13 @@ value-append b (x ∷ xs) ys = rw (value-append b xs ys, mul-add, pow-succ', mul
 pub value-drop : (b i : ℕ) (xs : List ℕ) → i < length xs → value b (drop i xs) ≡ getD xs i 0 + b * value b (drop (i + 1) xs)
 unfolding value
 value-drop b i xs h = rw (add-one i, drop-cons xs i 0)
+
+-- one digit more in front
+pub value-back : (b i : ℕ) (xs : List ℕ) → 0 < i → i ≤ length xs → value b (drop i xs) * b + getD xs (i - 1) 0 ≡ value b (drop (i - 1) xs)
+value-back b i xs p h =
+    let k : i - 1 < length xs = omega arith in
+    let e : i - 1 + 1 ≡ i = omega arith in
+    rw (value-drop b (i - 1) xs k, e, mul-comm (value b (drop i xs)) b, add-comm (b * value b (drop i xs)) (getD xs (i - 1) 0))
 
 -- the first n digits, and those from there on
 pub digits-split : (b n m v : ℕ) → digits b (n + m) v ≡ digits b n v ++ digits b m (v / b ^ n)
@@ -80,3 +106,71 @@ regroup b c m k h xs ys low e =
       div-eq-of-lt l,
       zero-add,
     )
+
+-- what is left of digits from a place on are digits
+pub below-drop : (b i : ℕ) (xs : List ℕ) → Below b xs → Below b (drop i xs)
+below-drop b i xs h j = rw getD-drop (h (i + j))
+
+-- the number from a place on is below the power that the whole list fills
+pub value-drop-lt : (b i : ℕ) (xs : List ℕ) → Below b xs → value b (drop i xs) < b ^ length xs
+value-drop-lt b i xs h =
+    let p : 0 < b = omega (arith, h 0) in
+    lt-of-lt-of-le
+    (value-lt b (drop i xs) (below-drop b i xs h))
+    (pow-le-pow-right p (rw length-drop (sub-le (length xs) i)))
+
+-- one more digit is stored at its place
+pub digits-store : (b i v : ℕ) (o : List ℕ) → i < length o
+    → set (digits b i v ++ drop i o) i (v / b ^ i % b) ≡ digits b (i + 1) v ++ drop (i + 1) o
+digits-store b i v o h =
+    rw (drop-cons o i 0 h, digits-more, add-one)
+    (set-at (digits b i v) (getD o i 0) (drop (suc i) o) (v / b ^ i % b) i (length-digits b i v) ∙ sym (append-snoc (digits b i v) (v / b ^ i % b) (drop (suc i) o)))
+
+-- what is left of a number after one more digit
+pub div-more : (b i v : ℕ) → v / b ^ i / b ≡ v / b ^ (i + 1)
+div-more b i v = rw (add-one, pow-suc, div-div-eq-div-mul)
+
+-- groups of n digits to base b that fill m digits to base c, any number of them
+pub powers : (b c n m : ℕ) → b ^ n ≡ c ^ m → (g : ℕ) → b ^ (n * g) ≡ c ^ (m * g)
+powers b c n m e zero = simp (mul-zero, pow-zero)
+powers b c n m e (suc g) = simp (mul-suc, pow-add, powers b c n m e g, e)
+
+-- a list of digits to base b is read group by group: n of them are m digits to base c. The first g groups stand in d
+module _ (b c n m g : ℕ) (pos : 0 < c) (e : b ^ n ≡ c ^ m) (src d : List ℕ) (low : Below b src)
+    (done : take (m * g) d ≡ digits c (m * g) (value b (take (n * g) src))) (within : n * g ≤ length src) where
+  joined : (ys : List ℕ) (r : ℕ)
+      → digits c (m * g + r) (value b (take (n * g) src ++ ys)) ≡ take (m * g) d ++ digits c r (value b ys)
+  joined ys r =
+      regroup b c (m * g) r pos (take (n * g) src) ys (below-take b (n * g) src low)
+      (ap (λ (k : ℕ). b ^ k) (length-take-le (n * g) src within) ∙ powers b c n m e g)
+      ∙ ap (λ (l : List ℕ). l ++ digits c r (value b ys)) (sym done)
+
+  -- a loop's turn: the number w of one more group of src is put into the next place of d, which y then is
+  pub group-turn : (w : ℕ) (y : List ℕ) → m * g + m ≤ length d
+      → w ≡ value b (take (n * g + n - n * g) (drop (n * g) src))
+      → y ≡ digits c (length (take (m * g + m - m * g) (drop (m * g) d))) w
+      → take (m * (g + 1)) (take (m * g) d ++ (y ++ drop (m * g + m - m * g) (drop (m * g) d))) ≡ digits c (m * (g + 1)) (value b (take (n * (g + 1)) src))
+  group-turn w y l p q =
+      let room : length (take m (drop (m * g) d)) ≡ m = length-take-le m (drop (m * g) d) (rw length-drop (omega arith)) in
+      let e : y ≡ digits c m (value b (take n (drop (n * g) src))) =
+      q ∙ rw (p, add-sub-cancel-left (m * g) m, add-sub-cancel-left (n * g) n, room) in
+      let k : length (take (m * g) d ++ y) ≡ m * g + m = rw (length-append, length-take-le (m * g) d (omega arith), e, length-digits) in
+      rw (mul-add m g 1, mul-one m, mul-add n g 1, mul-one n, ← append-assoc, take-at (take (m * g) d ++ y) _ (m * g + m) k, take-add (n * g) n src)
+      (ap (λ (x : List ℕ). take (m * g) d ++ x) e ∙ sym (joined (take n (drop (n * g) src)) m))
+
+  -- after the loop: the number w of what is left of src is put into what is left of d
+  pub group-end : (w : ℕ) (y : List ℕ) → m * g ≤ length d
+      → w ≡ value b (take (length src - n * g) (drop (n * g) src))
+      → y ≡ digits c (length (take (length d - m * g) (drop (m * g) d))) w
+      → take (m * g) d ++ (y ++ drop (length d - m * g) (drop (m * g) d)) ≡ digits c (length d) (value b src)
+  group-end w y l p q =
+      let r : ℕ = length d - m * g in
+      let all : take (length src - n * g) (drop (n * g) src) ≡ drop (n * g) src = take-all (length src - n * g) (drop (n * g) src) (rw length-drop (le-refl _)) in
+      let room : length (take r (drop (m * g) d)) ≡ r = length-take-le r (drop (m * g) d) (rw length-drop (le-refl _)) in
+      let e : y ≡ digits c r (value b (drop (n * g) src)) = q ∙ rw (p, all, room) in
+      let none : drop r (drop (m * g) d) ≡ [] = drop-of-length-le (drop (m * g) d) {i = r} (rw length-drop (le-refl _)) in
+      let whole : m * g + r ≡ length d = add-sub-of-le l in
+      rw (none, append-nil y)
+      (ap (λ (x : List ℕ). take (m * g) d ++ x) e
+      ∙ sym (joined (drop (n * g) src) r)
+      ∙ rw (take-append-drop (n * g) src, whole))

@@ -1,9 +1,10 @@
 -- The header's octets and what they say determine each other.
-use mathlib.Core.Path.{_≡_}
+use mathlib.Core.Path.{_≡_, refl}
 use mathlib.Core.List.{[], _∷_}
 use Prim.Native.Nat.{ℕ, _+_, _*_, _/_, _%_, _<_}
 use native.Mathlib.Nat.{div-add-mod'}
 use native.Mathlib.Omega.{arith}
+use lib.ListN.{length}
 use Rattle.page.specs.Paper.{Heading, header, headerOctets}
 
 -- what was written is read back
@@ -20,3 +21,7 @@ octets-back a b c d e f hb hd =
     let r : (c * 256 + d) / 256 ≡ c = omega arith in
     let s : (c * 256 + d) % 256 ≡ d = omega arith in
     rw (p, q, r, s)
+
+pub header-length : (h : Heading) → length (headerOctets h) ≡ 6
+unfolding headerOctets
+header-length h = refl

@@ -7,9 +7,9 @@ use Prim.Native.Nat.{ℕ, _≤_}
 use native.Mathlib.Omega.{arith}
 use lib.Dec.{eqb}
 use lib.ListN.{length}
-use borrow.Author.Tests.{eq-eqb, ne-eqb, eqb-true}
+use borrow.Author.Tests.{eq-eqb, ne-eqb, eqb-true, eqb-false}
 use Rattle.laws.specs.Ruled.{ruled}
-use Rattle.page.specs.Paper.{wholeBlocks, handing}
+use Rattle.page.specs.Paper.{Part, wholeBlocks, handing, handedNumber, emptyPart, contentPart, handedPart}
 
 module _ {A : Type 0} (by : ℕ → A) (x : A) (p : List ℕ) (n : ℕ) where
   pub refused-length : (length p ≡ 88 → ⊥) → ruled by (handing p n) x ≡ by 16
@@ -20,6 +20,11 @@ module _ {A : Type 0} (by : ℕ → A) (x : A) (p : List ℕ) (n : ℕ) where
 
   pub handed : length p ≡ 88 → wholeBlocks n ≡ true → ruled by (handing p n) x ≡ x
   handed e w = simp (eq-eqb (length p) 88 e, w)
+
+-- where nothing is refused, the content received is handed back
+pub handed-content : (p : Part) (n : ℕ) → length (p .octets) ≡ 88 → wholeBlocks n ≡ true → handedPart p n ≡ contentPart p n
+unfolding handedPart
+handed-content p n e w = handed (λ m. emptyPart p) (contentPart p n) (p .octets) n e w
 
 -- one to four blocks of octets
 abbrev pub Blocks : ℕ → Type 0
@@ -71,3 +76,18 @@ in-page n w = go (blocks n w)
     go (inr (inl e)) = omega arith
     go (inr (inr (inl e))) = omega arith
     go (inr (inr (inr e))) = omega arith
+
+-- the number given, and what it says
+pub data Handled (p : List ℕ) (n : ℕ) : Type 0 where
+  length-wrong : (length p ≡ 88 → ⊥) → handedNumber p n ≡ 16 → Handled p n
+  received-wrong : length p ≡ 88 → wholeBlocks n ≡ false → handedNumber p n ≡ 18 → Handled p n
+  all-right : length p ≡ 88 → wholeBlocks n ≡ true → handedNumber p n ≡ 0 → Handled p n
+
+pub handled : (p : List ℕ) (n : ℕ) → Handled p n
+unfolding handedNumber
+handled p n = go (eqb (length p) 88) (wholeBlocks n) refl refl
+  where
+    go : (a b : Bool) → eqb (length p) 88 ≡ a → wholeBlocks n ≡ b → Handled p n
+    go false b e f = let ne = eqb-false (length p) 88 e in length-wrong ne (refused-length (λ m. m) 0 p n ne)
+    go true false e f = let l = eqb-true (length p) 88 e in received-wrong l f (refused-received (λ m. m) 0 p n l f)
+    go true true e f = let l = eqb-true (length p) 88 e in all-right l f (handed (λ m. m) 0 p n l f)
