@@ -90,3 +90,8 @@ past-table c h = go (found c)
     go : (septetOf c ≡ noSeptet) ⊎ Writes c (septetOf c) → septetOf c ≡ noSeptet
     go (inl e) = e
     go (inr w) = absurd (omega (arith, codePoint-below (septetOf c) (w .septet), w .reads))
+
+-- CR reads as itself
+pub reads-cr : codePoint 0x0d ≡ 0x0d
+unfolding codePoint alphabet
+reads-cr = refl

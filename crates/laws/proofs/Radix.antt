@@ -2,7 +2,7 @@
 use mathlib.Core.Path.{_≡_, refl, sym, ap, _∙_}
 use mathlib.Core.List.{List, [], _∷_, _++_, append-assoc, append-nil}
 use Prim.Native.Nat.{ℕ, zero, suc, _+_, _*_, _/_, _%_, _^_, _-_, _<_, _≤_}
-use native.Mathlib.Nat.{zero-add, suc-add, add-assoc, mul-add, mul-assoc, mul-zero, one-mul, mul-one, mul-comm, add-comm, pow-zero, pow-succ', div-one, div-div-eq-div-mul, add-mul-mod-self-left, add-mul-div-left, mod-eq-of-lt, div-eq-of-lt, mul-le-mul-left, mul-suc, add-sub-cancel-left, add-sub-of-le, one-le-pow, pow-suc, pow-le-pow-right, lt-of-lt-of-le, sub-le, le-refl}
+use native.Mathlib.Nat.{zero-add, suc-add, add-assoc, mul-add, mul-assoc, mul-zero, one-mul, mul-one, mul-comm, add-comm, pow-zero, pow-succ', div-one, div-div-eq-div-mul, add-mul-mod-self-left, add-mul-div-left, mod-eq-of-lt, div-eq-of-lt, mul-le-mul-left, mul-suc, add-sub-cancel-left, add-sub-of-le, mod-add-div, one-le-pow, pow-suc, pow-le-pow-right, lt-of-lt-of-le, sub-le, le-refl}
 use native.Mathlib.Numerals.{add-one}
 use native.Mathlib.Omega.{arith}
 use lib.ListN.{length, getD, take, drop, set, replicate, length-append, length-drop, take-append-drop, drop-of-length-le}
@@ -174,3 +174,35 @@ module _ (b c n m g : ℕ) (pos : 0 < c) (e : b ^ n ≡ c ^ m) (src d : List ℕ
       (ap (λ (x : List ℕ). take (m * g) d ++ x) e
       ∙ sym (joined (drop (n * g) src) r)
       ∙ rw (take-append-drop (n * g) src, whole))
+
+-- the first k of n digits
+pub take-digits : (b k n v : ℕ) → k ≤ n → take k (digits b n v) ≡ digits b k v
+take-digits b k n v h =
+    let e : k + (n - k) ≡ n = add-sub-of-le h in
+    ap (λ (m : ℕ). take k (digits b m v)) (sym e)
+    ∙ ap (λ (l : List ℕ). take k l) (digits-split b k (n - k) v)
+    ∙ take-at (digits b k v) (digits b (n - k) (v / b ^ k)) k (length-digits b k v)
+
+-- the first k digits of a list's number are the first k of the list
+pub digits-front : (b k : ℕ) (xs : List ℕ) → Below b xs → k ≤ length xs → digits b k (value b xs) ≡ take k xs
+digits-front b k xs low h = sym (take-digits b k (length xs) (value b xs) h) ∙ ap (λ (l : List ℕ). take k l) (digits-value b xs low)
+
+-- a number is that of its n lowest digits, and what counts by the n-th power
+value-digits : (b n v : ℕ) → value b (digits b n v) + b ^ n * (v / b ^ n) ≡ v
+unfolding value digits
+value-digits b zero v = rw (pow-zero, div-one, one-mul, zero-add)
+value-digits b (suc n) v =
+    rw (pow-succ', ← div-div-eq-div-mul, add-assoc, mul-assoc, ← mul-add, value-digits b n (v / b)) (mod-add-div v b)
+
+-- digits to base c of some digits to base b, where these hold all of those
+pub digits-kept : (b c n k r v : ℕ) → 0 < c → c ^ k * r ≡ b ^ n → digits c k (value b (digits b n v)) ≡ digits c k v
+digits-kept b c n k r v pos e =
+    sym (digits-low c pos k (value b (digits b n v)) (r * (v / b ^ n)))
+    ∙ ap (λ (w : ℕ). digits c k w)
+    (ap (λ (w : ℕ). value b (digits b n v) + w) (sym (mul-assoc (c ^ k) r (v / b ^ n)) ∙ ap (λ (w : ℕ). w * (v / b ^ n)) e)
+    ∙ value-digits b n v)
+
+-- powers of two as powers of 2 ^ q
+pub power-bits : (q k : ℕ) → (2 ^ q) ^ k ≡ 2 ^ (q * k)
+power-bits q zero = simp (mul-zero, pow-zero)
+power-bits q (suc k) = simp (mul-suc, pow-add, pow-suc, power-bits q k)

@@ -1,5 +1,5 @@
 -- A number and its digits to a base, lowest first: packing is a change of base.
-use Prim.Native.Nat.{ℕ, zero, suc, _+_, _*_, _/_, _%_, _<_}
+use Prim.Native.Nat.{ℕ, zero, suc, _+_, _*_, _/_, _%_, _^_, _<_}
 use mathlib.Core.List.{List, [], _∷_}
 use lib.ListN.{getD}
 
@@ -16,3 +16,7 @@ digits b (suc n) v = v % b ∷ digits b n (v / b)
 -- every entry is below b; past the end of a list stand zeros
 abbrev pub Below : ℕ → List ℕ → Type 0
 Below b xs = (i : ℕ) → getD xs i 0 < b
+
+-- bit m of a list whose entries have q bits, low bits first
+abbrev pub bit : ℕ → List ℕ → ℕ → ℕ
+bit q xs m = getD xs (m / q) 0 / 2 ^ (m % q) % 2

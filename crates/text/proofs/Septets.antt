@@ -3,24 +3,19 @@ use mathlib.Core.Path.{_≡_, ap, _∙_}
 use mathlib.Core.Bool.{false}
 use mathlib.Core.List.{List, [], _∷_, _++_, map}
 use mathlib.Core.Logic.{_⊎_, inl, inr}
-use Prim.Native.Nat.{ℕ, zero, suc, _-_, _≤_}
-use native.Mathlib.Nat.{sub-zero, zero-sub, suc-sub-suc}
+use Prim.Native.Nat.{ℕ, _-_, _≤_}
 use native.Mathlib.Omega.{arith}
 use lib.Dec.{eqb, lit<}
-use lib.ListN.{length, drop, replicate, length-append, length-map, length-replicate}
+use lib.ListN.{length, replicate, length-append, length-map, length-replicate}
 use borrow.Author.Tests.{eqb-false}
 use Rattle.laws.specs.Radix.{Below}
 use Rattle.laws.specs.Table.{onto}
+use Rattle.laws.proofs.Parts.{drop-replicate}
 use Rattle.laws.proofs.Radix.{below-nil, below-cons, below-append, below-replicate}
 use Rattle.laws.proofs.Table.{neither, onto-room}
 use Rattle.alphabet.specs.Paper.{septetOf, noSeptet}
 use Rattle.alphabet.proofs.Laws.{Writes, found}
 use Rattle.text.specs.Paper.{cr, septets, foreign}
-
-drop-replicate : (m n x : ℕ) → drop n (replicate m x) ≡ replicate (m - n) x
-drop-replicate m zero x = rw sub-zero
-drop-replicate zero (suc n) x = rw zero-sub
-drop-replicate (suc m) (suc n) x = rw suc-sub-suc (drop-replicate m n x)
 
 -- an array of CRs with a text's septets written over its beginning
 pub septets-made : (t : List ℕ) → length t ≤ 93 → onto septetOf t (replicate 93 cr) ≡ septets t

@@ -16,21 +16,25 @@ empty : (s : List ℕ) → length s ≡ 0 → s ≡ []
 empty [] e = refl
 empty (x ∷ s) e = absurd (omega arith)
 
+pub trim-nil : trimmed [] ≡ []
+unfolding trimmed
+trim-nil = refl
+
 -- a CR at the end is dropped
-trim-cr : (s : List ℕ) → trimmed (s ++ (cr ∷ [])) ≡ trimmed s
+pub trim-cr : (s : List ℕ) → trimmed (s ++ (cr ∷ [])) ≡ trimmed s
 unfolding trimmed
 trim-cr [] = refl
 trim-cr (x ∷ s) = rw (trim-cr s)
 
 -- where something else ends them, nothing is dropped
-trim-other : (s : List ℕ) (x : ℕ) → (x ≡ cr → ⊥) → trimmed (s ++ (x ∷ [])) ≡ s ++ (x ∷ [])
+pub trim-other : (s : List ℕ) (x : ℕ) → (x ≡ cr → ⊥) → trimmed (s ++ (x ∷ [])) ≡ s ++ (x ∷ [])
 unfolding trimmed
 trim-other [] x ne = rw (ne-eqb x cr ne)
 trim-other (y ∷ s) x ne =
     let h : length (s ++ (x ∷ [])) ≡ 0 → ⊥ = λ e. omega (arith, length-append s (x ∷ []), e) in
     rw (trim-other s x ne, ne-eqb _ _ h, and-false (eqb y cr))
 
-take-last : (s : List ℕ) (n : ℕ) → 0 < n → n ≤ length s → take n s ≡ take (n - 1) s ++ (getD s (n - 1) 0 ∷ [])
+pub take-last : (s : List ℕ) (n : ℕ) → 0 < n → n ≤ length s → take n s ≡ take (n - 1) s ++ (getD s (n - 1) 0 ∷ [])
 take-last s n p h =
     let e : n ≡ suc (n - 1) = omega arith in
     ap (λ (k : ℕ). take k s) e ∙ take-suc s (n - 1) 0 (omega arith)

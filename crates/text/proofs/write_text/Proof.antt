@@ -11,7 +11,7 @@ use lib.ListN.{length, take, drop, length-drop, drop-of-length-le}
 use lib.Seq.{take-at, take-length, length-take-le}
 use Rattle.page.specs.Paper.{Heading}
 use Rattle.page.proofs.HeaderBack.{header-length}
-use Rattle.text.specs.Paper.{septets, pageOf, usedOctets, badParameter, foreign}
+use Rattle.text.specs.Paper.{Writing, septets, pageOf, usedOctets, badParameter, foreign}
 use Rattle.text.specs.Inner.{marks}
 use Rattle.text.proofs.Cases.{written-15, written-13, written-14, written-10, written-11, written-12, written-0}
 use Rattle.text.proofs.Marks.{marks-padded}
@@ -107,6 +107,9 @@ made head p d y h e =
     let none : drop (length d - 6) (drop 6 d) ≡ [] = drop-of-length-le (drop 6 d) {i = length d - 6} (rw length-drop (le-refl _)) in
     rw (none, append-nil y, f, take-at head (drop (length head) p) 6 h)
 
+answered : {w : Writing} {q r : List ℕ} (u : ℕ) → q ≡ r → w ≡ record { number = 0; used = u; page = r } → record { number = 0; used = u; page = q } ≡ w
+answered u e f = ap (λ (x : List ℕ). record { number = 0; used = u; page = x }) e ∙ sym f
+
 returns-7 : tie.Need-returns-7
 unfolding pageOf
 returns-7 c =
@@ -117,8 +120,7 @@ returns-7 c =
     let e : h .result ++ y ≡ pageOf (heading s) (text s) =
     rw (h .ensures, c .before .before .pack .ensures, array (c .before .before .before .before .before .before .before .before .before .before .before .before .before .before .before .before .before)) in
     let m = made (h .result) (page s) (c .before .before .before .before .before .before .before .copy .last .1 .0) y (ap length (h .ensures) ∙ header-length (heading s)) (c .before .before .before .before .before .before .before .copy .ensures .1) in
-    ap (λ (q : List ℕ). record { number = 0; used = usedOctets (text s); page = q }) (m ∙ e)
-    ∙ sym
+    answered (usedOctets (text s)) (m ∙ e)
     (written-0 (heading s) (text s) (page s) (d .before .before .before .before .if1 .left) (d .before .before .before .if2 .left)
     (parameter-good (d .before)) (d .if4 .left) (all-found (c .before .before .before .before .before .before .before .before .before .before .before .before .before)) (sym (c .before .before .before .before .before .before .before .before .before .before .before .before .ends-in-cr .ensures) ∙ c .before .before .before .before .before .before .before .before .before .before .before .if6 .left))
 
