@@ -54,19 +54,19 @@ handing p n = (not (eqb (length p) 88), 16) ∷ (not (wholeBlocks n), 18) ∷ []
 unfoldable pub handedNumber : List ℕ → ℕ → ℕ
 handedNumber p n = ruled (λ m. m) (handing p n) 0
 
--- 01 Page and text: a part of the caller's memory, by the block it lies in, its place there and its octets
+-- 01 Page and text: a part of the caller's memory, by the piece of memory it lies in, its place there and its octets
 pub record Part : Type 0 where
-  pub block : ℕ
+  pub region : ℕ
   pub place : ℕ
   pub octets : List ℕ
 
 -- 01 Page and text: octets 7 to the last received, n, as they stand in the caller's own page
 abbrev pub contentPart : Part → ℕ → Part
-contentPart p n = record { block = p .block; place = 6 + p .place; octets = take (n - 6) (drop 6 (p .octets)) }
+contentPart p n = record { region = p .region; place = 6 + p .place; octets = take (n - 6) (drop 6 (p .octets)) }
 
 -- 01 Order, the handing back: an empty part
 abbrev pub emptyPart : Part → Part
-emptyPart p = record { block = p .block; place = p .place; octets = [] }
+emptyPart p = record { region = p .region; place = p .place; octets = [] }
 
 -- 01 Order, the handing back: the content received, or on a refusal the empty part
 unfoldable pub handedPart : Part → ℕ → Part

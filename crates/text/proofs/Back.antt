@@ -99,7 +99,8 @@ content-back h t q n e =
     sym (drop-take 6 n q) ∙ ap (λ (l : List ℕ). drop 6 l) e ∙ drop-take 6 n (pageOf h t)
     ∙ ap (λ (l : List ℕ). take (n - 6) l) (drop-at (headerOctets h) (packed (septets t)) 6 (header-length h))
 
-written-length : (h : Heading) (t p : List ℕ) → written h t p .number ≡ 0 → length (written h t p .page) ≡ 88
+-- what was written is a page
+pub written-length : (h : Heading) (t p : List ℕ) → written h t p .number ≡ 0 → length (written h t p .page) ≡ 88
 unfolding pageOf packed
 written-length h t p z =
     ap (λ (x : Writing). length (x .page)) (writer-accepts h t p z .result)
@@ -115,6 +116,13 @@ scheme-back h t q n l e =
 shown-back : (t : List ℕ) → foreign t ≡ false → shown (map septetOf t) ≡ record { number = 0; characters = length t; text = t ++ replicate (93 - length t) 0 }
 unfolding shown
 shown-back t f = rw (length-map t septetOf, reads-back t f)
+
+-- what was used is at least the header, and at most the page
+pub used-bounds : (h : Heading) (t p : List ℕ) → written h t p .number ≡ 0 → (6 ≤ written h t p .used) × (written h t p .used ≤ 88)
+used-bounds h t p z =
+    let a = writer-accepts h t p z in
+    let e : written h t p .used ≡ usedOctets t = ap (λ (x : Writing). x .used) (a .result) in
+    omega (arith, e, a .short)
 
 -- any page that agrees with the written one on the octets received, all used ones among them, is read back as the text
 pub text-back : (h : Heading) (t p : List ℕ) → written h t p .number ≡ 0

@@ -3,9 +3,10 @@ use mathlib.Core.Path.{_≡_, sym, ap, _∙_}
 use mathlib.Core.List.{List}
 use Prim.Native.Nat.{ℕ}
 use Rattle.answer.proofs.Inverse.{numberOf-injective, numberOf-positive}
-use Rattle.page.specs.Paper.{Heading}
+use Rattle.page.specs.declared.Serial.{Serial}
+use Rattle.page.specs.declared.MessageId.{MessageId}
 use Rattle.text.specs.Paper.{Writing, Reading, written, reading}
-use Rattle.text.specs.Coded.{writingOf, readingOf}
+use Rattle.text.specs.Coded.{headed, writingOf, readingOf}
 use Rattle.text.specs.declared.Written.{Written}
 use Rattle.text.specs.declared.Written.the-variants.{Used, Refused}
 use Rattle.text.specs.declared.Got.{Got}
@@ -18,9 +19,10 @@ writing-injective (Refused a) (Used v) p q e = absurd (numberOf-positive a (ap (
 writing-injective (Refused a) (Refused b) p q e =
     (ap Refused (numberOf-injective a b (ap (λ (w : Writing). w .number) e)), ap (λ (w : Writing). w .page) e)
 
-pub determined-write-text : (h : Heading) (text page : List ℕ) (r s : Written) (p q : List ℕ)
-    → writingOf r p ≡ written h text page → writingOf s q ≡ written h text page → (r ≡ s) × (p ≡ q)
-determined-write-text h text page r s p q d e = writing-injective r s p q (d ∙ sym e)
+pub determined-write-text : (serial : Serial) (id : MessageId) (scheme parameter : ℕ) (text page : List ℕ) (r s : Written) (p q : List ℕ)
+    → writingOf r p ≡ written (headed serial id scheme parameter) text page
+    → writingOf s q ≡ written (headed serial id scheme parameter) text page → (r ≡ s) × (p ≡ q)
+determined-write-text serial id scheme parameter text page r s p q d e = writing-injective r s p q (d ∙ sym e)
 
 reading-injective : (r s : Got) (t u : List ℕ) → readingOf r t ≡ readingOf s u → (r ≡ s) × (t ≡ u)
 reading-injective (Characters m) (Characters n) t u e = (ap (λ (w : Reading). Characters (w .characters)) e, ap (λ (w : Reading). w .text) e)

@@ -2,11 +2,18 @@
 use Prim.Native.Nat.{ℕ}
 use mathlib.Core.List.{List}
 use Rattle.answer.specs.Number.{numberOf}
+use Rattle.page.specs.Paper.{Heading}
+use Rattle.page.specs.declared.Serial.{Serial}
+use Rattle.page.specs.declared.MessageId.{MessageId}
 use Rattle.text.specs.Paper.{Writing, Reading}
 use Rattle.text.specs.declared.Written.{Written}
 use Rattle.text.specs.declared.Written.the-variants.{Used, Refused}
 use Rattle.text.specs.declared.Got.{Got}
 use Rattle.text.specs.declared.Got.the-variants.{Characters, Refused as Unread}
+
+-- what the writer is told of the header
+abbrev pub headed : Serial → MessageId → ℕ → ℕ → Heading
+headed serial id scheme parameter = record { serial = serial .0; id = id .0; scheme = scheme; parameter = parameter }
 
 -- a writer's answer and the page that it leaves
 abbrev pub writingOf : Written → List ℕ → Writing

@@ -9,7 +9,7 @@ use Rattle.laws.specs.Radix.{value, digits}
 use Rattle.alphabet.specs.Paper.{codePoint, septetOf, noSeptet}
 use Rattle.page.specs.Paper.{Heading, headerOctets, octet, wholeBlocks}
 
--- 01 Page and text: CR
+-- 01 Page and text: CR is 0D
 abbrev pub cr : ℕ
 cr = 0x0d
 
@@ -42,7 +42,7 @@ foreign (c ∷ t) = eqb (septetOf c) noSeptet || foreign t
 unfoldable pub endsInCr : List ℕ → Bool
 endsInCr t = eqb (getD t (length t - 1) 0) cr
 
--- what writing leaves: the number given, the used octets and the page
+-- 01 Numbers given, what writing leaves: the number given, the used octets and the page
 pub record Writing : Type 0 where
   pub number : ℕ
   pub used : ℕ
@@ -80,7 +80,7 @@ unfoldable pub trimmed : List ℕ → List ℕ
 trimmed [] = []
 trimmed (x ∷ s) = cond (eqb x cr && eqb (length (trimmed s)) 0) [] (x ∷ trimmed s)
 
--- what reading leaves: the number given, the number of characters and the text
+-- 01 Numbers given, what reading leaves: the number given, the number of characters and the text
 pub record Reading : Type 0 where
   pub number : ℕ
   pub characters : ℕ

@@ -5,7 +5,7 @@ ghost use mathlib.Core.Path.{_≡_};
 ghost use Prim.Native.Nat.{_≤_};
 ghost use lib.ListN.{length, replicate};
 ghost use Rattle.text.specs.Paper.{badParameter, endsInCr, trimmed, written, wholeOf, shown, reading};
-ghost use Rattle.text.specs.Coded.{writingOf, readingOf};
+ghost use Rattle.text.specs.Coded.{headed, writingOf, readingOf};
 ghost use Rattle.text.specs.Inner.{marks};
 use answer::Refusal;
 use page::Handing;
@@ -25,7 +25,7 @@ pub enum Got {
     Refused(Refusal),
 }
 
-// Whether some character had no septet. No early way out: a loop that always runs to its end is faster.
+// Whether some character had no septet. The loop has no early way out, so that the compiler can take many at once.
 fn marked(septets: &[u8]) -> bool
     ensures { λ r. ⌜ r ≡ marks (now (septets .entry)) ⌝ }
 {
@@ -68,7 +68,7 @@ pub fn write_text(
     text: &[u16],
     page: &mut [u8],
 ) -> Written
-    ensures { λ r. ⌜ writingOf r (now (page .exit)) ≡ written (record { serial = serial .0; id = id .0; scheme = scheme; parameter = parameter }) (now (text .entry)) (now (page .entry)) ⌝ }
+    ensures { λ r. ⌜ writingOf r (now (page .exit)) ≡ written (headed serial id scheme parameter) (now (text .entry)) (now (page .entry)) ⌝ }
 {
     if page.len() != 88 {
         return Written::Refused(Refusal::OutputLength);

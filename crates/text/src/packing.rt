@@ -1,7 +1,7 @@
 // Septets packed into octets and back: the same number, its digits to base 128 and to base 256.
 ghost use mathlib.Core.Path.{_≡_};
 ghost use Prim.Native.Nat.{_+_, _/_, _<_, _≤_};
-ghost use lib.ListN.{length};
+ghost use lib.ListN.{length, getD};
 ghost use Rattle.laws.specs.Radix.{value, digits};
 ghost use Rattle.text.specs.Paper.{packed};
 ghost use Rattle.text.specs.Inner.{Word, Packable};
@@ -15,9 +15,17 @@ fn number(base: u64, list: &[u8]) -> u64
     let mut i = list.len();
     while i > 0 {
         i -= 1;
-        sum = sum * base + wide(list[i]);
+        sum = sum * base + digit(list, i);
     }
     sum
+}
+
+// An entry as a word.
+fn digit(list: &[u8], i: usize) -> u64
+    requires { ⌜ i < length (now list) ⌝ }
+    ensures { λ r. ⌜ r ≡ getD (now (list .entry)) i 0 ⌝ }
+{
+    wide(list[i])
 }
 
 fn wide(x: u8) -> u64

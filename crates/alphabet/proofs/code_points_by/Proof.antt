@@ -17,29 +17,8 @@ Inv-loop table septets out₀ n i₀ out i = (i ≤ n) × (n ≡ min (length sep
 abbrev μ-loop : tie.MeasureT-loop
 μ-loop table septets out₀ n i₀ out i = n - i
 
-least-requires : tie.Need-least-requires Inv-loop μ-loop
-least-requires c κs = search needs
-
 loop-holds : tie.Need-loop-holds Inv-loop μ-loop
 loop-holds c = (search needs, c .least .ensures, refl, refl)
-
-shared-slice-read-code-point-by : tie.Need-shared-slice-read-code-point-by Inv-loop μ-loop
-shared-slice-read-code-point-by c = search needs
-
-code-point-by-requires : tie.Need-code-point-by-requires Inv-loop μ-loop
-code-point-by-requires c κs = search needs
-
-mul-out : tie.Need-mul-out Inv-loop μ-loop
-mul-out c = search needs
-
-slice-write-out : tie.Need-slice-write-out Inv-loop μ-loop
-slice-write-out c = search needs
-
-add-i : tie.Need-add-i Inv-loop μ-loop
-add-i c = search needs
-
-loop-less : tie.Need-loop-less Inv-loop μ-loop
-loop-less c = search needs
 
 loop-again : tie.Need-loop-again Inv-loop μ-loop
 loop-again c =
@@ -51,9 +30,6 @@ loop-again c =
       simp length-set (l .inv .2),
       rw (c .code-point-by .ensures) (onto-turn codePoint (l .i) (now (a .septets)) (now (a .out)) (l .out) (l .inv .3) h),
     )
-
-same-length : tie.Need-same-length Inv-loop μ-loop
-same-length c = search needs
 
 returns : tie.Need-returns Inv-loop μ-loop
 returns c =
@@ -67,14 +43,14 @@ code-points-by-spec =
     (tie.spec
     Inv-loop
     μ-loop
-    least-requires
+    (λ c κs. search needs)
     loop-holds
-    shared-slice-read-code-point-by
-    code-point-by-requires
-    mul-out
-    slice-write-out
-    add-i
-    loop-less
+    (λ c. search needs)
+    (λ c κs. search needs)
+    (λ c. search needs)
+    (λ c. search needs)
+    (λ c. search needs)
+    (λ c. search needs)
     loop-again
-    same-length
+    (λ c. search needs)
     returns)

@@ -17,29 +17,8 @@ Inv-loop table codes out₀ n i₀ out i = (i ≤ n) × (n ≡ min (length codes
 abbrev μ-loop : tie.MeasureT-loop
 μ-loop table codes out₀ n i₀ out i = n - i
 
-least-requires : tie.Need-least-requires Inv-loop μ-loop
-least-requires c κs = search needs
-
 loop-holds : tie.Need-loop-holds Inv-loop μ-loop
 loop-holds c = (search needs, c .least .ensures, refl, refl)
-
-mul-septet-by : tie.Need-mul-septet-by Inv-loop μ-loop
-mul-septet-by c = search needs
-
-shared-slice-read-septet-by : tie.Need-shared-slice-read-septet-by Inv-loop μ-loop
-shared-slice-read-septet-by c = search needs
-
-septet-by-requires : tie.Need-septet-by-requires Inv-loop μ-loop
-septet-by-requires c κs = search needs
-
-slice-write-out : tie.Need-slice-write-out Inv-loop μ-loop
-slice-write-out c = search needs
-
-add-i : tie.Need-add-i Inv-loop μ-loop
-add-i c = search needs
-
-loop-less : tie.Need-loop-less Inv-loop μ-loop
-loop-less c = search needs
 
 loop-again : tie.Need-loop-again Inv-loop μ-loop
 loop-again c =
@@ -51,9 +30,6 @@ loop-again c =
       simp length-set (l .inv .2),
       rw (c .septet-by .ensures) (onto-turn septetOf (l .i) (now (a .codes)) (now (a .out)) (l .out) (l .inv .3) h),
     )
-
-same-length : tie.Need-same-length Inv-loop μ-loop
-same-length c = search needs
 
 returns : tie.Need-returns Inv-loop μ-loop
 returns c =
@@ -67,14 +43,14 @@ septets-by-spec =
     (tie.spec
     Inv-loop
     μ-loop
-    least-requires
+    (λ c κs. search needs)
     loop-holds
-    mul-septet-by
-    shared-slice-read-septet-by
-    septet-by-requires
-    slice-write-out
-    add-i
-    loop-less
+    (λ c. search needs)
+    (λ c. search needs)
+    (λ c κs. search needs)
+    (λ c. search needs)
+    (λ c. search needs)
+    (λ c. search needs)
     loop-again
-    same-length
+    (λ c. search needs)
     returns)

@@ -12,6 +12,7 @@ use lib.Seq.{take-at, take-length, length-take-le}
 use Rattle.page.specs.Paper.{Heading}
 use Rattle.page.proofs.HeaderBack.{header-length}
 use Rattle.text.specs.Paper.{Writing, septets, pageOf, usedOctets, badParameter, foreign}
+use Rattle.text.specs.Coded.{headed}
 use Rattle.text.specs.Inner.{marks}
 use Rattle.text.proofs.Cases.{written-15, written-13, written-14, written-10, written-11, written-12, written-0}
 use Rattle.text.proofs.Marks.{marks-padded}
@@ -20,7 +21,7 @@ use Rattle.text.proofs.write_text.Statement.{statement}
 use Rattle.text.proofs.write_text.Tie as tie
 
 abbrev heading : tie.Start → Heading
-heading s = record { serial = s .args .serial .0; id = s .args .id .0; scheme = s .args .scheme; parameter = s .args .parameter }
+heading s = headed (s .args .serial) (s .args .id) (s .args .scheme) (s .args .parameter)
 
 abbrev text : tie.Start → List ℕ
 text s = now (s .args .text)

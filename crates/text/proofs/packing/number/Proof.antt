@@ -28,9 +28,6 @@ loop-holds : tie.Need-loop-holds Inv-loop μ-loop
 unfolding value
 loop-holds c = (search needs, rw (drop-length (now (c .before .args .list))))
 
-sub-i : tie.Need-sub-i Inv-loop μ-loop
-sub-i c = search needs
-
 mul-sum : tie.Need-mul-sum Inv-loop μ-loop
 mul-sum c =
     let l = c .before .loop in
@@ -38,31 +35,22 @@ mul-sum c =
     let r = room (a .base) (l .i) (l .sum) (now (a .list)) (c .before .before .before .pre) (l .inv .1) (c .loop-test .taken) (l .inv .0) in
     omega arith
 
-shared-slice-read-wide : tie.Need-shared-slice-read-wide Inv-loop μ-loop
-shared-slice-read-wide c = search needs
-
-wide-requires : tie.Need-wide-requires Inv-loop μ-loop
-wide-requires c κs = search needs
-
 add-sum : tie.Need-add-sum Inv-loop μ-loop
 add-sum c =
-    let l = c .before .before .before .loop in
-    let a = c .before .before .before .before .before .args in
+    let l = c .before .before .loop in
+    let a = c .before .before .before .before .args in
     record {
       fits =
-          rw (c .wide .ensures)
-          (room (a .base) (l .i) (l .sum) (now (a .list)) (c .before .before .before .before .before .pre) (l .inv .1) (c .before .before .loop-test .taken) (l .inv .0));
+          rw (c .digit .ensures)
+          (room (a .base) (l .i) (l .sum) (now (a .list)) (c .before .before .before .before .pre) (l .inv .1) (c .before .loop-test .taken) (l .inv .0));
     }
-
-loop-less : tie.Need-loop-less Inv-loop μ-loop
-loop-less c = search needs
 
 loop-again : tie.Need-loop-again Inv-loop μ-loop
 loop-again c =
-    let l = c .before .before .before .loop in
-    let a = c .before .before .before .before .before .args in (
+    let l = c .before .before .loop in
+    let a = c .before .before .before .before .args in (
       search needs,
-      rw (c .wide .ensures, l .inv .1) (value-back (a .base) (l .i) (now (a .list)) (c .before .before .loop-test .taken) (l .inv .0)),
+      rw (c .digit .ensures, l .inv .1) (value-back (a .base) (l .i) (now (a .list)) (c .before .loop-test .taken) (l .inv .0)),
     )
 
 returns : tie.Need-returns Inv-loop μ-loop
@@ -78,11 +66,10 @@ number-spec =
     Inv-loop
     μ-loop
     loop-holds
-    sub-i
+    (λ c. search needs)
     mul-sum
-    shared-slice-read-wide
-    wide-requires
+    (λ c κs. search needs)
     add-sum
-    loop-less
+    (λ c. search needs)
     loop-again
     returns)

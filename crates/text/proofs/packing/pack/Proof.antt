@@ -25,55 +25,10 @@ loop-holds : tie.Need-loop-holds Inv-loop μ-loop
 unfolding digits
 loop-holds c = (search needs, c .before .before .pre .room, refl)
 
-mul-number : tie.Need-mul-number Inv-loop μ-loop
-mul-number c = search needs
-
-mul-number-2 : tie.Need-mul-number-2 Inv-loop μ-loop
-mul-number-2 c = search needs
-
-add-number : tie.Need-add-number Inv-loop μ-loop
-add-number c = search needs
-
-sub-number : tie.Need-sub-number Inv-loop μ-loop
-sub-number c = search needs
-
-part-number-start : tie.Need-part-number-start Inv-loop μ-loop
-part-number-start c = search needs
-
-part-number-end : tie.Need-part-number-end Inv-loop μ-loop
-part-number-end c = search needs
-
 number-requires : tie.Need-number-requires Inv-loop μ-loop
 number-requires c κs =
     let g = c .before .before .loop .g in
     part-word 128 9 (8 * g + 8 - 8 * g) (8 * g) (now (c .before .before .before .before .before .args .septets)) (lit≤ tt) (omega arith) (c .before .before .before .before .before .pre .below)
-
-mul-put : tie.Need-mul-put Inv-loop μ-loop
-mul-put c = search needs
-
-mul-put-2 : tie.Need-mul-put-2 Inv-loop μ-loop
-mul-put-2 c = search needs
-
-add-put : tie.Need-add-put Inv-loop μ-loop
-add-put c = search needs
-
-sub-put : tie.Need-sub-put Inv-loop μ-loop
-sub-put c = search needs
-
-part-put-start : tie.Need-part-put-start Inv-loop μ-loop
-part-put-start c = search needs
-
-part-put-end : tie.Need-part-put-end Inv-loop μ-loop
-part-put-end c = search needs
-
-put-requires : tie.Need-put-requires Inv-loop μ-loop
-put-requires c κs = search needs
-
-add-g : tie.Need-add-g Inv-loop μ-loop
-add-g c = search needs
-
-loop-less : tie.Need-loop-less Inv-loop μ-loop
-loop-less c = search needs
 
 loop-again : tie.Need-loop-again Inv-loop μ-loop
 loop-again c =
@@ -87,31 +42,10 @@ loop-again c =
           (omega (arith, p .pre .count)) _ y (omega arith) (c .before .before .before .before .number .ensures) (c .before .before .put .ensures),
     )
 
-sub-number-2 : tie.Need-sub-number-2 Inv-loop μ-loop
-sub-number-2 c = search needs
-
-part-number-start-2 : tie.Need-part-number-start-2 Inv-loop μ-loop
-part-number-start-2 c = search needs
-
-part-number-end-2 : tie.Need-part-number-end-2 Inv-loop μ-loop
-part-number-end-2 c = search needs
-
 number-requires-2 : tie.Need-number-requires-2 Inv-loop μ-loop
 number-requires-2 c κs =
     let s = now (c .before .before .before .before .before .args .septets) in
     part-word 128 9 (length s - 88) 88 s (lit≤ tt) (omega (arith, c .before .before .before .before .before .pre .count)) (c .before .before .before .before .before .pre .below)
-
-sub-put-2 : tie.Need-sub-put-2 Inv-loop μ-loop
-sub-put-2 c = search needs
-
-part-put-start-2 : tie.Need-part-put-start-2 Inv-loop μ-loop
-part-put-start-2 c = search needs
-
-part-put-end-2 : tie.Need-part-put-end-2 Inv-loop μ-loop
-part-put-end-2 c = search needs
-
-put-requires-2 : tie.Need-put-requires-2 Inv-loop μ-loop
-put-requires-2 c κs = search needs
 
 same-length : tie.Need-same-length Inv-loop μ-loop
 same-length c =
@@ -138,30 +72,30 @@ pack-spec =
     Inv-loop
     μ-loop
     loop-holds
-    mul-number
-    mul-number-2
-    add-number
-    sub-number
-    part-number-start
-    part-number-end
+    (λ c. search needs)
+    (λ c. search needs)
+    (λ c. search needs)
+    (λ c. search needs)
+    (λ c. search needs)
+    (λ c. search needs)
     number-requires
-    mul-put
-    mul-put-2
-    add-put
-    sub-put
-    part-put-start
-    part-put-end
-    put-requires
-    add-g
-    loop-less
+    (λ c. search needs)
+    (λ c. search needs)
+    (λ c. search needs)
+    (λ c. search needs)
+    (λ c. search needs)
+    (λ c. search needs)
+    (λ c κs. search needs)
+    (λ c. search needs)
+    (λ c. search needs)
     loop-again
-    sub-number-2
-    part-number-start-2
-    part-number-end-2
+    (λ c. search needs)
+    (λ c. search needs)
+    (λ c. search needs)
     number-requires-2
-    sub-put-2
-    part-put-start-2
-    part-put-end-2
-    put-requires-2
+    (λ c. search needs)
+    (λ c. search needs)
+    (λ c. search needs)
+    (λ c κs. search needs)
     same-length
     returns)

@@ -24,23 +24,8 @@ loop-holds : tie.Need-loop-holds Inv-loop μ-loop
 unfolding digits
 loop-holds c = (search needs, refl, rw (pow-zero, div-one), refl)
 
-rem-out : tie.Need-rem-out Inv-loop μ-loop
-rem-out c = search needs
-
 cast-out : tie.Need-cast-out Inv-loop μ-loop
 cast-out c = record { fits = lt-of-lt-of-le (mod-lt (c .before .loop .rest) (c .before .before .pre .0)) (c .before .before .pre .1) }
-
-slice-write-out : tie.Need-slice-write-out Inv-loop μ-loop
-slice-write-out c = search needs
-
-div-rest : tie.Need-div-rest Inv-loop μ-loop
-div-rest c = search needs
-
-add-i : tie.Need-add-i Inv-loop μ-loop
-add-i c = search needs
-
-loop-less : tie.Need-loop-less Inv-loop μ-loop
-loop-less c = search needs
 
 loop-again : tie.Need-loop-again Inv-loop μ-loop
 loop-again c =
@@ -53,9 +38,6 @@ loop-again c =
       ap (λ (r : ℕ). r / a .base) (l .inv .2) ∙ div-more (a .base) (l .i) (a .word),
       rw (l .inv .2, l .inv .3) (digits-store (a .base) (l .i) (a .word) o h),
     )
-
-same-length : tie.Need-same-length Inv-loop μ-loop
-same-length c = search needs
 
 returns : tie.Need-returns Inv-loop μ-loop
 returns c =
@@ -71,12 +53,12 @@ put-spec =
     Inv-loop
     μ-loop
     loop-holds
-    rem-out
+    (λ c. search needs)
     cast-out
-    slice-write-out
-    div-rest
-    add-i
-    loop-less
+    (λ c. search needs)
+    (λ c. search needs)
+    (λ c. search needs)
+    (λ c. search needs)
     loop-again
-    same-length
+    (λ c. search needs)
     returns)
