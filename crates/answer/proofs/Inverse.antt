@@ -1,12 +1,9 @@
 -- A refusal is known by its number.
-use mathlib.Core.Path.{_≡_, refl}
-use mathlib.Core.Bool.{true, false, cond, not, _&&_}
-use mathlib.Core.Logic.{_⊎_, ⊎-elim}
-use Prim.Native.Nat.{ℕ, _≤_}
+use mathlib.Core.Path.{_≡_, refl, sym, ap, _∙_}
+use mathlib.Core.Bool.{cond}
+use Prim.Native.Nat.{ℕ}
 use native.Mathlib.Omega.{arith}
-use lib.Dec.{eqb, leb}
-use borrow.Author.Tests.{ne-eqb, eqb-false, leb-true, not-true}
-use Rattle.laws.proofs.Tests.{both}
+use lib.Dec.{eqb}
 use Rattle.answer.specs.declared.Refusal.{Refusal}
 use Rattle.answer.specs.declared.Refusal.the-variants.{PieceLength, Discriminator, ReservedCode, NullCode, NotNext, StateImproper, TextLength, NotInAlphabet, EndsInCr, Scheme, PageParameter, OutputLength, MessageLength, UsedOctets, ReceivedOctets, ScheduleType, BeginOrEnd, NewPastEnd, DescriptionPastReceived, RepeatOfNoFirst, PlanMark, PlanVersion, PlanLength, PlanEntry, DescriptionsTooLong, PlanEmpty, Untrue, SlotNumber, WantedCount}
 use Rattle.answer.specs.Number.{numberOf}
@@ -76,42 +73,14 @@ refusalOf-numberOf Untrue = refl
 refusalOf-numberOf SlotNumber = refl
 refusalOf-numberOf WantedCount = refl
 
--- no refusal has the number of an answer that is none: 0, 1 and 7
-pub refuses : (r : Refusal) → (leb 2 (numberOf r) && not (eqb (numberOf r) 7)) ≡ true
-refuses PieceLength = refl
-refuses Discriminator = refl
-refuses ReservedCode = refl
-refuses NullCode = refl
-refuses NotNext = refl
-refuses StateImproper = refl
-refuses TextLength = refl
-refuses NotInAlphabet = refl
-refuses EndsInCr = refl
-refuses Scheme = refl
-refuses PageParameter = refl
-refuses OutputLength = refl
-refuses MessageLength = refl
-refuses UsedOctets = refl
-refuses ReceivedOctets = refl
-refuses ScheduleType = refl
-refuses BeginOrEnd = refl
-refuses NewPastEnd = refl
-refuses DescriptionPastReceived = refl
-refuses RepeatOfNoFirst = refl
-refuses PlanMark = refl
-refuses PlanVersion = refl
-refuses PlanLength = refl
-refuses PlanEntry = refl
-refuses DescriptionsTooLong = refl
-refuses PlanEmpty = refl
-refuses Untrue = refl
-refuses SlotNumber = refl
-refuses WantedCount = refl
+-- two refusals of one number are one refusal
+pub numberOf-injective : (r s : Refusal) → numberOf r ≡ numberOf s → r ≡ s
+numberOf-injective r s e = sym (refusalOf-numberOf r) ∙ ap refusalOf e ∙ refusalOf-numberOf s
 
--- a test for such a number fails
-pub not-done : (r : Refusal) (n : ℕ) → (n ≤ 1) ⊎ (n ≡ 7) → eqb (numberOf r) n ≡ false
-not-done r n h =
-    let parts = both _ _ (refuses r) in
-    let least = leb-true 2 (numberOf r) (parts .0) in
-    let other = eqb-false (numberOf r) 7 (not-true _ (parts .1)) in
-    ⊎-elim (λ few. ne-eqb (numberOf r) n (omega arith)) (λ seven. rw seven (ne-eqb (numberOf r) 7 other)) h
+-- a number that `refusalOf` does not keep, as 0, 1 and 7, is no refusal's
+pub not-listed : (r : Refusal) (n : ℕ) → (numberOf (refusalOf n) ≡ n → ⊥) → numberOf r ≡ n → ⊥
+not-listed r n h e = h (ap numberOf (ap refusalOf (sym e) ∙ refusalOf-numberOf r) ∙ e)
+
+-- no refusal has the number of done
+pub numberOf-positive : (r : Refusal) → numberOf r ≡ 0 → ⊥
+numberOf-positive r = not-listed r 0 (omega arith)

@@ -2,10 +2,12 @@
 use mathlib.Core.Path.{_≡_, refl, sym, ap, _∙_}
 use mathlib.Core.Bool.{Bool, cond}
 use mathlib.Core.List.{List}
-use mathlib.Core.Logic.{inl, inr}
 use Prim.Native.Nat.{ℕ}
-use lib.Dec.{eqb, lit≤}
-use Rattle.answer.proofs.Inverse.{refusalOf, refusalOf-numberOf, not-done}
+use native.Mathlib.Omega.{arith}
+use lib.Dec.{eqb}
+use borrow.Author.Tests.{ne-eqb}
+use Rattle.answer.specs.Number.{numberOf}
+use Rattle.answer.proofs.Inverse.{refusalOf, refusalOf-numberOf, not-listed, numberOf-positive}
 use Rattle.block.specs.declared.Kind.{Kind as KindCode}
 use Rattle.block.specs.declared.Kind.the-variants.{Page, Schedule}
 use Rattle.block.specs.declared.Sent.{Sent}
@@ -26,7 +28,7 @@ sentFrom n = cond (eqb n 0) Done (Refused (refusalOf n))
 
 sentFrom-sentOf : (r : Sent) (o : List ℕ) → sentFrom (sentOf r o .number) ≡ r
 sentFrom-sentOf Done o = refl
-sentFrom-sentOf (Refused r) o = rw (not-done r 0 (inl (lit≤ tt))) (ap Refused (refusalOf-numberOf r))
+sentFrom-sentOf (Refused r) o = rw (ne-eqb (numberOf r) 0 (numberOf-positive r)) (ap Refused (refusalOf-numberOf r))
 
 sent-output : (r : Sent) (o : List ℕ) → sentOf r o .output ≡ o
 sent-output Done o = refl
@@ -80,7 +82,8 @@ answerFrom-answerOf answers.Page = refl
 answerFrom-answerOf answers.Schedule = refl
 answerFrom-answerOf answers.Taken = refl
 answerFrom-answerOf (answers.Refused r) =
-    rw (not-done r 0 (inl (lit≤ tt)), not-done r 7 (inr refl), not-done r 1 (inl (lit≤ tt))) (ap answers.Refused (refusalOf-numberOf r))
+    rw
+    (ne-eqb (numberOf r) 0 (numberOf-positive r), ne-eqb (numberOf r) 7 (not-listed r 7 (omega arith)), ne-eqb (numberOf r) 1 (not-listed r 1 (omega arith))) (ap answers.Refused (refusalOf-numberOf r))
 
 pub determined-intake : (state : State) (p : List ℕ) (r s : Reply) → givenOf r ≡ step (heldOf state) p → givenOf s ≡ step (heldOf state) p → r ≡ s
 determined-intake state p r s a b =

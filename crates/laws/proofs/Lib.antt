@@ -1,5 +1,8 @@
 -- What `laws` proves.
+pub mod Bits
 pub mod Parts
+pub mod Radix
 pub mod Ruled
 pub mod Snoc
+pub mod Table
 pub mod Tests

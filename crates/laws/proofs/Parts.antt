@@ -1,11 +1,11 @@
--- Laws of a part that is lent out of a list and comes back, and of repeats that are cut.
-use mathlib.Core.Path.{_≡_, _∙_}
-use mathlib.Core.List.{List, _++_, append-nil}
-use Prim.Native.Nat.{ℕ, zero, suc, _-_, _≤_}
-use native.Mathlib.Nat.{sub-zero, zero-sub, suc-sub-suc}
+-- Laws of parts of lists: one that is lent comes back into its place, parts of parts, and parts of repeats.
+use mathlib.Core.Path.{_≡_, sym, ap, _∙_}
+use mathlib.Core.List.{List, [], _∷_, _++_, append-nil}
+use Prim.Native.Nat.{ℕ, zero, suc, _+_, _-_, _≤_, min}
+use native.Mathlib.Nat.{sub-zero, zero-sub, suc-sub-suc, zero-min, min-zero, suc-min-suc}
 use native.Mathlib.Omega.{arith}
-use lib.ListN.{length, take, drop, replicate, drop-of-length-le}
-use lib.Seq.{take-length}
+use lib.ListN.{length, take, drop, replicate, length-append, length-drop, drop-of-length-le}
+use lib.Seq.{take-length, length-take-le, take-nil}
 use borrow.Rule.Slice.PartMut.{midOf, putMid, post-is, mid-len}
 
 -- a source that is copied over memory of its length is what stands there
@@ -18,6 +18,26 @@ pub put-copy : (a e : ℕ) (d s y : List ℕ) → a ≤ e → e ≤ length d →
 put-copy a e d s y h g n q =
     let long : length (midOf a (e - a) d) ≤ length s = omega (arith, mid-len a e d g) in
     rw (copy-whole (midOf a (e - a) d) s y long q, post-is a e d h)
+
+-- the whole keeps its length where the part keeps its own
+pub length-part : (a k : ℕ) (d y : List ℕ) → a + k ≤ length d → length y ≡ length (take k (drop a d)) → length (take a d ++ (y ++ drop k (drop a d))) ≡ length d
+length-part a k d y h e =
+    let f : length (take a d) ≡ a = length-take-le a d (omega arith) in
+    let p : length (take k (drop a d)) ≡ k = length-take-le k (drop a d) (rw length-drop (omega arith)) in
+    simp (length-append, length-drop, f, e, p) (omega arith)
+
+-- dropping from a beginning is the beginning of what is left
+pub drop-take : (a n : ℕ) (l : List ℕ) → drop a (take n l) ≡ take (n - a) (drop a l)
+drop-take zero n l = rw sub-zero
+drop-take (suc a) zero l = rw zero-sub
+drop-take (suc a) (suc n) [] = sym (take-nil (suc n - suc a))
+drop-take (suc a) (suc n) (x ∷ l) = rw suc-sub-suc (drop-take a n l)
+
+-- the beginning of a repeat is a shorter one
+pub take-replicate : (n m x : ℕ) → take n (replicate m x) ≡ replicate (min n m) x
+take-replicate zero m x = rw zero-min
+take-replicate (suc n) zero x = rw min-zero
+take-replicate (suc n) (suc m) x = rw suc-min-suc (ap (λ (l : List ℕ). x ∷ l) (take-replicate n m x))
 
 -- a repeat without its first elements is a shorter one
 pub drop-replicate : (m n a : ℕ) → drop m (replicate n a) ≡ replicate (n - m) a

@@ -1,2 +1,4 @@
 -- What `laws` defines.
+pub mod Radix
 pub mod Ruled
+pub mod Table

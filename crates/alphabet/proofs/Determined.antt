@@ -1,0 +1,18 @@
+-- Two answers that meet a public contract of this crate are equal, lent memory included.
+use mathlib.Core.Path.{_≡_, sym, _∙_}
+use mathlib.Core.List.{List}
+use Prim.Native.Nat.{ℕ}
+use Rattle.laws.specs.Table.{onto}
+use Rattle.alphabet.specs.Paper.{codePoint, septetOf}
+
+pub determined-code-point : (septet r s : ℕ) → r ≡ codePoint septet → s ≡ codePoint septet → r ≡ s
+determined-code-point septet r s p q = p ∙ sym q
+
+pub determined-septet : (code r s : ℕ) → r ≡ septetOf code → s ≡ septetOf code → r ≡ s
+determined-septet code r s p q = p ∙ sym q
+
+pub determined-code-points : (septets out r s : List ℕ) → r ≡ onto codePoint septets out → s ≡ onto codePoint septets out → r ≡ s
+determined-code-points septets out r s p q = p ∙ sym q
+
+pub determined-septets : (codes out r s : List ℕ) → r ≡ onto septetOf codes out → s ≡ onto septetOf codes out → r ≡ s
+determined-septets codes out r s p q = p ∙ sym q

@@ -1,0 +1,12 @@
+-- `alphabet::code_point_by` meets its contract: the table lent is the paper's alphabet.
+use borrow.Author.Needs.{needs}
+use Rattle.alphabet.specs.Paper.{codePoint}
+use Rattle.alphabet.proofs.code_point_by.Statement.{statement}
+use Rattle.alphabet.proofs.code_point_by.Tie as tie
+
+returns : tie.Need-returns
+unfolding codePoint
+returns c = rw (c .before .pre)
+
+pub code-point-by-spec : {M : Type 1} → statement M
+code-point-by-spec = tie.close (tie.spec (λ c. search needs) (λ c. search needs) (λ c. search needs) returns)

@@ -1,0 +1,13 @@
+-- `alphabet::code_points` meets its contract: its constant is computed to be the paper's alphabet.
+use mathlib.Core.Path.{refl}
+use borrow.Author.Needs.{needs}
+use Rattle.alphabet.specs.Paper.{alphabet}
+use Rattle.alphabet.proofs.code_points.Statement.{statement}
+use Rattle.alphabet.proofs.code_points.Tie as tie
+
+code-points-by-requires : tie.Need-code-points-by-requires
+unfolding alphabet
+code-points-by-requires c κs = refl
+
+pub code-points-spec : {M : Type 1} → statement M
+code-points-spec = tie.close (tie.spec code-points-by-requires (λ c. search needs) (λ c. search needs))

@@ -1,0 +1,56 @@
+-- `alphabet::code_points_by` meets its contract: after i turns the first i places are written.
+use mathlib.Core.Path.{_≡_, refl, _∙_}
+use Prim.Native.Nat.{_≤_, _<_, _-_, min}
+use native.Mathlib.Omega.{arith}
+use borrow.Author.Needs.{needs}
+use denote.Ref.{now}
+use lib.ListN.{length, length-set, take}
+use Rattle.laws.specs.Table.{onto}
+use Rattle.laws.proofs.Table.{onto-turn, onto-end}
+use Rattle.alphabet.specs.Paper.{codePoint}
+use Rattle.alphabet.proofs.code_points_by.Statement.{statement}
+use Rattle.alphabet.proofs.code_points_by.Tie as tie
+
+abbrev Inv-loop : tie.InvT-loop
+Inv-loop table septets out₀ n i₀ out i = (i ≤ n) × (n ≡ min (length septets) (length out₀)) × (length out ≡ length out₀) × (out ≡ onto codePoint (take i septets) out₀)
+
+abbrev μ-loop : tie.MeasureT-loop
+μ-loop table septets out₀ n i₀ out i = n - i
+
+loop-holds : tie.Need-loop-holds Inv-loop μ-loop
+loop-holds c = (search needs, c .least .ensures, refl, refl)
+
+loop-again : tie.Need-loop-again Inv-loop μ-loop
+loop-again c =
+    let l = c .before .before .before .loop in
+    let a = c .before .before .before .before .before .before .before .args in
+    let h : l .i < min (length (now (a .septets))) (length (now (a .out))) = omega arith in (
+      search needs,
+      l .inv .1,
+      simp length-set (l .inv .2),
+      rw (c .code-point-by .ensures) (onto-turn codePoint (l .i) (now (a .septets)) (now (a .out)) (l .out) (l .inv .3) h),
+    )
+
+returns : tie.Need-returns Inv-loop μ-loop
+returns c =
+    let l = c .before .loop in
+    let a = c .before .before .before .before .before .args in
+    l .inv .3 ∙ onto-end codePoint (l .i) (now (a .septets)) (now (a .out)) (omega arith)
+
+pub code-points-by-spec : {M : Type 1} → statement M
+code-points-by-spec =
+    tie.close
+    (tie.spec
+    Inv-loop
+    μ-loop
+    (λ c κs. search needs)
+    loop-holds
+    (λ c. search needs)
+    (λ c κs. search needs)
+    (λ c. search needs)
+    (λ c. search needs)
+    (λ c. search needs)
+    (λ c. search needs)
+    loop-again
+    (λ c. search needs)
+    returns)

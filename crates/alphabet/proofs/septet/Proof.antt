@@ -1,0 +1,13 @@
+-- `alphabet::septet` meets its contract: its constant is computed to list what each code point is found as.
+use mathlib.Core.Path.{refl}
+use borrow.Author.Needs.{needs}
+use Rattle.alphabet.specs.Paper.{alphabet, septetOf}
+use Rattle.alphabet.proofs.septet.Statement.{statement}
+use Rattle.alphabet.proofs.septet.Tie as tie
+
+septet-by-requires : tie.Need-septet-by-requires
+unfolding septetOf alphabet
+septet-by-requires c κs = refl
+
+pub septet-spec : {M : Type 1} → statement M
+septet-spec = tie.close (tie.spec septet-by-requires (λ c. search needs))

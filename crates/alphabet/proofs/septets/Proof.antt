@@ -1,0 +1,13 @@
+-- `alphabet::septets` meets its contract: its constant is computed to be the list of what each code point is found as.
+use mathlib.Core.Path.{refl}
+use borrow.Author.Needs.{needs}
+use Rattle.alphabet.specs.Paper.{alphabet, septetOf}
+use Rattle.alphabet.proofs.septets.Statement.{statement}
+use Rattle.alphabet.proofs.septets.Tie as tie
+
+septets-by-requires : tie.Need-septets-by-requires
+unfolding septetOf alphabet
+septets-by-requires c κs = refl
+
+pub septets-spec : {M : Type 1} → statement M
+septets-spec = tie.close (tie.spec septets-by-requires (λ c. search needs) (λ c. search needs))

@@ -1,0 +1,32 @@
+-- The header's octets and what they say determine each other.
+use mathlib.Core.Path.{_≡_, refl}
+use mathlib.Core.List.{List, [], _∷_, _++_}
+use Prim.Native.Nat.{ℕ, _+_, _*_, _/_, _%_, _<_}
+use native.Mathlib.Nat.{div-add-mod'}
+use native.Mathlib.Omega.{arith}
+use lib.ListN.{length}
+use Rattle.page.specs.Paper.{Heading, octet, header, headerOctets}
+
+-- what was written is read back
+pub header-back : (h : Heading) → header (headerOctets h) ≡ h
+unfolding header headerOctets
+header-back h = rw (div-add-mod' (h .serial) 256, div-add-mod' (h .id) 256)
+
+-- what was read is written as it stood
+pub octets-back : (a b c d e f : ℕ) → b < 256 → d < 256 → headerOctets (header (a ∷ b ∷ c ∷ d ∷ e ∷ f ∷ [])) ≡ a ∷ b ∷ c ∷ d ∷ e ∷ f ∷ []
+unfolding header headerOctets
+octets-back a b c d e f hb hd =
+    let p : (a * 256 + b) / 256 ≡ a = omega arith in
+    let q : (a * 256 + b) % 256 ≡ b = omega arith in
+    let r : (c * 256 + d) / 256 ≡ c = omega arith in
+    let s : (c * 256 + d) % 256 ≡ d = omega arith in
+    rw (p, q, r, s)
+
+pub header-length : (h : Heading) → length (headerOctets h) ≡ 6
+unfolding headerOctets
+header-length h = refl
+
+-- the coding scheme stands at octet 5 of a page
+pub header-scheme : (h : Heading) (content : List ℕ) → octet (headerOctets h ++ content) 5 ≡ h .scheme
+unfolding headerOctets
+header-scheme h content = refl

@@ -1,0 +1,4 @@
+pub mod Determined
+pub mod HeaderBack
+pub mod Received
+pub mod Sameness

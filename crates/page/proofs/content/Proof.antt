@@ -1,0 +1,65 @@
+-- `page::content` meets its contract: each return is the first test that holds, and what is received lies within the page.
+use mathlib.Core.Path.{_≡_, sym, _∙_}
+use mathlib.Core.Bool.{true}
+use Prim.Native.Nat.{_≤_}
+use native.Mathlib.Omega.{arith}
+use borrow.Author.Needs.{needs}
+use borrow.Author.Tests.{not-true, not-false}
+use denote.Ref.{now}
+use Rattle.page.specs.Paper.{wholeBlocks, emptyPart, contentPart, handedPart}
+use Rattle.page.specs.Coded.{partOf}
+use Rattle.page.proofs.Received.{refused-length, refused-received, handed, in-page}
+use Rattle.page.proofs.content.Statement.{statement}
+use Rattle.page.proofs.content.Tie as tie
+
+returns : tie.Need-returns
+unfolding handedPart
+returns c =
+    let a = c .before .before .before .args in
+    let p = partOf (a .page) in
+    sym (refused-length (λ m. emptyPart p) (contentPart p (a .received)) (now (a .page)) (a .received) (c .before .if1 .taken))
+
+returns-2 : tie.Need-returns-2
+unfolding handedPart
+returns-2 c =
+    let a = c .before .before .before .before .before .args in
+    let p = partOf (a .page) in
+    sym
+    (refused-received (λ m. emptyPart p) (contentPart p (a .received)) (now (a .page)) (a .received) (c .before .before .before .if1 .left)
+    (sym (c .before .before .whole-blocks .ensures) ∙ not-true _ (c .before .if2 .taken)))
+
+received : (c : tie.Else2) → wholeBlocks (c .before .before .before .before .args .received) ≡ true
+received c = sym (c .before .whole-blocks .ensures) ∙ not-false _ (c .if2 .left)
+
+within : (c : tie.Else2) → (6 ≤ c .before .before .before .before .args .received) × (c .before .before .before .before .args .received ≤ 88)
+within c = in-page _ (received c)
+
+sub-result : tie.Need-sub-result
+sub-result c = omega (arith, within c)
+
+part-result-start : tie.Need-part-result-start
+part-result-start c = omega (arith, within c)
+
+part-result-end : tie.Need-part-result-end
+part-result-end c = omega (arith, within c)
+
+returns-3 : tie.Need-returns-3
+unfolding handedPart
+returns-3 c =
+    let a = c .before .before .before .before .before .args in
+    let p = partOf (a .page) in
+    sym (handed (λ m. emptyPart p) (contentPart p (a .received)) (now (a .page)) (a .received) (c .before .before .before .if1 .left) (received (c .before)))
+
+pub content-spec : {M : Type 1} → statement M
+content-spec =
+    tie.close
+    (tie.spec
+    (λ c. search needs)
+    returns
+    (λ c κs. search needs)
+    (λ c. search needs)
+    returns-2
+    sub-result
+    part-result-start
+    part-result-end
+    returns-3)

@@ -1,0 +1,14 @@
+-- `page::header_octets` meets its contract: the array is made as the paper's list.
+use mathlib.Core.Path.{refl}
+use borrow.Author.Needs.{needs}
+use Rattle.page.specs.Paper.{headerOctets}
+use Rattle.page.proofs.header_octets.Statement.{statement}
+use Rattle.page.proofs.header_octets.Tie as tie
+
+returns : tie.Need-returns
+unfolding headerOctets
+returns c = refl
+
+pub header-octets-spec : {M : Type 1} → statement M
+header-octets-spec =
+    tie.close (tie.spec (λ c. search needs) (λ c. search needs) (λ c. search needs) (λ c. search needs) returns)

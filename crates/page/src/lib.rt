@@ -1,0 +1,117 @@
+// A page's header, the sameness of two pages, and the part of a page's content that was received.
+ghost use mathlib.Core.Path.{_≡_};
+ghost use Prim.Native.Nat.{_+_, _*_};
+ghost use Rattle.page.specs.Paper.{header, headerOctets, samePage, wholeBlocks, handedPart, handedNumber};
+ghost use Rattle.page.specs.Coded.{headingOf, nameOf, numberOfHanding, partOf};
+use answer::Refusal;
+
+// A serial number.
+pub struct Serial(pub u16);
+
+// A message identifier, which no serial number stands for.
+pub struct MessageId(pub u16);
+
+// What the six header octets say.
+pub struct Header {
+    pub serial: Serial,
+    pub id: MessageId,
+    pub scheme: u8,
+    pub parameter: u8,
+}
+
+// What tells a page from others.
+pub struct PageName {
+    pub serial: Serial,
+    pub id: MessageId,
+    pub parameter: u8,
+}
+
+// Whether a part was handed back.
+pub enum Handing {
+    Handed,
+    Refused(Refusal),
+}
+
+// The number of two octets, the high one first.
+fn joined(high: u8, low: u8) -> u16
+    ensures { λ r. ⌜ r ≡ high * 256 + low ⌝ }
+{
+    high as u16 * 256 + low as u16
+}
+
+// What a page's first six octets say.
+pub fn read_header(octets: [u8; 6]) -> Header
+    ensures { λ r. ⌜ headingOf r ≡ header octets ⌝ }
+{
+    Header {
+        serial: Serial(joined(octets[0], octets[1])),
+        id: MessageId(joined(octets[2], octets[3])),
+        scheme: octets[4],
+        parameter: octets[5],
+    }
+}
+
+// A page's first six octets.
+pub fn header_octets(heading: Header) -> [u8; 6]
+    ensures { λ r. ⌜ r ≡ headerOctets (headingOf heading) ⌝ }
+{
+    let serial = heading.serial.0;
+    let id = heading.id.0;
+    [
+        (serial / 256) as u8,
+        (serial % 256) as u8,
+        (id / 256) as u8,
+        (id % 256) as u8,
+        heading.scheme,
+        heading.parameter,
+    ]
+}
+
+// Whether two pages are the same page.
+pub fn same(a: PageName, b: PageName) -> bool
+    ensures { λ r. ⌜ r ≡ samePage (nameOf a) (nameOf b) ⌝ }
+{
+    if a.serial.0 != b.serial.0 {
+        return false;
+    }
+    if a.id.0 != b.id.0 {
+        return false;
+    }
+    a.parameter == b.parameter
+}
+
+// Whether so many octets are those of one to four blocks.
+fn whole_blocks(received: usize) -> bool
+    ensures { λ r. ⌜ r ≡ wholeBlocks received ⌝ }
+{
+    match received {
+        22 | 44 | 66 | 88 => true,
+        _ => false,
+    }
+}
+
+// Whether `content` hands a part back, and if not why.
+pub fn content_answer(page: &[u8], received: usize) -> Handing
+    ensures { λ r. ⌜ numberOfHanding r ≡ handedNumber (now (page .entry)) received ⌝ }
+{
+    if page.len() != 88 {
+        return Handing::Refused(Refusal::MessageLength);
+    }
+    if !whole_blocks(received) {
+        return Handing::Refused(Refusal::ReceivedOctets);
+    }
+    Handing::Handed
+}
+
+// The content that was received, as it stands in the caller's page: octet 7 to the last received.
+pub fn content(page: &[u8], received: usize) -> &[u8]
+    ensures { λ r. ⌜ partOf r ≡ handedPart (partOf (page .entry)) received ⌝ }
+{
+    if page.len() != 88 {
+        return &page[..0];
+    }
+    if !whole_blocks(received) {
+        return &page[..0];
+    }
+    &page[6..received]
+}

@@ -1,0 +1,94 @@
+-- Each case of the writer's and the reader's order, on plain facts.
+use mathlib.Core.Path.{_≡_, sym, ap, _∙_}
+use mathlib.Core.Bool.{true, false}
+use mathlib.Core.List.{List}
+use Prim.Native.Nat.{ℕ, _<_, _≤_}
+use native.Mathlib.Omega.{arith}
+use lib.ListN.{length}
+use borrow.Author.Tests.{eq-eqb, ne-eqb, lt-ltb, le-ltb}
+use Rattle.page.specs.Paper.{Heading, octet, wholeBlocks, handedNumber}
+use Rattle.page.proofs.Received.{Handled, length-wrong, received-wrong, all-right, handled}
+use Rattle.text.specs.Paper.{Writing, Reading, badParameter, foreign, endsInCr, usedOctets, pageOf, written, received, trimmed, shown, reading}
+
+-- a refusal by n leaves the page p
+abbrev pub unwritten : ℕ → List ℕ → Writing
+unwritten n p = record { number = n; used = 0; page = p }
+
+module _ (h : Heading) (t p : List ℕ) where
+  pub written-15 : (length p ≡ 88 → ⊥) → written h t p ≡ unwritten 15 p
+  unfolding written
+  written-15 ne = simp (ne-eqb (length p) 88 ne)
+
+  module _ (e : length p ≡ 88) where
+    pub written-13 : 15 < h .scheme → written h t p ≡ unwritten 13 p
+    unfolding written
+    written-13 l = simp (eq-eqb (length p) 88 e, lt-ltb 15 (h .scheme) l)
+
+    module _ (s : h .scheme ≤ 15) where
+      pub written-14 : badParameter (h .parameter) ≡ true → written h t p ≡ unwritten 14 p
+      unfolding written
+      written-14 b = simp (eq-eqb (length p) 88 e, le-ltb 15 (h .scheme) s, b)
+
+      module _ (b : badParameter (h .parameter) ≡ false) where
+        pub written-10 : 93 < length t → written h t p ≡ unwritten 10 p
+        unfolding written
+        written-10 l = simp (eq-eqb (length p) 88 e, le-ltb 15 (h .scheme) s, b, lt-ltb 93 (length t) l)
+
+        module _ (l : length t ≤ 93) where
+          pub written-11 : foreign t ≡ true → written h t p ≡ unwritten 11 p
+          unfolding written
+          written-11 f = simp (eq-eqb (length p) 88 e, le-ltb 15 (h .scheme) s, b, le-ltb 93 (length t) l, f)
+
+          pub written-12 : foreign t ≡ false → endsInCr t ≡ true → written h t p ≡ unwritten 12 p
+          unfolding written
+          written-12 f c = simp (eq-eqb (length p) 88 e, le-ltb 15 (h .scheme) s, b, le-ltb 93 (length t) l, f, c)
+
+          pub written-0 : foreign t ≡ false → endsInCr t ≡ false → written h t p ≡ record { number = 0; used = usedOctets t; page = pageOf h t }
+          unfolding written
+          written-0 f c = simp (eq-eqb (length p) 88 e, le-ltb 15 (h .scheme) s, b, le-ltb 93 (length t) l, f, c)
+
+-- a refusal by n leaves the text t
+abbrev pub unread : ℕ → List ℕ → Reading
+unread n t = record { number = n; characters = 0; text = t }
+
+module _ (p : List ℕ) (n : ℕ) (t : List ℕ) where
+  pub reading-15 : (length t ≡ 93 → ⊥) → reading p n t ≡ unread 15 t
+  unfolding reading
+  reading-15 ne = simp (ne-eqb (length t) 93 ne)
+
+  module _ (e : length t ≡ 93) where
+    pub reading-16 : (length p ≡ 88 → ⊥) → reading p n t ≡ unread 16 t
+    unfolding reading
+    reading-16 ne = simp (eq-eqb (length t) 93 e, ne-eqb (length p) 88 ne)
+
+    module _ (k : length p ≡ 88) where
+      pub reading-18 : wholeBlocks n ≡ false → reading p n t ≡ unread 18 t
+      unfolding reading
+      reading-18 w = simp (eq-eqb (length t) 93 e, eq-eqb (length p) 88 k, w)
+
+      module _ (w : wholeBlocks n ≡ true) where
+        pub reading-13 : 15 < octet p 5 → reading p n t ≡ unread 13 t
+        unfolding reading
+        reading-13 l = simp (eq-eqb (length t) 93 e, eq-eqb (length p) 88 k, w, lt-ltb 15 (octet p 5) l)
+
+        pub reading-0 : octet p 5 ≤ 15 → reading p n t ≡ shown (trimmed (received p n))
+        unfolding reading
+        reading-0 l = simp (eq-eqb (length t) 93 e, eq-eqb (length p) 88 k, w, le-ltb 15 (octet p 5) l)
+
+  -- where the handing back is refused, so is reading, by the same number
+  pub reading-refused : (m : ℕ) → length t ≡ 93 → m ≡ handedNumber p n → (m ≡ 0 → ⊥) → reading p n t ≡ unread m t
+  reading-refused m e q ne = go (handled p n)
+    where
+      go : Handled p n → reading p n t ≡ unread m t
+      go (length-wrong l h) = reading-16 e l ∙ ap (λ (k : ℕ). unread k t) (sym (q ∙ h))
+      go (received-wrong l w h) = reading-18 e l w ∙ ap (λ (k : ℕ). unread k t) (sym (q ∙ h))
+      go (all-right l w h) = absurd (ne (q ∙ h))
+
+-- where it is not refused, the page is whole and so are the blocks
+pub handed-right : (p : List ℕ) (n : ℕ) → handedNumber p n ≡ 0 → (length p ≡ 88) × (wholeBlocks n ≡ true)
+handed-right p n q = go (handled p n)
+  where
+    go : Handled p n → (length p ≡ 88) × (wholeBlocks n ≡ true)
+    go (length-wrong l h) = absurd (omega arith)
+    go (received-wrong l w h) = absurd (omega arith)
+    go (all-right l w h) = (l, w)

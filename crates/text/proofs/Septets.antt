@@ -1,0 +1,49 @@
+-- Laws of a text's septets: how many they are, that they are septets, and how the writer's array comes to hold them.
+use mathlib.Core.Path.{_≡_, ap, _∙_}
+use mathlib.Core.Bool.{false}
+use mathlib.Core.List.{List, [], _∷_, _++_, map}
+use mathlib.Core.Logic.{_⊎_, inl, inr}
+use Prim.Native.Nat.{ℕ, _-_, _≤_}
+use native.Mathlib.Omega.{arith}
+use lib.Dec.{eqb, lit<}
+use lib.ListN.{length, replicate, length-append, length-map, length-replicate}
+use borrow.Author.Tests.{eqb-false}
+use Rattle.laws.specs.Radix.{Below}
+use Rattle.laws.specs.Table.{onto}
+use Rattle.laws.proofs.Parts.{drop-replicate}
+use Rattle.laws.proofs.Radix.{below-nil, below-cons, below-append, below-replicate}
+use Rattle.laws.proofs.Table.{neither, onto-room}
+use Rattle.alphabet.specs.Paper.{septetOf, noSeptet}
+use Rattle.alphabet.proofs.Laws.{Writes, found}
+use Rattle.text.specs.Paper.{cr, septets, foreign}
+
+-- an array of CRs with a text's septets written over its beginning
+pub septets-made : (t : List ℕ) → length t ≤ 93 → onto septetOf t (replicate 93 cr) ≡ septets t
+unfolding septets
+septets-made t h =
+    onto-room septetOf t (replicate 93 cr) (rw (length-replicate 93 cr) h)
+    ∙ ap (λ (l : List ℕ). map septetOf t ++ l) (drop-replicate (length t) 93 cr)
+
+pub septets-count : (t : List ℕ) → length t ≤ 93 → length (septets t) ≡ 93
+unfolding septets
+septets-count t h = simp (length-append, length-map, length-replicate) (omega arith)
+
+-- the septet of a character that has one, by what finding it says
+pub known : (c : ℕ) → eqb (septetOf c) noSeptet ≡ false → Writes c (septetOf c)
+known c h = go (found c)
+  where
+    go : (septetOf c ≡ noSeptet) ⊎ Writes c (septetOf c) → Writes c (septetOf c)
+    go (inl e) = absurd (eqb-false (septetOf c) noSeptet h e)
+    go (inr w) = w
+
+found-below : (t : List ℕ) → foreign t ≡ false → Below 128 (map septetOf t)
+unfolding foreign
+found-below [] h = below-nil 128 (lit< tt)
+found-below (c ∷ t) h =
+    let n = neither (eqb (septetOf c) noSeptet) (foreign t) h in
+    below-cons 128 (septetOf c) (map septetOf t) (known c (n .0) .septet) (found-below t (n .1))
+
+pub septets-below : (t : List ℕ) → foreign t ≡ false → Below 128 (septets t)
+unfolding septets
+septets-below t h =
+    below-append 128 (map septetOf t) (replicate (93 - length t) cr) (found-below t h) (below-replicate 128 (93 - length t) cr (lit< tt))

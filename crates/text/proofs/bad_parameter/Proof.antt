@@ -1,0 +1,32 @@
+-- `text::bad_parameter` meets its contract: where the page is not 0, a total of 0 is below it.
+use mathlib.Core.Path.{_≡_, refl, sym}
+use mathlib.Core.Bool.{Bool, true, false, _||_}
+use Prim.Native.Nat.{ℕ, _/_, _%_, _<_}
+use native.Mathlib.Nat.{pos-of-ne-zero}
+use native.Mathlib.Omega.{arith}
+use lib.Dec.{eqb, ltb}
+use borrow.Author.Tests.{eq-eqb, ne-eqb, lt-ltb, eqb-true}
+use Rattle.text.specs.Paper.{badParameter}
+use Rattle.text.proofs.bad_parameter.Statement.{statement}
+use Rattle.text.proofs.bad_parameter.Tie as tie
+
+returns : tie.Need-returns
+unfolding badParameter
+returns c = rw (eq-eqb _ _ (c .if1 .taken))
+
+zero-total : (page total : ℕ) → (page ≡ 0 → ⊥) → (eqb page 0 || (eqb total 0 || ltb total page)) ≡ ltb total page
+zero-total page total ne = rw (ne-eqb page 0 ne) (go (eqb total 0) refl)
+  where
+    go : (b : Bool) → eqb total 0 ≡ b → (eqb total 0 || ltb total page) ≡ ltb total page
+    go false e = rw e
+    go true e =
+        let t : total ≡ 0 = eqb-true total 0 e in
+        let h : total < page = omega (arith, pos-of-ne-zero ne) in
+        rw (e, lt-ltb total page h)
+
+returns-2 : tie.Need-returns-2
+unfolding badParameter
+returns-2 c = let p = c .before .args .parameter in sym (zero-total (p / 16) (p % 16) (c .if1 .left))
+
+pub bad-parameter-spec : {M : Type 1} → statement M
+bad-parameter-spec = tie.close (tie.spec returns returns-2)
