@@ -1,0 +1,54 @@
+-- `trial::main` is safe and ends. The measure is the number of arguments left.
+use Prim.Native.Nat.{_-_}
+use borrow.Author.Needs.{needs}
+use Rattle.trial.proofs.main.Statement.{statement}
+use Rattle.trial.proofs.main.Tie as tie
+
+abbrev Inv-loop : tie.InvT-loop
+Inv-loop run₀ count i₀ run i = Unit {0}
+
+abbrev μ-loop : tie.MeasureT-loop
+μ-loop run₀ count i₀ run i = count - i
+
+before-lines-requires : tie.Need-before-lines-requires Inv-loop μ-loop
+before-lines-requires c κs = search needs
+
+arg-count-requires : tie.Need-arg-count-requires Inv-loop μ-loop
+arg-count-requires c κs = search needs
+
+loop-holds : tie.Need-loop-holds Inv-loop μ-loop
+loop-holds c = search needs
+
+try-argument-requires : tie.Need-try-argument-requires Inv-loop μ-loop
+try-argument-requires c κs = search needs
+
+add-i : tie.Need-add-i Inv-loop μ-loop
+add-i c = search needs
+
+loop-less : tie.Need-loop-less Inv-loop μ-loop
+loop-less c = search needs
+
+loop-again : tie.Need-loop-again Inv-loop μ-loop
+loop-again c = search needs
+
+print-table-requires : tie.Need-print-table-requires Inv-loop μ-loop
+print-table-requires c κs = search needs
+
+returns : tie.Need-returns Inv-loop μ-loop
+returns c = search needs
+
+pub main-spec : {M : Type 1} → statement M
+main-spec =
+    tie.close
+    (tie.spec
+    Inv-loop
+    μ-loop
+    before-lines-requires
+    arg-count-requires
+    loop-holds
+    try-argument-requires
+    add-i
+    loop-less
+    loop-again
+    print-table-requires
+    returns)
