@@ -65,6 +65,43 @@ uint32_t cb_start(uint8_t *state, size_t state_len);
 uint32_t cb_intake(uint8_t *state, size_t state_len, const uint8_t *piece, size_t piece_len,
                    uint8_t *output, size_t output_len);
 
+/*
+ * Text: the entries from here on are in libcapi.a.
+ *
+ * A code point is 16 bits; the default alphabet is GSM 03.38's. Memory that a call is lent to write may not overlap
+ * anything else that it is given.
+ */
+#define CB_TEXT 93 /* characters of a page, and code points that cb_read_text writes */
+
+#define CB_TEXT_LENGTH      10 /* refused: over 93 characters */
+#define CB_NOT_IN_ALPHABET  11 /* refused: a character that the default alphabet doesn't have */
+#define CB_ENDS_IN_CR       12 /* refused: the text ends in CR */
+#define CB_SCHEME           13 /* refused: coding scheme above 0F */
+#define CB_PAGE_PARAMETER   14 /* refused: a zero half, or a page over the total; GSM 03.41, 9.3.2 */
+#define CB_MESSAGE_LENGTH   16 /* refused: the page isn't 88 octets long */
+#define CB_RECEIVED_OCTETS  18 /* refused: the received octets aren't 22, 44, 66 or 88 */
+
+/* What cb_write_text returns is number + 256 * used octets, and cb_read_text number + 256 * characters. */
+#define CB_NUMBER(returned) ((uint32_t)(returned) & 0xFFu)
+#define CB_COUNT(returned)  ((uint32_t)(returned) >> 8) /* 0 with a refusal */
+
+/*
+ * Writes a page of 88 octets: header, high octets first, and the text packed, with CR after it up to 93 characters.
+ *
+ *   0                           page: the page; the count is its used octets, 6 to 88
+ *   15, 13, 14, 10, 11, 12      page: untouched; the first of these that applies, in this order
+ */
+uint32_t cb_write_text(uint16_t serial, uint16_t identifier, uint8_t scheme, uint8_t parameter,
+                       const uint16_t *text, size_t text_len, uint8_t *page, size_t page_len);
+
+/*
+ * Reads the text of what was received of a page. The CRs at its end are dropped.
+ *
+ *   0                           text: the count's characters, then 0 up to 93
+ *   15, 16, 18, 13              text: untouched; the first of these that applies, in this order
+ */
+uint32_t cb_read_text(const uint8_t *page, size_t page_len, size_t received, uint16_t *text, size_t text_len);
+
 #ifdef __cplusplus
 }
 #endif

@@ -1,0 +1,123 @@
+/* Text as it is written and read in C without proofs: what cb_write_text and cb_read_text are measured beside. */
+#include "plain_text.h"
+
+#include <string.h>
+
+enum { PAGE = 88, HEADER = 6, CONTENT = 82, TEXT = 93, CR = 0x0D, ESCAPE = 0x1B, NONE = 0xFF, CODES = 0x3AA };
+
+/* GSM 03.38, the default alphabet: the code point of each septet. */
+static const uint16_t code_points[128] = {
+    0x0040, 0x00A3, 0x0024, 0x00A5, 0x00E8, 0x00E9, 0x00F9, 0x00EC,
+    0x00F2, 0x00C7, 0x000A, 0x00D8, 0x00F8, 0x000D, 0x00C5, 0x00E5,
+    0x0394, 0x005F, 0x03A6, 0x0393, 0x039B, 0x03A9, 0x03A0, 0x03A8,
+    0x03A3, 0x0398, 0x039E, 0x0020, 0x00C6, 0x00E6, 0x00DF, 0x00C9,
+    0x0020, 0x0021, 0x0022, 0x0023, 0x00A4, 0x0025, 0x0026, 0x0027,
+    0x0028, 0x0029, 0x002A, 0x002B, 0x002C, 0x002D, 0x002E, 0x002F,
+    0x0030, 0x0031, 0x0032, 0x0033, 0x0034, 0x0035, 0x0036, 0x0037,
+    0x0038, 0x0039, 0x003A, 0x003B, 0x003C, 0x003D, 0x003E, 0x003F,
+    0x00A1, 0x0041, 0x0042, 0x0043, 0x0044, 0x0045, 0x0046, 0x0047,
+    0x0048, 0x0049, 0x004A, 0x004B, 0x004C, 0x004D, 0x004E, 0x004F,
+    0x0050, 0x0051, 0x0052, 0x0053, 0x0054, 0x0055, 0x0056, 0x0057,
+    0x0058, 0x0059, 0x005A, 0x00C4, 0x00D6, 0x00D1, 0x00DC, 0x00A7,
+    0x00BF, 0x0061, 0x0062, 0x0063, 0x0064, 0x0065, 0x0066, 0x0067,
+    0x0068, 0x0069, 0x006A, 0x006B, 0x006C, 0x006D, 0x006E, 0x006F,
+    0x0070, 0x0071, 0x0072, 0x0073, 0x0074, 0x0075, 0x0076, 0x0077,
+    0x0078, 0x0079, 0x007A, 0x00E4, 0x00F6, 0x00F1, 0x00FC, 0x00E0,
+};
+
+static uint8_t septets_of[CODES];
+
+void plain_text_init(void)
+{
+    memset(septets_of, NONE, sizeof septets_of);
+    for (unsigned i = 0; i < 128; i++)
+        if (i != ESCAPE)
+            septets_of[code_points[i]] = (uint8_t)i;
+}
+
+static void pack(const uint8_t *septets, uint8_t *octets)
+{
+    unsigned bits = 0;
+    unsigned held = 0;
+
+    for (size_t i = 0; i < TEXT; i++) {
+        bits |= (unsigned)septets[i] << held;
+        held += 7;
+        if (held >= 8) {
+            *octets++ = (uint8_t)bits;
+            bits >>= 8;
+            held -= 8;
+        }
+    }
+    *octets = (uint8_t)bits;
+}
+
+static void unpack(const uint8_t *octets, uint8_t *septets, size_t count)
+{
+    unsigned bits = 0;
+    unsigned held = 0;
+
+    for (size_t i = 0; i < count; i++) {
+        if (held < 7) {
+            bits |= (unsigned)*octets++ << held;
+            held += 8;
+        }
+        septets[i] = bits & 0x7F;
+        bits >>= 7;
+        held -= 7;
+    }
+}
+
+uint32_t plain_write_text(uint16_t serial, uint16_t identifier, uint8_t scheme, uint8_t parameter,
+                          const uint16_t *text, size_t text_len, uint8_t *page, size_t page_len)
+{
+    uint8_t septets[TEXT];
+
+    if (page_len != PAGE)
+        return 15;
+    if (scheme > 0x0F)
+        return 13;
+    if (parameter >> 4 == 0 || (parameter & 0x0F) == 0 || parameter >> 4 > (parameter & 0x0F))
+        return 14;
+    if (text_len > TEXT)
+        return 10;
+    for (size_t i = 0; i < text_len; i++) {
+        if (text[i] >= CODES || septets_of[text[i]] == NONE)
+            return 11;
+        septets[i] = septets_of[text[i]];
+    }
+    if (text_len > 0 && text[text_len - 1] == CR)
+        return 12;
+    memset(septets + text_len, CR, TEXT - text_len);
+    page[0] = (uint8_t)(serial >> 8);
+    page[1] = (uint8_t)serial;
+    page[2] = (uint8_t)(identifier >> 8);
+    page[3] = (uint8_t)identifier;
+    page[4] = scheme;
+    page[5] = parameter;
+    pack(septets, page + HEADER);
+    return 256 * (HEADER + (uint32_t)(7 * text_len + 7) / 8);
+}
+
+uint32_t plain_read_text(const uint8_t *page, size_t page_len, size_t received, uint16_t *text, size_t text_len)
+{
+    uint8_t septets[TEXT];
+    size_t count;
+
+    if (text_len != TEXT)
+        return 15;
+    if (page_len != PAGE)
+        return 16;
+    if (received != 22 && received != 44 && received != 66 && received != 88)
+        return 18;
+    if (page[4] > 0x0F)
+        return 13;
+    count = (received - HEADER) * 8 / 7;
+    unpack(page + HEADER, septets, count);
+    while (count > 0 && septets[count - 1] == CR)
+        count--;
+    for (size_t i = 0; i < count; i++)
+        text[i] = code_points[septets[i]];
+    memset(text + count, 0, (TEXT - count) * sizeof *text);
+    return 256 * (uint32_t)count;
+}

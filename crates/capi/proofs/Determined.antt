@@ -1,0 +1,20 @@
+-- Calls that meet a contract of `capi` return the same number and leave the same memory.
+use mathlib.Core.Path.{_≡_, sym, ap, _∙_}
+use mathlib.Core.List.{List}
+use Prim.Native.Nat.{ℕ}
+use Rattle.page.specs.Paper.{Heading}
+use Rattle.capi.specs.Paper.{Left, writeCall, readCall}
+
+-- two calls that leave the same
+both : (r s : ℕ) (x y : List ℕ) (l : Left) → record { returned = r; memory = x } ≡ l → record { returned = s; memory = y } ≡ l → (r ≡ s) × (x ≡ y)
+both r s x y l a b =
+    let e = a ∙ sym b in
+    (ap (λ (z : Left). z .returned) e, ap (λ (z : Left). z .memory) e)
+
+pub determined-cb-write-text : (h : Heading) (t p : List ℕ) (r s : ℕ) (x y : List ℕ)
+    → record { returned = r; memory = x } ≡ writeCall h t p → record { returned = s; memory = y } ≡ writeCall h t p → (r ≡ s) × (x ≡ y)
+determined-cb-write-text h t p r s x y a b = both r s x y (writeCall h t p) a b
+
+pub determined-cb-read-text : (p : List ℕ) (n : ℕ) (t : List ℕ) (r s : ℕ) (x y : List ℕ)
+    → record { returned = r; memory = x } ≡ readCall p n t → record { returned = s; memory = y } ≡ readCall p n t → (r ≡ s) × (x ≡ y)
+determined-cb-read-text p n t r s x y a b = both r s x y (readCall p n t) a b

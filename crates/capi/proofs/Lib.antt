@@ -1,0 +1,3 @@
+-- What `capi` proves.
+pub mod Determined
+pub mod Packed

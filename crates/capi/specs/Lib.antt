@@ -1,0 +1,2 @@
+-- What `capi` defines.
+pub mod Paper
