@@ -10,7 +10,8 @@ use lib.Dec.{eqb, ltb}
 use lib.ListN.{length, getD}
 use borrow.Author.Tests.{eqb-true, eqb-false, ltb-true, ne-eqb, not-true}
 use Rattle.laws.specs.Table.{every}
-use Rattle.laws.proofs.Table.{both, at}
+use Rattle.laws.proofs.Table.{at}
+use Rattle.laws.proofs.Tests.{both}
 use Rattle.alphabet.specs.Paper.{alphabet, codePoint, septetOf, sought, noSeptet}
 
 -- the test of a septet s with its code point x: s is found again, unless it is 1B

@@ -1,2 +1,3 @@
+-- What `alphabet` proves.
 pub mod Determined
 pub mod Laws

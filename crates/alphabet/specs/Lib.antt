@@ -1,1 +1,2 @@
+-- What `alphabet` defines.
 pub mod Paper

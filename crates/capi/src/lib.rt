@@ -1,6 +1,5 @@
 // Entries for C beside those of `firmware`: numbers come back packed, and slices go in as a pointer and a length.
 ghost use mathlib.Core.Path.{_≡_};
-ghost use Rattle.text.specs.Paper.{written, reading};
 ghost use Rattle.capi.specs.Paper.{writeCall, readCall};
 use page::MessageId;
 use page::Serial;

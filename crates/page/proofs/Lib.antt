@@ -1,3 +1,4 @@
+-- What `page` proves.
 pub mod Determined
 pub mod HeaderBack
 pub mod Received

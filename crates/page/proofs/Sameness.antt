@@ -4,7 +4,7 @@ use mathlib.Core.Bool.{Bool, true, false, false≢true}
 use mathlib.Core.Logic.{_⊎_, inl, inr}
 use lib.Dec.{eqb}
 use borrow.Author.Tests.{eq-eqb, eqb-true}
-use Rattle.laws.proofs.Table.{both}
+use Rattle.laws.proofs.Tests.{both}
 use Rattle.page.specs.Paper.{Name, samePage}
 
 -- a and b are the same page

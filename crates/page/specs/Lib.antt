@@ -1,2 +1,3 @@
+-- What `page` defines.
 pub mod Coded
 pub mod Paper

@@ -14,7 +14,7 @@ use borrow.Author.Tests.{eqb-false}
 use Rattle.laws.specs.Radix.{value, Below}
 use Rattle.laws.proofs.Parts.{drop-take, take-replicate}
 use Rattle.laws.proofs.Radix.{length-digits, take-digits, digits-front, digits-kept, power-bits}
-use Rattle.laws.proofs.Table.{neither}
+use Rattle.laws.proofs.Tests.{neither}
 use Rattle.alphabet.specs.Paper.{codePoint, septetOf, noSeptet}
 use Rattle.alphabet.proofs.Laws.{Writes, reads-cr}
 use Rattle.page.specs.Paper.{Heading, headerOctets, octet, wholeBlocks}

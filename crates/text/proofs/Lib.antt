@@ -1,3 +1,4 @@
+-- What `text` proves.
 pub mod Accepted
 pub mod Back
 pub mod Bits

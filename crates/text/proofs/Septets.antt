@@ -12,7 +12,8 @@ use Rattle.laws.specs.Radix.{Below}
 use Rattle.laws.specs.Table.{onto}
 use Rattle.laws.proofs.Parts.{drop-replicate}
 use Rattle.laws.proofs.Radix.{below-nil, below-cons, below-append, below-replicate}
-use Rattle.laws.proofs.Table.{neither, onto-room}
+use Rattle.laws.proofs.Table.{onto-room}
+use Rattle.laws.proofs.Tests.{neither}
 use Rattle.alphabet.specs.Paper.{septetOf, noSeptet}
 use Rattle.alphabet.proofs.Laws.{Writes, found}
 use Rattle.text.specs.Paper.{cr, septets, foreign}

@@ -9,7 +9,7 @@ use lib.Dec.{eqb}
 use lib.ListN.{length, getD, take, replicate, length-append}
 use lib.Seq.{take-suc, take-at}
 use borrow.Author.Tests.{ne-eqb, eqb-true}
-use Rattle.laws.proofs.Table.{both}
+use Rattle.laws.proofs.Tests.{both}
 use Rattle.text.specs.Paper.{cr, trimmed}
 
 empty : (s : List ℕ) → length s ≡ 0 → s ≡ []

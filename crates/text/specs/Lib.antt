@@ -1,3 +1,4 @@
+-- What `text` defines.
 pub mod Coded
 pub mod Inner
 pub mod Paper
