@@ -9,18 +9,22 @@ ghost use Rattle.block.specs.Place.{placeOf};
 ghost use Rattle.block.specs.Coded.{kindOf, sentOf, held, heldOf, givenOf, placed, leaving, outcome, Adds};
 use answer::Refusal;
 
-// 000 3.3.1: the octets of a block's content, of a message, of a block and of four blocks.
+// 000 3.1: octets of a block's content.
 const CONTENT: usize = 22;
 
+// 000 3.1: octets of a message.
 const MESSAGE: usize = 88;
 
+// 000 3.1: octets of a block, its type octet and its content.
 const BLOCK: usize = 23;
 
+// 000 3.1: octets of the four blocks of a message.
 const BLOCKS: usize = 92;
 
-// 000 3.4: the octet that stands where nothing was sent.
+// 000 3.4: what stands where nothing was sent.
 const FILLER: u8 = 0x2B;
 
+// 000 3.4, 3.5: what a message is.
 pub enum Kind {
     Page,
     Schedule,
@@ -93,6 +97,7 @@ pub struct State {
     pub octets: [u8; 88],
 }
 
+// The state before the first piece.
 pub fn start() -> State
     ensures { λ r. ⌜ heldOf r ≡ startOf ⌝ }
 {

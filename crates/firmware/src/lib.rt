@@ -10,12 +10,16 @@ ghost use Rattle.firmware.specs.Paper.{lent, heldIn, moved, startCall, i
 use answer::Refusal;
 use block::Place;
 
+// Octets of a lent state: kind, blocks taken, and a message.
 const STATE: usize = 90;
 
+// 000 3.1: octets of a message.
 const MESSAGE: usize = 88;
 
+// 000 3.1: octets of a block's content.
 const CONTENT: usize = 22;
 
+// 000 3.4: what stands where nothing was sent.
 const FILLER: u8 = 0x2B;
 
 // Makes a state as it must be before the first piece.
@@ -84,6 +88,7 @@ fn clear(state: &mut [u8])
     state[1] = 0;
 }
 
+// One octet everywhere.
 fn fill(memory: &mut [u8], octet: u8)
     ensures { λ _. ⌜ now (memory .exit) ≡ replicate (length (now (memory .entry))) octet ⌝ }
 {
