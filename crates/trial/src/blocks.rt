@@ -11,6 +11,9 @@ pub(crate) struct Boards {
     pub held: State,
     // whether the last piece was answered as stored
     pub right: bool,
+    // what was handed out at the last piece, and the octets received
+    pub octets: [u8; 88],
+    pub received: usize,
 }
 
 pub(crate) fn start() -> Boards {
@@ -20,6 +23,8 @@ pub(crate) fn start() -> Boards {
         lent,
         held: block::start(),
         right,
+        octets: [0x2B; 88],
+        received: 0,
     }
 }
 
@@ -59,7 +64,13 @@ pub(crate) fn take(boards: Boards, octets: &[u8]) -> Boards {
     let reply = block::intake(boards.held, &octets[2..]);
     let right = is_answered(octets[0], octets[1], returned, reply, &output);
     let held = reply.state;
-    Boards { lent, held, right }
+    Boards {
+        lent,
+        held,
+        right,
+        octets: output,
+        received: reply.received,
+    }
 }
 
 // Whether both intakes answer so, and hand out the same octets.

@@ -5,8 +5,17 @@
 //     B kind used message blocks    the message is written as these blocks; kind 00 for a page, 01 for a schedule
 //     S                             both intakes start anew
 //     P answer received piece       both intakes answer the piece so, and hand out the same octets
+//     T codes                       what was handed out last reads as this text
+//     A septet code                 the alphabet has this code point for the septet
+//     K count septets packed        the septets are packed as these octets, and back
+//     W page used serial identifier scheme parameter count codes
+//                                   the text is written as this page, and the page reads as this text
+//     R answer scheme parameter count codes
+//                                   the writer refuses the text so, and leaves the page as it was
+// A code is a code point, two octets, high octet first.
 mod blocks;
 mod hex;
+mod texts;
 
 ghost use Prim.Native.Nat.{_<_};
 use blocks::Boards;
@@ -18,13 +27,23 @@ const TOO_LONG: usize = 4097;
 const ROOM: usize = 2048;
 
 // The rows of the table: one for each letter with a result, and one for lines and files that cannot be read.
-const ROWS: usize = 3;
+const ROWS: usize = 8;
 
 const BLOCKS: usize = 0;
 
 const PIECES: usize = 1;
 
-const UNREAD: usize = 2;
+const TEXTS: usize = 2;
+
+const ALPHABET: usize = 3;
+
+const PACKING: usize = 4;
+
+const PAGES: usize = 5;
+
+const REFUSALS: usize = 6;
+
+const UNREAD: usize = 7;
 
 struct Run {
     // the number of the line at hand, its length so far, and whether it is as stored
@@ -66,6 +85,11 @@ fn print_table(run: Run) {
     print(b"what tried differ\n");
     print_row(b"blocks", tried[BLOCKS], differ[BLOCKS]);
     print_row(b"pieces", tried[PIECES], differ[PIECES]);
+    print_row(b"texts", tried[TEXTS], differ[TEXTS]);
+    print_row(b"alphabet", tried[ALPHABET], differ[ALPHABET]);
+    print_row(b"packing", tried[PACKING], differ[PACKING]);
+    print_row(b"pages", tried[PAGES], differ[PAGES]);
+    print_row(b"refusals", tried[REFUSALS], differ[REFUSALS]);
     print_row(b"unread", tried[UNREAD], differ[UNREAD]);
 }
 
@@ -196,6 +220,11 @@ fn try_letter(run: Run, letter: u8, octets: &[u8]) -> Run {
         b'B' => counted(run, BLOCKS, blocks::is_written(octets)),
         b'P' => try_piece(run, octets),
         b'S' => start_anew(run, octets),
+        b'T' => try_handed_out(run, octets),
+        b'A' => counted(run, ALPHABET, texts::is_in_alphabet(octets)),
+        b'K' => counted(run, PACKING, texts::is_packed(octets)),
+        b'W' => counted(run, PAGES, texts::is_page(octets)),
+        b'R' => counted(run, REFUSALS, texts::is_refused(octets)),
         _ => counted(run, UNREAD, false),
     }
 }
@@ -216,6 +245,12 @@ fn try_piece(run: Run, octets: &[u8]) -> Run {
     let boards = blocks::take(run.boards, octets);
     next.boards = boards;
     counted(next, PIECES, boards.right)
+}
+
+fn try_handed_out(run: Run, octets: &[u8]) -> Run {
+    let boards = run.boards;
+    let page = boards.octets;
+    counted(run, TEXTS, texts::is_text(&page, boards.received, octets))
 }
 
 // Counts a result in its row of the table.
