@@ -7,12 +7,12 @@
 //     P answer received piece       both intakes answer the piece so, and hand out the same octets
 //     T codes                       what was handed out last reads as this text
 //     A septet code                 the alphabet has this code point for the septet
-//     K count septets packed        the septets are packed as these octets, and back
+//     K count septets packed        the septets are packed as these octets, and read from them
 //     W page used serial identifier scheme parameter count codes
 //                                   the text is written as this page, and the page reads as this text
 //     R answer scheme parameter count codes
 //                                   the writer refuses the text so, and leaves the page as it was
-// A code is a code point, two octets, high octet first.
+// Codes are code points, two octets each, high octet first.
 mod blocks;
 mod hex;
 mod texts;

@@ -63,6 +63,9 @@ fn page_of(content: &[u8]) -> [u8; 88]
 // The page must read as the text of the septets with @, whose septet is 00, up to the 93rd character, and that text must
 // be written as the page. A text with septet 1B is only read.
 fn is_packed_page(septets: &[u8], page: &[u8]) -> bool {
+    if !are_septets(septets) {
+        return false;
+    }
     let mut codes = [0x40; 93];
     alphabet::code_points(septets, &mut codes);
     if !is_read(page, 88, 93, &codes) {
@@ -72,6 +75,18 @@ fn is_packed_page(septets: &[u8], page: &[u8]) -> bool {
         return true;
     }
     is_written(page, heading_of(0, 0, 0, 0x11), 88, &codes)
+}
+
+// The library takes the low seven bits of an octet for its septet, so a wrong eighth bit is told here.
+fn are_septets(octets: &[u8]) -> bool {
+    let mut i = 0;
+    while i < octets.len() {
+        if octets[i] > 0x7F {
+            return false;
+        }
+        i += 1;
+    }
+    true
 }
 
 fn has_escape(septets: &[u8]) -> bool {
