@@ -1,0 +1,3 @@
+-- What `plan` proves.
+pub mod Answers
+pub mod Entries
