@@ -1,13 +1,13 @@
 -- `plan::read_plan` meets its contract: each return is the first test that holds.
 use mathlib.Core.Path.{_≡_, sym, ap, _∙_}
-use mathlib.Core.Bool.{Bool, true}
+use mathlib.Core.Bool.{true}
 use lib.ListN.{drop}
 use native.Mathlib.Omega.{arith}
 use borrow.Author.Needs.{needs}
 use borrow.Author.Tests.{not-true, not-false}
 use Rattle.laws.specs.Search.{some}
 use Rattle.page.specs.Paper.{octet}
-use Rattle.plan.specs.Paper.{bad, listed, sixteen, marked}
+use Rattle.plan.specs.Paper.{bad, sixteen, marked}
 use Rattle.plan.proofs.Answers.{read-short, read-mark, read-version, read-count, read-length, read-bad, read-good, front}
 use Rattle.plan.proofs.read_plan.Statement.{statement}
 use Rattle.plan.proofs.read_plan.Tie as tie
