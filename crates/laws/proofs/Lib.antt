@@ -3,6 +3,7 @@ pub mod Bits
 pub mod Parts
 pub mod Radix
 pub mod Ruled
+pub mod Search
 pub mod Snoc
 pub mod Table
 pub mod Tests

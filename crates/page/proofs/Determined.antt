@@ -2,7 +2,7 @@
 use mathlib.Core.Path.{_≡_, sym, ap, _∙_}
 use mathlib.Core.Bool.{Bool}
 use mathlib.Core.List.{List}
-use Prim.Native.Nat.{ℕ}
+use Prim.Native.Nat.{ℕ, _+_, _*_}
 use Rattle.answer.proofs.Inverse.{numberOf-injective, numberOf-positive}
 use Rattle.page.specs.Paper.{Part, header, headerOctets, samePage, handedPart, handedNumber}
 use Rattle.page.specs.Coded.{headingOf, nameOf, numberOfHanding}
@@ -10,6 +10,9 @@ use Rattle.page.specs.declared.Header.{Header}
 use Rattle.page.specs.declared.PageName.{PageName}
 use Rattle.page.specs.declared.Handing.{Handing}
 use Rattle.page.specs.declared.Handing.the-variants.{Handed, Refused}
+
+pub determined-joined : (high low r s : ℕ) → r ≡ high * 256 + low → s ≡ high * 256 + low → r ≡ s
+determined-joined high low r s p q = p ∙ sym q
 
 heading-injective : (r s : Header) → headingOf r ≡ headingOf s → r ≡ s
 heading-injective r s e = λ i. record { serial = record { 0 = e i .serial }; id = record { 0 = e i .id }; scheme = e i .scheme; parameter = e i .parameter }

@@ -33,7 +33,7 @@ pub enum Handing {
 }
 
 // The number of two octets, the high one first.
-fn joined(high: u8, low: u8) -> u16
+pub fn joined(high: u8, low: u8) -> u16
     ensures { λ r. ⌜ r ≡ high * 256 + low ⌝ }
 {
     high as u16 * 256 + low as u16

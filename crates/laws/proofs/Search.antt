@@ -1,0 +1,88 @@
+-- Laws of lists that are searched: turns and ends of the loops that do it, and what is found.
+use mathlib.Core.Path.{_≡_, refl, sym}
+use mathlib.Core.Bool.{Bool, true, false, cond, not, _||_, or-true, or-assoc}
+use mathlib.Core.List.{List, [], _∷_, _++_}
+use Prim.Native.Nat.{ℕ, zero, suc, _+_, _≤_, _<_}
+use native.Mathlib.Nat.{le-of-suc-le-suc, not-suc-le-zero}
+use native.Mathlib.Numerals.{add-one}
+use native.Mathlib.Omega.{arith}
+use lib.ListN.{length, getD, take, drop, drop-of-length-le}
+use lib.Dec.{eqb, eqb·suc-zero}
+use lib.Seq.{take-suc, drop-cons}
+use Rattle.laws.specs.Search.{some, firstFrom}
+
+module _ {A : Type 0} (f : A → Bool) where
+  pub some-append : (xs ys : List A) → some f (xs ++ ys) ≡ (some f xs || some f ys)
+  unfolding some
+  some-append [] ys = refl
+  some-append (x ∷ xs) ys = rw (some-append xs ys) (sym (or-assoc (f x) (some f xs) (some f ys)))
+
+  -- a turn of the loop that looks for an entry that passes
+  pub some-turn : (d : A) (l : List A) (i : ℕ) → i < length l → some f (take i l) ≡ false → f (getD l i d) ≡ false → some f (take (i + 1) l) ≡ false
+  unfolding some
+  some-turn d l i h none e = rw (add-one i, take-suc l i d h, some-append (take i l) (getD l i d ∷ []), none, e)
+
+  -- the loop's end before the list's: an entry that passes is among the first n
+  pub some-found : (d : A) (n : ℕ) (l : List A) (i : ℕ) → i < n → i < length l → f (getD l i d) ≡ true → some f (take n l) ≡ true
+  unfolding some
+  some-found d n [] i h k e = absurd (not-suc-le-zero k)
+  some-found d zero (x ∷ l) i h k e = absurd (not-suc-le-zero h)
+  some-found d (suc n) (x ∷ l) zero h k e = rw e
+  some-found d (suc n) (x ∷ l) (suc i) h k e = rw (some-found d n l i (le-of-suc-le-suc h) (le-of-suc-le-suc k) e) (or-true (f x))
+
+  -- a turn and both ends of the loop that looks for the first entry that passes
+  pub first-next : (d : A) (s : ℕ) (l : List A) (i : ℕ) → i < length l → f (getD l i d) ≡ false → firstFrom f s (drop i l) ≡ firstFrom f (s + 1) (drop (i + 1) l)
+  unfolding firstFrom
+  first-next d s l i h e = rw (drop-cons l i d h, e, add-one s, add-one i)
+
+  pub first-here : (d : A) (s : ℕ) (l : List A) (i : ℕ) → i < length l → f (getD l i d) ≡ true → firstFrom f s (drop i l) ≡ s
+  unfolding firstFrom
+  first-here d s l i h e = rw (drop-cons l i d h, e)
+
+  pub first-end : (s : ℕ) (l : List A) (i : ℕ) → length l ≤ i → firstFrom f s (drop i l) ≡ 0
+  unfolding firstFrom
+  first-end s l i h = rw (drop-of-length-le l h)
+
+  -- something is found exactly where some entry passes
+  pub found-some : (s : ℕ) (l : List A) → not (eqb (firstFrom f (suc s) l) 0) ≡ some f l
+  unfolding firstFrom some
+  found-some s [] = refl
+  found-some s (x ∷ l) = go (λ (t : ℕ). found-some t l) (f x)
+    where
+      go : ((t : ℕ) → not (eqb (firstFrom f (suc t) l) 0) ≡ some f l) → (b : Bool) → not (eqb (cond b (suc s) (firstFrom f (suc (suc s)) l)) 0) ≡ (b || some f l)
+      go rest true = rw eqb·suc-zero
+      go rest false = rest (suc s)
+
+  -- what a search found: nothing where no entry passes, or the first that does
+  pub data Found (d : A) (s : ℕ) (l : List A) (r : ℕ) : Type 0 where
+    none-passes : r ≡ 0 → ((i : ℕ) → i < length l → f (getD l i d) ≡ false) → Found d s l r
+    first-passes : (i : ℕ) → r ≡ s + i → i < length l → f (getD l i d) ≡ true → ((j : ℕ) → j < i → f (getD l j d) ≡ false) → Found d s l r
+
+  pub searched : (d : A) (s : ℕ) (l : List A) → Found d s l (firstFrom f s l)
+  unfolding firstFrom
+  searched d s [] = none-passes refl (λ i h. absurd (not-suc-le-zero h))
+  searched d s (x ∷ l) = go (f x) refl (searched d (suc s) l)
+    where
+      each : f x ≡ false → (n : ℕ) → ((i : ℕ) → i < n → f (getD l i d) ≡ false) → (i : ℕ) → i < suc n → f (getD (x ∷ l) i d) ≡ false
+      each own n rest zero h = own
+      each own n rest (suc i) h = rest i (le-of-suc-le-suc h)
+
+      later : f x ≡ false → (r : ℕ) → Found d (suc s) l r → Found d s (x ∷ l) r
+      later own r (none-passes e rest) = none-passes e (each own (length l) rest)
+      later own r (first-passes i e h p rest) = first-passes (suc i) (omega arith) (omega arith) p (each own i rest)
+
+      go : (b : Bool) → f x ≡ b → Found d (suc s) l (firstFrom f (suc s) l) → Found d s (x ∷ l) (cond b s (firstFrom f (suc s) l))
+      go true e r = first-passes zero (omega arith) (omega arith) e (λ j h. absurd (not-suc-le-zero h))
+      go false e r = later e (firstFrom f (suc s) l) r
+
+-- two tests that agree find the same
+module _ {A : Type 0} (f g : A → Bool) (agree : (x : A) → f x ≡ g x) where
+  pub some-agree : (l : List A) → some f l ≡ some g l
+  unfolding some
+  some-agree [] = refl
+  some-agree (x ∷ l) = rw (agree x, some-agree l)
+
+  pub first-agree : (s : ℕ) (l : List A) → firstFrom f s l ≡ firstFrom g s l
+  unfolding firstFrom
+  first-agree s [] = refl
+  first-agree s (x ∷ l) = rw (agree x, first-agree (suc s) l)

@@ -1,0 +1,60 @@
+-- Answers that meet a contract of `plan` are equal.
+use mathlib.Core.Path.{_≡_, refl, sym, ap, _∙_}
+use mathlib.Core.Bool.{Bool, cond}
+use mathlib.Core.List.{List, [], _∷_, map}
+use Prim.Native.Nat.{ℕ}
+use lib.Dec.{eqb}
+use borrow.Author.Tests.{ne-eqb}
+use Rattle.answer.specs.Number.{numberOf}
+use Rattle.answer.proofs.Inverse.{refusalOf, refusalOf-numberOf, numberOf-positive}
+use Rattle.page.specs.Coded.{nameOf}
+use Rattle.page.specs.declared.PageName.{PageName}
+use Rattle.plan.specs.declared.Entry.{Entry as EntryCode}
+use Rattle.plan.specs.declared.Plan.{Plan as PlanCode}
+use Rattle.plan.specs.declared.Verdict.{Verdict}
+use Rattle.plan.specs.declared.Verdict.the-variants.{Good, Refused}
+use Rattle.plan.specs.declared.Reading.{Reading}
+use Rattle.plan.specs.Paper.{Entry, Plan, Read, empty, planNumber, readPlan, lowestSlot, hasPage}
+use Rattle.plan.specs.Coded.{entriesOf, planOf, verdictOf, readingOf}
+
+-- the code's entry, plan and verdict by the paper's
+abbrev entryFrom : Entry → EntryCode
+entryFrom e = record { kind = e .kind; serial = record { 0 = e .serial }; id = record { 0 = e .id }; parameter = e .parameter }
+
+entriesFrom-entriesOf : (es : List EntryCode) → map entryFrom (entriesOf es) ≡ es
+entriesFrom-entriesOf [] = refl
+entriesFrom-entriesOf (e ∷ es) = ap (λ (l : List EntryCode). e ∷ l) (entriesFrom-entriesOf es)
+
+plan-injective : (r s : PlanCode) → planOf r ≡ planOf s → r ≡ s
+plan-injective r s e =
+    let entries = sym (entriesFrom-entriesOf (r .entries)) ∙ ap (λ (p : Plan). map entryFrom (p .entries)) e ∙ entriesFrom-entriesOf (s .entries) in
+    λ i. record { count = e i .count; entries = entries i }
+
+abbrev verdictFrom : ℕ → Verdict
+verdictFrom n = cond (eqb n 0) Good (Refused (refusalOf n))
+
+verdictFrom-verdictOf : (v : Verdict) → verdictFrom (verdictOf v) ≡ v
+verdictFrom-verdictOf Good = refl
+verdictFrom-verdictOf (Refused r) = rw (ne-eqb (numberOf r) 0 (numberOf-positive r)) (ap Refused (refusalOf-numberOf r))
+
+verdict-injective : (r s : Verdict) → verdictOf r ≡ verdictOf s → r ≡ s
+verdict-injective r s e = sym (verdictFrom-verdictOf r) ∙ ap verdictFrom e ∙ verdictFrom-verdictOf s
+
+pub determined-empty-plan : (r s : PlanCode) → planOf r ≡ empty → planOf s ≡ empty → r ≡ s
+determined-empty-plan r s a b = plan-injective r s (a ∙ sym b)
+
+pub determined-plan-answer : (plan : PlanCode) (r s : Verdict) → verdictOf r ≡ planNumber (planOf plan) → verdictOf s ≡ planNumber (planOf plan) → r ≡ s
+determined-plan-answer plan r s a b = verdict-injective r s (a ∙ sym b)
+
+pub determined-read-plan : (file : List ℕ) (r s : Reading) → readingOf r ≡ readPlan file → readingOf s ≡ readPlan file → r ≡ s
+determined-read-plan file r s a b =
+    let e = a ∙ sym b in
+    let verdict = verdict-injective (r .verdict) (s .verdict) (ap (λ (x : Read). x .number) e) in
+    let plan = plan-injective (r .plan) (s .plan) (ap (λ (x : Read). x .plan) e) in
+    λ i. record { verdict = verdict i; plan = plan i }
+
+pub determined-lowest-slot : (plan : PlanCode) (name : PageName) (r s : ℕ) → r ≡ lowestSlot (planOf plan) (nameOf name) → s ≡ lowestSlot (planOf plan) (nameOf name) → r ≡ s
+determined-lowest-slot plan name r s a b = a ∙ sym b
+
+pub determined-has-page : (plan : PlanCode) (name : PageName) (r s : Bool) → r ≡ hasPage (planOf plan) (nameOf name) → s ≡ hasPage (planOf plan) (nameOf name) → r ≡ s
+determined-has-page plan name r s a b = a ∙ sym b

@@ -1,0 +1,6 @@
+-- What `plan` proves.
+pub mod Answers
+pub mod Determined
+pub mod Entries
+pub mod FileBack
+pub mod Slots

@@ -1,0 +1,87 @@
+-- Laws of the slots of a page. Of the sameness of pages they use only that it is decided, an equivalence, and keeps the identifier.
+use mathlib.Core.Path.{_≡_, refl, sym, _∙_}
+use mathlib.Core.Bool.{Bool, true, false, not, false≢true}
+use Prim.Native.Nat.{ℕ, suc, _≤_, _<_}
+use native.Mathlib.Omega.{arith}
+use lib.Dec.{eqb}
+use lib.ListN.{length, getD}
+use borrow.Author.Tests.{eqb-true, eq-eqb}
+use Rattle.laws.proofs.Search.{found-some, Found, none-passes, first-passes, searched, some-agree, first-agree}
+use Rattle.laws.proofs.Tests.{both}
+use Rattle.page.specs.Paper.{Name, samePage}
+use Rattle.page.proofs.Sameness.{Same, same-reflexive, same-symmetric, same-transitive, same-identifier}
+use Rattle.plan.specs.Paper.{Entry, Plan, free, within, pageOf, holds, lowestSlot, hasPage}
+
+-- an entry that holds a page is one of kind 2 whose page is the same
+pub holds-kind : (x : Name) (e : Entry) → holds x e ≡ true → (e .kind ≡ 2) × Same (pageOf e) x
+unfolding holds
+holds-kind x e h = let b = both (eqb (e .kind) 2) (samePage (pageOf e) x) h in (eqb-true (e .kind) 2 (b .0), b .1)
+
+pub kind-holds : (x : Name) (e : Entry) → e .kind ≡ 2 → Same (pageOf e) x → holds x e ≡ true
+unfolding holds
+kind-holds x e k s = simp (eq-eqb (e .kind) 2 k, s)
+
+-- an entry of kind 2 holds its own page
+pub holds-own : (e : Entry) → e .kind ≡ 2 → holds (pageOf e) e ≡ true
+holds-own e k = kind-holds (pageOf e) e k (same-reflexive (pageOf e))
+
+-- what an entry holds has its identifier
+pub holds-identifier : (x : Name) (e : Entry) → holds x e ≡ true → e .id ≡ x .id
+holds-identifier x e h = same-identifier (pageOf e) x (holds-kind x e h .1)
+
+moves : (x y : Name) (e : Entry) → Same x y → holds x e ≡ true → holds y e ≡ true
+moves x y e s h = let k = holds-kind x e h in kind-holds y e (k .0) (same-transitive (pageOf e) x y (k .1) s)
+
+module _ (x y : Name) (s : Same x y) where
+  -- an entry that holds a page holds every page that is the same
+  pub holds-same : (e : Entry) → holds x e ≡ holds y e
+  holds-same e = go (holds x e) (holds y e) refl refl
+    where
+      go : (a b : Bool) → holds x e ≡ a → holds y e ≡ b → a ≡ b
+      go true b p q = sym (moves x y e s p) ∙ q
+      go false true p q = sym p ∙ moves y x e (same-symmetric x y s) q
+      go false false p q = refl
+
+  -- the same page has the same lowest slot, and is in the same plans
+  pub lowest-same : (p : Plan) → lowestSlot p x ≡ lowestSlot p y
+  unfolding lowestSlot
+  lowest-same p = first-agree (holds x) (holds y) holds-same 1 (within p)
+
+  pub has-same : (p : Plan) → hasPage p x ≡ hasPage p y
+  unfolding hasPage
+  has-same p = some-agree (holds x) (holds y) holds-same (within p)
+
+module _ (p : Plan) (x : Name) where
+  -- the slot after i others is within the count and holds the page
+  pub record Has (i : ℕ) : Type 0 where
+    pub inside : i < length (within p)
+    pub holding : holds x (getD (within p) i free) ≡ true
+
+  -- no slot holds the page, or one does and none below it
+  pub data Lowest (s : ℕ) : Type 0 where
+    absent : s ≡ 0 → ((i : ℕ) → Has i → ⊥) → Lowest s
+    lowest : (i : ℕ) → s ≡ suc i → Has i → ((j : ℕ) → j < i → Has j → ⊥) → Lowest s
+
+  pub lowest-slot : Lowest (lowestSlot p x)
+  unfolding lowestSlot
+  lowest-slot = go (searched (holds x) free 1 (within p))
+    where
+      go : {s : ℕ} → Found (holds x) free 1 (within p) s → Lowest s
+      go (none-passes e each) = absent e (λ i h. false≢true (sym (each i (h .inside)) ∙ h .holding))
+      go (first-passes i e h q each) =
+          lowest i (omega arith) (record { inside = h; holding = q }) (λ j k o. false≢true (sym (each j k) ∙ o .holding))
+
+  -- a slot that holds the page is no lower than the lowest
+  pub lowest-reached : (i : ℕ) → Has i → (0 < lowestSlot p x) × (lowestSlot p x ≤ suc i)
+  lowest-reached i h = go (lowestSlot p x) lowest-slot
+    where
+      go : (s : ℕ) → Lowest s → (0 < s) × (s ≤ suc i)
+      go s (absent e none) = absurd (none i h)
+      go s (lowest k e own none) =
+          let least : i < k → ⊥ = λ l. none i l h in
+          (omega arith, omega arith)
+
+  -- a plan has a page exactly where there is a lowest slot with it
+  pub has-lowest : hasPage p x ≡ not (eqb (lowestSlot p x) 0)
+  unfolding hasPage lowestSlot
+  has-lowest = sym (found-some (holds x) 0 (within p))

@@ -1,0 +1,80 @@
+-- `plan::any_bad` meets its contract. The invariant: none of the entries so far is bad.
+use mathlib.Core.Path.{_≡_, refl, sym, ap, _∙_}
+use mathlib.Core.Bool.{false}
+use Prim.Native.Nat.{_-_, _≤_, _<_}
+use lib.ListN.{length, take}
+use native.Mathlib.Omega.{arith}
+use borrow.Author.Needs.{needs}
+use Rattle.laws.specs.Search.{some}
+use Rattle.laws.proofs.Search.{some-turn, some-found}
+use Rattle.plan.specs.Paper.{free, bad}
+use Rattle.plan.specs.Coded.{entriesOf}
+use Rattle.plan.proofs.Entries.{inside, entry-at}
+use Rattle.plan.proofs.any_bad.Statement.{statement}
+use Rattle.plan.proofs.any_bad.Tie as tie
+
+abbrev Inv-loop : tie.InvT-loop
+Inv-loop count entries i₀ i = (i ≤ count) × (some bad (take i (entriesOf entries)) ≡ false)
+
+abbrev μ-loop : tie.MeasureT-loop
+μ-loop count entries i₀ i = count - i
+
+loop-holds : tie.Need-loop-holds Inv-loop μ-loop
+unfolding some
+loop-holds c = (omega arith, refl)
+
+mul-entry : tie.Need-mul-entry Inv-loop μ-loop
+mul-entry c = search needs
+
+array-copy-out-entry : tie.Need-array-copy-out-entry Inv-loop μ-loop
+array-copy-out-entry c = search needs
+
+is-bad-requires : tie.Need-is-bad-requires Inv-loop μ-loop
+is-bad-requires c κs = search needs
+
+returns : tie.Need-returns Inv-loop μ-loop
+returns c =
+    let a = c .before .before .before .before .before .args in
+    let i = c .before .before .before .before .loop .i in
+    let k : i < length (a .t1) = search needs in
+    sym
+    (some-found bad free (a .count) (entriesOf (a .t1)) i (c .before .before .before .loop-test .taken) (inside (a .t1) i k)
+    (ap bad (entry-at (a .t1) i k) ∙ sym (c .before .is-bad .ensures) ∙ c .if1 .taken))
+
+add-i : tie.Need-add-i Inv-loop μ-loop
+add-i c = search needs
+
+loop-less : tie.Need-loop-less Inv-loop μ-loop
+loop-less c = search needs
+
+loop-again : tie.Need-loop-again Inv-loop μ-loop
+loop-again c =
+    let a = c .before .before .before .before .before .args in
+    let l = c .before .before .before .before .loop in
+    let k : l .i < length (a .t1) = search needs in (
+      omega arith,
+      some-turn bad free (entriesOf (a .t1)) (l .i) (inside (a .t1) (l .i) k) (l .inv .1)
+          (ap bad (entry-at (a .t1) (l .i) k) ∙ sym (c .before .is-bad .ensures) ∙ c .if1 .left),
+    )
+
+returns-2 : tie.Need-returns-2 Inv-loop μ-loop
+returns-2 c =
+    let l = c .before .loop in
+    let end : l .i ≡ c .before .before .args .count = omega arith in
+    sym (rw end at (l .inv .1))
+
+pub any-bad-spec : {M : Type 1} → statement M
+any-bad-spec =
+    tie.close
+    (tie.spec
+    Inv-loop
+    μ-loop
+    loop-holds
+    mul-entry
+    array-copy-out-entry
+    is-bad-requires
+    returns
+    add-i
+    loop-less
+    loop-again
+    returns-2)

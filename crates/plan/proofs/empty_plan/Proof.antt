@@ -1,0 +1,11 @@
+-- `plan::empty_plan` meets its contract: one optional entry stands forty-eight times.
+use lib.ListN.{replicate}
+use borrow.Author.Needs.{needs}
+use Rattle.plan.proofs.empty_plan.Statement.{statement}
+use Rattle.plan.proofs.empty_plan.Tie as tie
+
+returns : tie.Need-returns
+returns c = λ i. record { count = 0; entries = replicate 48 (c .free-entry .ensures i) }
+
+pub empty-plan-spec : {M : Type 1} → statement M
+empty-plan-spec = tie.close (tie.spec (λ c κs. search needs) returns)

@@ -1,0 +1,23 @@
+-- `plan::plan_answer` meets its contract: each return is the first test that holds.
+use mathlib.Core.Path.{sym, _∙_}
+use borrow.Author.Needs.{needs}
+use Rattle.plan.specs.Coded.{planOf}
+use Rattle.plan.proofs.Answers.{over, some-bad, none-bad}
+use Rattle.plan.proofs.plan_answer.Statement.{statement}
+use Rattle.plan.proofs.plan_answer.Tie as tie
+
+returns : tie.Need-returns
+returns c = sym (over (planOf (c .before .before .args .plan)) (c .if1 .taken))
+
+returns-2 : tie.Need-returns-2
+returns-2 c =
+    let p = planOf (c .before .before .before .before .before .args .plan) in
+    sym (some-bad p (c .before .before .before .if1 .left) (sym (c .before .any-bad .ensures) ∙ c .if2 .taken))
+
+returns-3 : tie.Need-returns-3
+returns-3 c =
+    let p = planOf (c .before .before .before .before .before .args .plan) in
+    sym (none-bad p (c .before .before .before .if1 .left) (sym (c .before .any-bad .ensures) ∙ c .if2 .left))
+
+pub plan-answer-spec : {M : Type 1} → statement M
+plan-answer-spec = tie.close (tie.spec returns (λ c κs. search needs) returns-2 returns-3)

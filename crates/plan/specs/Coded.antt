@@ -1,0 +1,31 @@
+-- The code's entries, plans and answers as document 01's numbers and lists.
+use Prim.Native.Nat.{ℕ}
+use mathlib.Core.List.{List, map}
+use Rattle.answer.specs.Number.{numberOf}
+use Rattle.plan.specs.Paper.{Entry, Plan, Read}
+use Rattle.plan.specs.declared.Entry.{Entry as EntryCode}
+use Rattle.plan.specs.declared.Plan.{Plan as PlanCode}
+use Rattle.plan.specs.declared.Verdict.{Verdict}
+use Rattle.plan.specs.declared.Verdict.the-variants.{Good, Refused}
+use Rattle.plan.specs.declared.Reading.{Reading}
+
+-- an entry as its numbers
+abbrev pub entryOf : EntryCode → Entry
+entryOf e = record { kind = e .kind; serial = e .serial .0; id = e .id .0; parameter = e .parameter }
+
+-- the entries of an array
+abbrev pub entriesOf : List EntryCode → List Entry
+entriesOf es = map entryOf es
+
+-- a plan as its count and entries
+abbrev pub planOf : PlanCode → Plan
+planOf p = record { count = p .count; entries = entriesOf (p .entries) }
+
+-- 0 for a good plan, or the refusal's number
+abbrev pub verdictOf : Verdict → ℕ
+verdictOf Good = 0
+verdictOf (Refused r) = numberOf r
+
+-- what reading gave: a number and a plan
+abbrev pub readingOf : Reading → Read
+readingOf r = record { number = verdictOf (r .verdict); plan = planOf (r .plan) }

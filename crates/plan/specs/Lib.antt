@@ -1,0 +1,3 @@
+-- What `plan` defines.
+pub mod Coded
+pub mod Paper

@@ -1,0 +1,120 @@
+-- Plans and plan files as document 01 has them, in numbers and lists.
+use Prim.Native.Nat.{ℕ, zero, suc, _+_, _*_, _-_, _/_, _%_}
+use mathlib.Core.Bool.{Bool, not, _&&_, _||_}
+use mathlib.Core.List.{List, [], _∷_, _++_}
+use lib.Dec.{eqb, ltb}
+use lib.ListN.{length, take, drop, replicate}
+use Rattle.laws.specs.Ruled.{ruled}
+use Rattle.laws.specs.Search.{some, firstFrom}
+use Rattle.page.specs.Paper.{Name, octet, samePage}
+
+-- 01 The plan: a slot's entry: a kind (0 optional, 1 advised, 2 page), serial number, message identifier, page parameter
+pub record Entry : Type 0 where
+  pub kind : ℕ
+  pub serial : ℕ
+  pub id : ℕ
+  pub parameter : ℕ
+
+-- 01 The plan: a count of slots, and entries held by value
+pub record Plan : Type 0 where
+  pub count : ℕ
+  pub entries : List Entry
+
+-- 01 The plan: an unused entry is optional
+abbrev pub free : Entry
+free = record { kind = 0; serial = 0; id = 0; parameter = 0 }
+
+-- 01 The plan: forty-eight entries, the unused ones optional
+abbrev pub held : List Entry → Plan
+held es = record { count = length es; entries = es ++ replicate (48 - length es) free }
+
+-- 01 Order: the empty plan, which stands beside a refusal
+abbrev pub empty : Plan
+empty = record { count = 0; entries = replicate 48 free }
+
+-- 01 The plan: the entries within the count; those past it mean nothing
+abbrev pub within : Plan → List Entry
+within p = take (p .count) (p .entries)
+
+-- 01 The plan: all of serial number, message identifier and page parameter 0
+abbrev pub blank : Entry → Bool
+blank e = eqb (e .serial) 0 && (eqb (e .id) 0 && eqb (e .parameter) 0)
+
+-- 01 Numbers given, 33: entry kind over 2, or non-zero octets in kind 0 or 1
+unfoldable pub bad : Entry → Bool
+bad e = ltb 2 (e .kind) || (ltb (e .kind) 2 && not (blank e))
+
+-- 01 The plan: what writer and checker say of a plan by value: a count over 48 gives 32, a bad entry within the count 33
+unfoldable pub planNumber : Plan → ℕ
+planNumber p = ruled (λ n. n) ((ltb 48 (p .count), 32) ∷ (some bad (within p), 33) ∷ []) 0
+
+-- 01 Page and text: 16 bits, high octet first, at octet n
+abbrev pub sixteen : List ℕ → ℕ → ℕ
+sixteen o n = octet o n * 256 + octet o (n + 1)
+
+-- 01 The plan: CBP in ASCII
+abbrev pub marked : List ℕ → Bool
+marked f = eqb (octet f 1) 67 && (eqb (octet f 2) 66 && eqb (octet f 3) 80)
+
+-- 01 The plan: what six octets say of a slot: kind, serial number, message identifier, page parameter
+unfoldable pub entryIn : List ℕ → Entry
+entryIn o = record { kind = octet o 1; serial = sixteen o 2; id = sixteen o 4; parameter = octet o 6 }
+
+-- 01 The plan: n entries, six octets each
+unfoldable pub entriesIn : ℕ → List ℕ → List Entry
+entriesIn zero o = []
+entriesIn (suc n) o = entryIn o ∷ entriesIn n (drop 6 o)
+
+-- 01 The plan: the mark, the version and the count are six octets; the entries follow
+abbrev pub listed : List ℕ → List Entry
+listed f = entriesIn (octet f 6) (drop 6 f)
+
+-- what reading a plan file gives: a number and a plan
+pub record Read : Type 0 where
+  pub number : ℕ
+  pub plan : Plan
+
+-- 01 Order: with a refusal the plan is empty
+abbrev pub refusal : ℕ → Read
+refusal n = record { number = n; plan = empty }
+
+-- 01 Order, a plan: 32 if short, 30, 31, 32, 33
+unfoldable pub readPlan : List ℕ → Read
+readPlan f =
+    ruled refusal
+    ((ltb (length f) 6, 32)
+    ∷ (not (marked f), 30)
+    ∷ (not (eqb (sixteen f 4) 1), 31)
+    ∷ (ltb 48 (octet f 6) || not (eqb (length f) (6 + 6 * octet f 6)), 32)
+    ∷ (some bad (listed f), 33)
+    ∷ [])
+    (record { number = 0; plan = held (listed f) })
+
+-- 01 The plan: the six octets of an entry
+abbrev pub octetsOf : Entry → List ℕ
+octetsOf e = e .kind ∷ e .serial / 256 ∷ e .serial % 256 ∷ e .id / 256 ∷ e .id % 256 ∷ e .parameter ∷ []
+
+-- 01 The plan: the octets of entries, one after the other
+unfoldable pub octetsOfAll : List Entry → List ℕ
+octetsOfAll [] = []
+octetsOfAll (e ∷ es) = octetsOf e ++ octetsOfAll es
+
+-- 01 The plan: the file of a plan of some entries: CBP, version 1, the count, the entries
+abbrev pub fileOf : List Entry → List ℕ
+fileOf es = 67 ∷ 66 ∷ 80 ∷ 0 ∷ 1 ∷ length es ∷ octetsOfAll es
+
+-- 01 Page and text: the page of an entry, by what tells it from others
+abbrev pub pageOf : Entry → Name
+pageOf e = record { serial = e .serial; id = e .id; parameter = e .parameter }
+
+-- 01 The plan: a slot is planned with a page: kind 2, and the same page
+unfoldable pub holds : Name → Entry → Bool
+holds x e = eqb (e .kind) 2 && samePage (pageOf e) x
+
+-- 01 The plan: the lowest slot with a page, slots counted from 1; 0 for none
+unfoldable pub lowestSlot : Plan → Name → ℕ
+lowestSlot p x = firstFrom (holds x) 1 (within p)
+
+-- 01 The plan: a plan has or lacks a page
+unfoldable pub hasPage : Plan → Name → Bool
+hasPage p x = some (holds x) (within p)
