@@ -1,2 +1,3 @@
 -- What `laws` defines.
 pub mod Ruled
+pub mod Upto
