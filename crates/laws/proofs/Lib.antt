@@ -1,5 +1,6 @@
 -- What `laws` proves.
 pub mod Bits
+pub mod Outcome
 pub mod Parts
 pub mod Radix
 pub mod Ruled
@@ -7,3 +8,4 @@ pub mod Search
 pub mod Snoc
 pub mod Table
 pub mod Tests
+pub mod Upto

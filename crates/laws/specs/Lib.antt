@@ -3,3 +3,4 @@ pub mod Radix
 pub mod Ruled
 pub mod Search
 pub mod Table
+pub mod Upto

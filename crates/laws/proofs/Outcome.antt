@@ -1,0 +1,27 @@
+-- What a list of tests settles, whatever the answers that hang on it.
+use mathlib.Core.Path.{_≡_, refl}
+use mathlib.Core.Bool.{Bool, true, false}
+use mathlib.Core.List.{List, [], _∷_, _++_}
+use mathlib.Core.Logic.{inl, inr}
+use Prim.Native.Nat.{ℕ}
+use Rattle.laws.specs.Ruled.{ruled}
+use Rattle.laws.proofs.Ruled.{Among, NoneHolds}
+
+-- either every answer is that of one test's number, or no test holds and every answer is the one past the tests
+pub data Outcome (ts : List (Bool × ℕ)) : Type 1 where
+  refuses : (n : ℕ) → Among n ts → ((A : Type 0) (by : ℕ → A) (x : A) → ruled by ts x ≡ by n) → Outcome ts
+  passes : NoneHolds ts → ((A : Type 0) (by : ℕ → A) (x : A) → ruled by ts x ≡ x) → Outcome ts
+
+pub outcome : (ts : List (Bool × ℕ)) → Outcome ts
+outcome [] = passes tt (λ A by x. refl)
+outcome (t ∷ ts) = go (t .0) refl (outcome ts)
+  where
+    go : (b : Bool) → t .0 ≡ b → Outcome ts → Outcome (t ∷ ts)
+    go true e r = refuses (t .1) (inl refl) (λ A by x. rw e)
+    go false e (refuses n a q) = refuses n (inr a) (λ A by x. rw e (q A by x))
+    go false e (passes h q) = passes (e, h) (λ A by x. rw e (q A by x))
+
+-- tests in two lists, one after the other
+pub ruled-append : {A : Type 0} (by : ℕ → A) (ts us : List (Bool × ℕ)) (x : A) → ruled by (ts ++ us) x ≡ ruled by ts (ruled by us x)
+ruled-append by [] us x = refl
+ruled-append by (t ∷ ts) us x = rw (ruled-append by ts us x)

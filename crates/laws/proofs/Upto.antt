@@ -1,0 +1,154 @@
+-- Laws of the numbers below a bound that pass a test, and of what a function gives at each.
+use mathlib.Core.Path.{_≡_, refl, sym, ap, _∙_}
+use mathlib.Core.Bool.{Bool, true, false, cond, not, false≢true, or-true}
+use mathlib.Core.List.{[], _∷_, _++_}
+use mathlib.Core.Logic.{_⊎_, ⊎-elim}
+use Prim.Native.Nat.{ℕ, zero, suc, _+_, _≤_, _<_}
+use native.Mathlib.Nat.{eq-or-lt-of-le, le-of-suc-le-suc, not-suc-le-zero}
+use native.Mathlib.Numerals.{add-one}
+use native.Mathlib.Omega.{arith}
+use lib.ListN.{length, getD, length-append, List·getD-append}
+use lib.Seq.{getD-at}
+use Rattle.laws.specs.Upto.{some, count, picked, each}
+use Rattle.laws.proofs.Snoc.{length-snoc}
+use Rattle.laws.proofs.Tests.{either}
+
+-- a number below one more is the last one, or below it
+below-suc : {i n : ℕ} → i < suc n → (i ≡ n) ⊎ (i < n)
+below-suc h = eq-or-lt-of-le (le-of-suc-le-suc h)
+
+-- a number below n that passes the test
+pub record Passing (p : ℕ → Bool) (n : ℕ) : Type 0 where
+  pub at : ℕ
+  pub below : at < n
+  pub passes : p at ≡ true
+
+module _ (p : ℕ → Bool) where
+  pub some-none : (n : ℕ) → ((i : ℕ) → i < n → p i ≡ false) → some p n ≡ false
+  unfolding some
+  some-none zero h = refl
+  some-none (suc n) h = rw (some-none n (λ i l. h i (omega arith)), h n (omega arith))
+
+  pub some-at : (n i : ℕ) → i < n → p i ≡ true → some p n ≡ true
+  unfolding some
+  some-at zero i l e = absurd (not-suc-le-zero l)
+  some-at (suc n) i l e = ⊎-elim (λ q. rw (← q, e) (or-true (some p i))) (λ b. rw (some-at n i b e)) (below-suc l)
+
+  -- tests that agree below n have the same verdict
+  pub some-agree : (q : ℕ → Bool) (n : ℕ) → ((i : ℕ) → i < n → p i ≡ q i) → some p n ≡ some q n
+  unfolding some
+  some-agree q zero h = refl
+  some-agree q (suc n) h = rw (some-agree q n (λ i l. h i (omega arith)), h n (omega arith))
+
+  pub some-passing : (n : ℕ) → some p n ≡ true → Passing p n
+  unfolding some
+  some-passing zero e = absurd (false≢true e)
+  some-passing (suc n) e =
+      ⊎-elim
+      (λ q. let w = some-passing n q in record { at = w .at; below = omega arith; passes = w .passes })
+      (λ q. record { at = n; below = omega arith; passes = q })
+      (either (some p n) (p n) e)
+
+  pub count-none : count p 0 ≡ 0
+  unfolding count
+  count-none = refl
+
+  pub count-yes : (n : ℕ) → p n ≡ true → count p (n + 1) ≡ count p n + 1
+  unfolding count
+  count-yes n e = rw (add-one, e)
+
+  pub count-no : (n : ℕ) → p n ≡ false → count p (n + 1) ≡ count p n
+  unfolding count
+  count-no n e = rw (add-one, e) (omega arith)
+
+  count-suc : (n : ℕ) → count p n ≤ count p (suc n)
+  unfolding count
+  count-suc n = omega arith
+
+  pub count-le : (n : ℕ) → count p n ≤ n
+  unfolding count
+  count-le zero = omega arith
+  count-le (suc n) = go (p n) refl (count-le n)
+    where
+      go : (b : Bool) → p n ≡ b → count p n ≤ n → count p n + cond (p n) 1 0 ≤ suc n
+      go true e h = rw e (omega arith)
+      go false e h = rw e (omega arith)
+
+  -- the count grows past a number that passes
+  pub count-grows : (n i : ℕ) → i < n → p i ≡ true → count p i < count p n
+  unfolding count
+  count-grows zero i l e = absurd (not-suc-le-zero l)
+  count-grows (suc n) i l e = ⊎-elim (λ q. rw (← q, e) (omega arith)) (λ b. let h = count-grows n i b e in omega arith) (below-suc l)
+
+  -- a number that passes is known by how many pass before it
+  pub picked-length : (n : ℕ) → length (picked p n) ≡ count p n
+  unfolding picked count
+  picked-length zero = refl
+  picked-length (suc n) = go (p n) refl (picked-length n)
+    where
+      go : (b : Bool) → p n ≡ b → length (picked p n) ≡ count p n → length (picked p n ++ cond (p n) (n ∷ []) []) ≡ count p n + cond (p n) 1 0
+      go true e h = rw (e, length-append) (omega arith)
+      go false e h = rw (e, length-append) (omega arith)
+
+  pub picked-at : (n i : ℕ) → i < n → p i ≡ true → getD (picked p n) (count p i) 0 ≡ i
+  unfolding picked
+  picked-at zero i l e = absurd (not-suc-le-zero l)
+  picked-at (suc n) i l e =
+      ⊎-elim
+      (λ q. rw (← q, e) (getD-at (picked p i) i [] 0 (count p i) (picked-length i)))
+      (λ b.
+      let h : count p i < length (picked p n) = omega (arith, picked-length n, count-grows n i b e) in
+      rw (List·getD-append (picked p n) (cond (p n) (n ∷ []) []) 0 (count p i) h) (picked-at n i b e))
+      (below-suc l)
+
+-- the k-th number that passes, counted from 0
+pub record Placed (p : ℕ → Bool) (n k : ℕ) : Type 0 where
+  pub at : ℕ
+  pub below : at < n
+  pub passes : p at ≡ true
+  pub before : count p at ≡ k
+
+-- as many pass as are counted
+pub count-onto : (p : ℕ → Bool) (n k : ℕ) → k < count p n → Placed p n k
+unfolding count
+count-onto p zero k l = absurd (not-suc-le-zero l)
+count-onto p (suc n) k l = go (p n) refl (λ h. count-onto p n k h)
+  where
+    later : Placed p n k → Placed p (suc n) k
+    later w = record { at = w .at; below = omega arith; passes = w .passes; before = w .before }
+
+    go : (b : Bool) → p n ≡ b → (k < count p n → Placed p n k) → Placed p (suc n) k
+    go true e f =
+        let last : k < suc (count p n) = omega (arith, rw e at l) in
+        ⊎-elim
+        (λ q. record { at = n; below = omega arith; passes = e; before = sym q })
+        (λ h. later (f h))
+        (below-suc last)
+    go false e f = later (f (omega (arith, rw e at l)))
+
+-- those that fail the test make up the rest
+pub count-rest : (p q : ℕ → Bool) → ((i : ℕ) → q i ≡ not (p i)) → (n : ℕ) → count p n + count q n ≡ n
+unfolding count
+count-rest p q h zero = refl
+count-rest p q h (suc n) = go (p n) refl (count-rest p q h n)
+  where
+    go : (b : Bool) → p n ≡ b → count p n + count q n ≡ n → count p n + cond (p n) 1 0 + (count q n + cond (q n) 1 0) ≡ suc n
+    go true e r = rw (h n, e) (omega arith)
+    go false e r = rw (h n, e) (omega arith)
+
+module _ {A : Type 0} (f : ℕ → A) where
+  pub each-length : (n : ℕ) → length (each f n) ≡ n
+  unfolding each
+  each-length zero = refl
+  each-length (suc n) = length-snoc (each f n) (f n) ∙ ap suc (each-length n)
+
+  pub each-at : (n i : ℕ) (d : A) → i < n → getD (each f n) i d ≡ f i
+  unfolding each
+  each-at zero i d l = absurd (not-suc-le-zero l)
+  each-at (suc n) i d l =
+      ⊎-elim
+      (λ q. rw (← q) (getD-at (each f i) (f i) [] d i (each-length i)))
+      (λ b.
+      let h : i < length (each f n) = omega (arith, each-length n) in
+      rw (List·getD-append (each f n) (f n ∷ []) d i h) (each-at n i d b))
+      (below-suc l)

@@ -1,0 +1,24 @@
+-- Numbers below a bound: whether one passes a test, how many do and which, and what a function gives at each.
+use mathlib.Core.Bool.{Bool, false, cond, _||_}
+use mathlib.Core.List.{List, [], _∷_, _++_}
+use Prim.Native.Nat.{ℕ, zero, suc, _+_}
+
+-- some number below n passes the test
+unfoldable pub some : (ℕ → Bool) → ℕ → Bool
+some p zero = false
+some p (suc n) = some p n || p n
+
+-- how many numbers below n pass the test
+unfoldable pub count : (ℕ → Bool) → ℕ → ℕ
+count p zero = 0
+count p (suc n) = count p n + cond (p n) 1 0
+
+-- the numbers below n that pass the test, in their order
+unfoldable pub picked : (ℕ → Bool) → ℕ → List ℕ
+picked p zero = []
+picked p (suc n) = picked p n ++ cond (p n) (n ∷ []) []
+
+-- what a function gives at each number below n, in their order
+unfoldable pub each : {A : Type 0} → (ℕ → A) → ℕ → List A
+each f zero = []
+each f (suc n) = each f n ++ (f n ∷ [])

@@ -1,0 +1,72 @@
+-- The cases of the header: which of its tests answers.
+use mathlib.Core.Path.{_≡_}
+use mathlib.Core.Bool.{true, false, and-false}
+use mathlib.Core.List.{List}
+use Prim.Native.Nat.{ℕ, _≤_, _<_}
+use native.Mathlib.Omega.{arith}
+use lib.ListN.{length}
+use lib.Dec.{eqb}
+use borrow.Author.Tests.{eq-eqb, ne-eqb, le-leb, lt-leb}
+use Rattle.laws.specs.Upto.{some}
+use Rattle.schedule.specs.Paper.{octet, type, begin, end, blocks, within, newPast, Read, unread}
+use Rattle.schedule.specs.Parts.{headRead}
+
+pub blocks-last : (r : ℕ) → (r ≡ 22 → ⊥) → (r ≡ 44 → ⊥) → (r ≡ 66 → ⊥) → eqb r 88 ≡ blocks r
+blocks-last r a b c = rw (ne-eqb r 22 a, ne-eqb r 44 b, ne-eqb r 66 c)
+
+-- the rule of Begin and End by the first octet, where the type is 00
+module _ (m : List ℕ) (low : octet m 0 < 64) where
+  pub within-zero : octet m 0 ≡ 0 → within m ≡ false
+  within-zero h = rw h
+
+  pub within-over : end m < octet m 0 → within m ≡ false
+  within-over h =
+      let over : end m < begin m = omega arith in
+      rw (lt-leb (begin m) (end m) over, and-false)
+
+  pub within-last : 48 < end m → within m ≡ false
+  within-last h = rw (lt-leb (end m) 48 h, and-false, and-false)
+
+  pub within-good : (octet m 0 ≡ 0 → ⊥) → octet m 0 ≤ end m → end m ≤ 48 → within m ≡ true
+  within-good a b c =
+      let some : 1 ≤ begin m = omega arith in
+      let up : begin m ≤ end m = omega arith in
+      rw (le-leb 1 (begin m) some, le-leb (begin m) (end m) up, le-leb (end m) 48 c)
+
+module _ (m : List ℕ) (received : ℕ) where
+  pub head-length : (length m ≡ 88 → ⊥) → unread 16 ≡ headRead m received
+  unfolding headRead
+  head-length h = rw (ne-eqb (length m) 88 h)
+
+  module _ (whole : length m ≡ 88) where
+    pub head-received : blocks received ≡ false → unread 18 ≡ headRead m received
+    unfolding headRead
+    head-received h = rw (eq-eqb (length m) 88 whole, h)
+
+    module _ (sent : blocks received ≡ true) where
+      pub head-type : 64 ≤ octet m 0 → unread 20 ≡ headRead m received
+      unfolding headRead
+      head-type h =
+          let other : type m ≡ 0 → ⊥ = omega arith in
+          rw (eq-eqb (length m) 88 whole, sent, ne-eqb (type m) 0 other)
+
+      module _ (low : octet m 0 < 64) where
+        type-good : type m ≡ 0
+        type-good = omega arith
+
+        pub head-range : within m ≡ false → unread 21 ≡ headRead m received
+        unfolding headRead
+        head-range h = rw (eq-eqb (length m) 88 whole, sent, eq-eqb (type m) 0 type-good, h)
+
+        module _ (ok : within m ≡ true) where
+          pub head-new : some (newPast m) 48 ≡ true → unread 22 ≡ headRead m received
+          unfolding headRead
+          head-new h = rw (eq-eqb (length m) 88 whole, sent, eq-eqb (type m) 0 type-good, ok, h)
+
+          pub head-good : some (newPast m) 48 ≡ false
+              → _≡_ {A = Read} (record { number = 0; begin = octet m 0; end = end m }) (headRead m received)
+          unfolding headRead
+          head-good h =
+              let same : octet m 0 ≡ begin m = omega arith in
+              rw (eq-eqb (length m) 88 whole, sent, eq-eqb (type m) 0 type-good, ok, h)
+              (λ i. record { number = 0; begin = same i; end = end m })

@@ -1,0 +1,58 @@
+-- Laws of the new bits.
+use mathlib.Core.Path.{_≡_, refl, sym, ap, _∙_}
+use mathlib.Core.Bool.{Bool, true, false, not, Bool·beq, false≢true, true≢false}
+use mathlib.Core.List.{List}
+use Prim.Native.Nat.{ℕ, _≤_, _<_}
+use borrow.Author.Tests.{le-leb, lt-leb}
+use Rattle.schedule.specs.Paper.{end, new, newPast, grouped}
+
+beq-same : (a b : Bool) → a ≡ b → Bool·beq a b ≡ true
+beq-same true true e = refl
+beq-same true false e = absurd (true≢false e)
+beq-same false true e = absurd (false≢true e)
+beq-same false false e = refl
+
+beq-other : (a b : Bool) → (a ≡ b → ⊥) → Bool·beq a b ≡ false
+beq-other true true e = absurd (e refl)
+beq-other true false e = refl
+beq-other false true e = refl
+beq-other false false e = absurd (e refl)
+
+beq-true : (a b : Bool) → Bool·beq a b ≡ true → a ≡ b
+beq-true true true e = refl
+beq-true true false e = absurd (false≢true e)
+beq-true false true e = absurd (false≢true e)
+beq-true false false e = refl
+
+beq-flip : (a : Bool) → Bool·beq a false ≡ not (Bool·beq a true)
+beq-flip true = refl
+beq-flip false = refl
+
+module _ (m : List ℕ) (i : ℕ) where
+  -- what is not in the one group is in the other
+  pub grouped-flip : grouped m false i ≡ not (grouped m true i)
+  grouped-flip = beq-flip (new m i)
+
+  pub grouped-own : grouped m (new m i) i ≡ true
+  grouped-own = beq-same (new m i) (new m i) refl
+
+  -- a slot up to End is not past it, and one past End is so by its new bit
+  pub newPast-below : i < end m → newPast m i ≡ false
+  newPast-below h = rw (lt-leb (end m) i h)
+
+  pub newPast-from : (b : Bool) → end m ≤ i → b ≡ new m i → newPast m i ≡ b
+  newPast-from b h e = rw (le-leb (end m) i h) (sym e)
+
+  module _ (b : Bool) where
+    -- a slot is in the group of its new bit, and in no other
+    pub grouped-same : (r : Bool) → r ≡ new m i → r ≡ b → grouped m b i ≡ true
+    grouped-same r e h = beq-same (new m i) b (sym e ∙ h)
+
+    pub grouped-other : (r : Bool) → r ≡ new m i → (r ≡ b → ⊥) → grouped m b i ≡ false
+    grouped-other r e h = beq-other (new m i) b (λ q. h (e ∙ q))
+
+    pub grouped-told : (r v : Bool) → r ≡ new m i → Bool·beq r b ≡ v → grouped m b i ≡ v
+    grouped-told r v e h = ap (λ (x : Bool). Bool·beq x b) (sym e) ∙ h
+
+    pub grouped-is : grouped m b i ≡ true → new m i ≡ b
+    grouped-is e = beq-true (new m i) b e

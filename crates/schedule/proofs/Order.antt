@@ -1,0 +1,36 @@
+-- The order of the descriptions: each slot up to End stands in it once, at its rank.
+use mathlib.Core.Path.{_≡_, refl}
+use mathlib.Core.Bool.{Bool, true, false}
+use mathlib.Core.List.{List}
+use Prim.Native.Nat.{ℕ, _+_, _<_}
+use native.Mathlib.Nat.{zero-add}
+use native.Mathlib.Omega.{arith}
+use lib.ListN.{length, List·getD-append}
+use lib.Seq.{getD-append-add}
+use Rattle.laws.specs.Upto.{count, picked}
+use Rattle.laws.proofs.Upto.{count-grows, count-rest, picked-length, picked-at}
+use Rattle.schedule.specs.Paper.{end, new, grouped, base, rank, order, slotOf}
+use Rattle.schedule.specs.Parts.{Picks}
+use Rattle.schedule.proofs.News.{grouped-flip, grouped-own}
+
+module _ (m : List ℕ) where
+  -- the two groups make up the slots up to End
+  pub groups-whole : count (grouped m true) (end m) + count (grouped m false) (end m) ≡ end m
+  groups-whole = count-rest (grouped m true) (grouped m false) (λ i. grouped-flip m i) (end m)
+
+  -- the slot that the order has after k others of its group
+  pub order-picks : (b : Bool) (k i : ℕ) → Picks m b k i → slotOf m (base m b + k) ≡ i
+  unfolding order
+  order-picks true k i w =
+      let news = picked (grouped m true) (end m) in
+      let inside : k < length news = omega (arith, picked-length (grouped m true) (end m), count-grows (grouped m true) (end m) i (w .below) (w .passes), w .before) in
+      rw (zero-add k, List·getD-append news (picked (grouped m false) (end m)) 0 k inside, ← w .before)
+      (picked-at (grouped m true) (end m) i (w .below) (w .passes))
+  order-picks false k i w =
+      let news = picked (grouped m true) (end m) in
+      rw (← picked-length (grouped m true) (end m), getD-append-add news (picked (grouped m false) (end m)) k 0, ← w .before)
+      (picked-at (grouped m false) (end m) i (w .below) (w .passes))
+
+  -- a slot's rank is its place in the order
+  pub order-rank : (i : ℕ) → i < end m → slotOf m (rank m i) ≡ i
+  order-rank i l = order-picks (new m i) (count (grouped m (new m i)) i) i (record { below = l; passes = grouped-own m i; before = refl })

@@ -1,0 +1,78 @@
+-- Laws of the places where descriptions start, and of one step from place to place.
+use mathlib.Core.Path.{_≡_, refl}
+use mathlib.Core.Bool.{Bool, true, false, cond}
+use mathlib.Core.List.{List}
+use Prim.Native.Nat.{ℕ, zero, suc, _+_, _≤_, _<_}
+use native.Mathlib.Nat.{eq-or-lt-of-le, le-of-suc-le-suc, not-suc-le-zero}
+use native.Mathlib.Numerals.{add-one}
+use native.Mathlib.Omega.{arith}
+use mathlib.Core.Logic.{⊎-elim}
+use lib.Dec.{leb}
+use borrow.Author.Tests.{leb-true, leb-false, le-leb, lt-leb}
+use Rattle.schedule.specs.Paper.{Told, octet, width, short, long, told, place}
+use Rattle.schedule.specs.Parts.{took, past, step}
+
+pub width-some : (x : ℕ) → 1 ≤ width x
+width-some x = go (leb 128 x) refl
+  where
+    go : (b : Bool) → leb 128 x ≡ b → 1 ≤ width x
+    go true e = rw e (omega arith)
+    go false e = rw e (omega arith)
+
+module _ (m : List ℕ) where
+  pub place-next : (k : ℕ) → place m (k + 1) ≡ place m k + width (octet m (place m k))
+  unfolding place
+  place-next k = rw add-one
+
+  place-up : (k l : ℕ) → k < l → place m (suc k) ≤ place m l
+  unfolding place
+  place-up k zero h = absurd (not-suc-le-zero h)
+  place-up k (suc l) h =
+      ⊎-elim (λ e. rw e (omega arith)) (λ b. let up = place-up k l b in omega arith) (eq-or-lt-of-le (le-of-suc-le-suc h))
+
+  -- a description ends where a later one starts, or before
+  pub place-after : (k l : ℕ) → k < l → place m k + width (octet m (place m k)) ≤ place m l
+  unfolding place
+  place-after k l h = place-up k l h
+
+  pub place-mono : (k l : ℕ) → k ≤ l → place m k ≤ place m l
+  place-mono k l h =
+      ⊎-elim (λ e. rw e (omega arith)) (λ b. let up = place-after k l b in omega arith) (eq-or-lt-of-le h)
+
+  -- what a step that took a description says
+  module _ (received at : ℕ) where
+    pub record Taken (d : Told) (n : ℕ) : Type 0 where
+      pub tells : d ≡ told m at
+      pub moves : n ≡ at + width (octet m at)
+      pub inside : n ≤ received
+
+    pub step-took : (d : Told) (n : ℕ) → took d n ≡ step m received at → Taken d n
+    unfolding step
+    step-took d n e = go (leb (at + width (octet m at)) received) refl e
+      where
+        go : (b : Bool) → leb (at + width (octet m at)) received ≡ b → took d n ≡ cond b (took (told m at) (at + width (octet m at))) past → Taken d n
+        go true q h =
+            let moves : n ≡ at + width (octet m at) = cc in
+            record { tells = cc; moves = moves; inside = omega (arith, leb-true (at + width (octet m at)) received q) }
+        go false q h = let z : _≡_ {A = ℕ} 0 1 = cc in absurd (omega arith)
+
+    pub step-past : past ≡ step m received at → received < at + width (octet m at)
+    unfolding step
+    step-past e = go (leb (at + width (octet m at)) received) refl e
+      where
+        go : (b : Bool) → leb (at + width (octet m at)) received ≡ b → past ≡ cond b (took (told m at) (at + width (octet m at))) past → received < at + width (octet m at)
+        go true q h = let z : _≡_ {A = ℕ} 0 1 = cc in absurd (omega arith)
+        go false q h = leb-false (at + width (octet m at)) received q
+
+    -- the step by the octet that it meets
+    pub step-is-past : received < at + width (octet m at) → past ≡ step m received at
+    unfolding step
+    step-is-past h = rw (lt-leb (at + width (octet m at)) received h)
+
+    pub step-is-short : (d : Told) → octet m at < 128 → at < received → d ≡ short (octet m at) → took d (at + 1) ≡ step m received at
+    unfolding step
+    step-is-short d l h e = simp (lt-leb 128 (octet m at) l, le-leb (at + 1) received (omega arith), e)
+
+    pub step-is-long : 128 ≤ octet m at → at + 1 < received → took (long (octet m at) (octet m (at + 1))) (at + 2) ≡ step m received at
+    unfolding step
+    step-is-long l h = simp (le-leb 128 (octet m at) l, le-leb (at + 2) received (omega arith))

@@ -1,0 +1,57 @@
+-- Laws of repeats: what makes one false, and what does not.
+use mathlib.Core.Path.{_≡_, refl, ap, _∙_}
+use mathlib.Core.Bool.{Bool, true, false, or-true}
+use mathlib.Core.List.{[], _∷_}
+use mathlib.Core.Logic.{⊎-elim}
+use Prim.Native.Nat.{ℕ, suc, _-_, _≤_, _<_}
+use native.Mathlib.Omega.{arith}
+use lib.Dec.{eqb, leb}
+use borrow.Author.Tests.{eq-eqb, ne-eqb, le-leb, lt-leb, eqb-false, leb-false}
+use denote.Enum.Declared.{tagOf}
+use types.Run.{OneOf}
+use Rattle.schedule.specs.declared.Description.{Description}
+use Rattle.schedule.specs.declared.Description.the-variants.{First, Repeat, Optional, Advised}
+use Rattle.schedule.specs.Paper.{Told, first, again, optional, advised, isFirst, falseIn, falseRepeat}
+use Rattle.schedule.specs.Coded.{toldOf}
+use Rattle.schedule.proofs.Description.{the-type}
+
+module _ (t : ℕ → Told) (i n : ℕ) (e : t i ≡ again n) where
+  pub false-zero : n ≡ 0 → falseRepeat t i ≡ true
+  false-zero h = ap (falseIn t i) e ∙ rw (eq-eqb n 0 h)
+
+  pub false-late : i < n → falseRepeat t i ≡ true
+  false-late h = ap (falseIn t i) e ∙ rw (le-leb (suc i) n h, or-true)
+
+  pub false-other : isFirst (t (n - 1)) ≡ false → falseRepeat t i ≡ true
+  false-other h = ap (falseIn t i) e ∙ rw (h, or-true, or-true)
+
+  pub true-repeat : (n ≡ 0 → ⊥) → n ≤ i → isFirst (t (n - 1)) ≡ true → falseRepeat t i ≡ false
+  true-repeat a b h =
+      let low : n < suc i = omega arith in
+      ap (falseIn t i) e ∙ rw (ne-eqb n 0 a, lt-leb (suc i) n low, h)
+
+-- descriptions that agree up to slot e tell of the same false repeats
+pub falseRepeat-agree : (t u : ℕ → Told) (e i : ℕ) → ((j : ℕ) → j < e → t j ≡ u j) → i < e → falseRepeat t i ≡ falseRepeat u i
+falseRepeat-agree t u e i h l = ap (falseIn t i) (h i l) ∙ go (u i)
+  where
+    named : (n : ℕ) (a b : Bool) → eqb n 0 ≡ a → leb (suc i) n ≡ b → falseIn t i (again n) ≡ falseIn u i (again n)
+    named n true b p q = rw p
+    named n false true p q = rw (p, q)
+    named n false false p q =
+        let some = eqb-false n 0 p in
+        let low = leb-false (suc i) n q in
+        let inside : n - 1 < e = omega arith in
+        rw (p, q, h (n - 1) inside)
+
+    go : (d : Told) → falseIn t i d ≡ falseIn u i d
+    go (first x) = refl
+    go (again n) = named n _ _ refl refl
+    go optional = refl
+    go advised = refl
+
+-- a description of another kind is no false repeat
+pub no-repeat : (t : ℕ → Told) (i : ℕ) (d : Description) → t i ≡ toldOf d → OneOf (0 ∷ 2 ∷ 3 ∷ []) (tagOf the-type d) → falseRepeat t i ≡ false
+no-repeat t i (First x) e k = ap (falseIn t i) e
+no-repeat t i (Repeat n) e k = absurd (⊎-elim (λ h. omega arith) (λ k′. ⊎-elim (λ h. omega arith) (λ h. omega arith) k′) k)
+no-repeat t i Optional e k = ap (falseIn t i) e
+no-repeat t i Advised e k = ap (falseIn t i) e

@@ -1,0 +1,54 @@
+-- `schedule::count_new` meets its contract. The invariant: the number is the count of the slots passed.
+use mathlib.Core.Logic.{⊎-elim}
+use mathlib.Core.Path.{_≡_, sym, _∙_, ap}
+use mathlib.Core.Bool.{true, true≢false}
+use Prim.Native.Nat.{_≤_, _-_, ℕ, _+_}
+use native.Mathlib.Omega.{arith}
+use borrow.Author.Needs.{needs}
+use Rattle.laws.proofs.Upto.{count-none, count-yes, count-no, count-le}
+use Rattle.laws.specs.Upto.{count}
+use Rattle.schedule.specs.Paper.{grouped}
+use Rattle.schedule.proofs.News.{grouped-same, grouped-other}
+use Rattle.schedule.proofs.count_new.Statement.{statement}
+use Rattle.schedule.proofs.count_new.Tie as tie
+
+abbrev Inv-loop : tie.InvT-loop
+Inv-loop message end n₀ i₀ n i = (i ≤ end) × (n ≡ count (grouped message true) i)
+
+abbrev μ-loop : tie.MeasureT-loop
+μ-loop message end n₀ i₀ n i = end - i
+
+loop-holds : tie.Need-loop-holds Inv-loop μ-loop
+loop-holds c = (omega arith, sym (count-none _))
+
+is-new-requires : tie.Need-is-new-requires Inv-loop μ-loop
+is-new-requires c κs = search needs
+
+add-n : tie.Need-add-n Inv-loop μ-loop
+add-n c = omega (arith, count-le (grouped (c .before .before .before .before .before .args .message .now) true) (c .before .before .before .loop .i))
+
+add-i : tie.Need-add-i Inv-loop μ-loop
+add-i c = search needs
+
+loop-less : tie.Need-loop-less Inv-loop μ-loop
+loop-less c = search needs
+
+loop-again : tie.Need-loop-again Inv-loop μ-loop
+loop-again c =
+    let m = c .before .before .before .before .before .args .message .now in
+    let l = c .before .before .before .loop in
+    let bit = c .before .is-new in (
+      omega arith,
+      ⊎-elim
+          (λ w. w .1 ∙ ap (λ (n : ℕ). n + 1) (l .inv .1) ∙ sym (count-yes (grouped m true) (l .i) (grouped-same m (l .i) true _ (bit .ensures) (w .0 .taken))))
+          (λ w. w .1 ∙ l .inv .1 ∙ sym (count-no (grouped m true) (l .i) (grouped-other m (l .i) true _ (bit .ensures) (λ e. true≢false (sym e ∙ w .0 .left)))))
+          (c .if1 .came),
+    )
+
+returns : tie.Need-returns Inv-loop μ-loop
+returns c = let e : c .before .loop .i ≡ c .before .before .before .args .end = omega arith in rw e at (c .before .loop .inv .1)
+
+pub count-new-spec : {M : Type 1} → statement M
+count-new-spec =
+    tie.close
+    (tie.spec Inv-loop μ-loop loop-holds is-new-requires add-n add-i loop-less loop-again returns)

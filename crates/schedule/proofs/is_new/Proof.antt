@@ -1,0 +1,30 @@
+-- `schedule::is_new` meets its contract: the shift divides by the power of two that the definition has.
+use mathlib.Core.Path.{refl}
+use borrow.Author.Needs.{needs}
+use Rattle.schedule.specs.Paper.{new as newOf}
+use Rattle.schedule.proofs.is_new.Statement.{statement}
+use Rattle.schedule.proofs.is_new.Tie as tie
+
+add-result : tie.Need-add-result
+add-result c = search needs
+
+shared-slice-read-result : tie.Need-shared-slice-read-result
+shared-slice-read-result c = search needs
+
+sub-result : tie.Need-sub-result
+sub-result c = search needs
+
+cast-result : tie.Need-cast-result
+cast-result c = search needs
+
+shr-result : tie.Need-shr-result
+shr-result c = search needs
+
+returns : tie.Need-returns
+unfolding newOf
+returns c = refl
+
+pub is-new-spec : {M : Type 1} → statement M
+is-new-spec =
+    tie.close
+    (tie.spec add-result shared-slice-read-result sub-result cast-result shr-result returns)

@@ -1,0 +1,36 @@
+-- The code's values as document 01's numbers and lists.
+use mathlib.Core.List.{map}
+use Rattle.answer.specs.Number.{numberOf}
+use Rattle.schedule.specs.declared.Description.{Description}
+use Rattle.schedule.specs.declared.Description.the-variants.{First, Repeat, Optional, Advised}
+use Rattle.schedule.specs.declared.Slot.{Slot}
+use Rattle.schedule.specs.declared.Reading.{Reading}
+use Rattle.schedule.specs.declared.Table.{Table}
+use Rattle.schedule.specs.declared.Given.{Given as GivenCode}
+use Rattle.schedule.specs.Paper.{Told, first, again, optional, advised, Shown, Read, unread, Listed, Given, next, noMore, refusal}
+use Rattle.schedule.specs.declared.Reading.the-variants as readings
+use Rattle.schedule.specs.declared.Given.the-variants as givens
+
+-- the four kinds of description
+abbrev pub toldOf : Description → Told
+toldOf (First x) = first x
+toldOf (Repeat n) = again n
+toldOf Optional = optional
+toldOf Advised = advised
+
+abbrev pub shownOf : Slot → Shown
+shownOf s = record { new = s .new; told = toldOf (s .description) }
+
+-- 0 with Begin and End, or the refusal's number
+abbrev pub readOf : Reading → Read
+readOf (readings.Read b e) = record { number = 0; begin = b; end = e }
+readOf (readings.Refused r) = unread (numberOf r)
+
+abbrev pub listedOf : Table → Listed
+listedOf t = record { read = readOf (t .answer); slots = map shownOf (t .slots) }
+
+-- a refusal by its number
+abbrev pub givenOf : GivenCode → Given
+givenOf (givens.Next n s) = next n (shownOf s)
+givenOf givens.NoMore = noMore
+givenOf (givens.Refused r) = refusal (numberOf r)
