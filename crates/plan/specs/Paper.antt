@@ -69,7 +69,7 @@ entriesIn (suc n) o = entryIn o ∷ entriesIn n (drop 6 o)
 abbrev pub listed : List ℕ → List Entry
 listed f = entriesIn (octet f 6) (drop 6 f)
 
--- what reading a plan file gives: a number and a plan
+-- 01 Order: what reading a plan file gives: its number, and a plan
 pub record Read : Type 0 where
   pub number : ℕ
   pub plan : Plan
@@ -79,16 +79,18 @@ abbrev pub refusal : ℕ → Read
 refusal n = record { number = n; plan = empty }
 
 -- 01 Order, a plan: 32 if short, 30, 31, 32, 33
-unfoldable pub readPlan : List ℕ → Read
-readPlan f =
-    ruled refusal
-    ((ltb (length f) 6, 32)
+abbrev pub faults : List ℕ → List (Bool × ℕ)
+faults f =
+    (ltb (length f) 6, 32)
     ∷ (not (marked f), 30)
     ∷ (not (eqb (sixteen f 4) 1), 31)
     ∷ (ltb 48 (octet f 6) || not (eqb (length f) (6 + 6 * octet f 6)), 32)
     ∷ (some bad (listed f), 33)
-    ∷ [])
-    (record { number = 0; plan = held (listed f) })
+    ∷ []
+
+-- 01 The plan, Order: reading a plan file
+unfoldable pub readPlan : List ℕ → Read
+readPlan f = ruled refusal (faults f) (record { number = 0; plan = held (listed f) })
 
 -- 01 The plan: the six octets of an entry
 abbrev pub octetsOf : Entry → List ℕ

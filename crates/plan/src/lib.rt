@@ -71,6 +71,7 @@ pub fn empty_plan() -> Plan
     }
 }
 
+// The answer to a refused file.
 fn refused(why: Refusal) -> Reading
     ensures { λ r. ⌜ readingOf r ≡ refusal (numberOf why) ⌝ }
 {
