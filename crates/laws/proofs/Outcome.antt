@@ -1,8 +1,8 @@
 -- What a list of tests settles, whatever the answers that hang on it.
-use mathlib.Core.Path.{_≡_, refl}
+use mathlib.Core.Path.{_≡_, refl, sym}
 use mathlib.Core.Bool.{Bool, true, false}
 use mathlib.Core.List.{List, [], _∷_, _++_}
-use mathlib.Core.Logic.{inl, inr}
+use mathlib.Core.Logic.{_⊎_, inl, inr, ⊎-elim}
 use Prim.Native.Nat.{ℕ}
 use Rattle.laws.specs.Ruled.{ruled}
 use Rattle.laws.proofs.Ruled.{Among, NoneHolds}
@@ -25,3 +25,17 @@ outcome (t ∷ ts) = go (t .0) refl (outcome ts)
 pub ruled-append : {A : Type 0} (by : ℕ → A) (ts us : List (Bool × ℕ)) (x : A) → ruled by (ts ++ us) x ≡ ruled by ts (ruled by us x)
 ruled-append by [] us x = refl
 ruled-append by (t ∷ ts) us x = rw (ruled-append by ts us x)
+
+-- n is the number of one of the tests, and that test holds
+abbrev pub Because : ℕ → List (Bool × ℕ) → Type 0
+Because n [] = ⊥
+Because n (t ∷ ts) = ((n ≡ t .1) × (t .0 ≡ true)) ⊎ Because n ts
+
+-- the number that tests answer by is that of a test that holds, or the one past the tests
+pub ruled-because : (ts : List (Bool × ℕ)) (x n : ℕ) → ruled (λ (k : ℕ). k) ts x ≡ n → (x ≡ n) ⊎ Because n ts
+ruled-because [] x n e = inl e
+ruled-because (t ∷ ts) x n e = go (t .0) refl (λ h. ruled-because ts x n h)
+  where
+    go : (b : Bool) → t .0 ≡ b → (ruled (λ (k : ℕ). k) ts x ≡ n → (x ≡ n) ⊎ Because n ts) → (x ≡ n) ⊎ Because n (t ∷ ts)
+    go true q f = inr (inl (sym (rw q at e), q))
+    go false q f = ⊎-elim (λ h. inl h) (λ h. inr (inr h)) (f (rw q at e))

@@ -23,7 +23,7 @@ use Rattle.schedule.specs.Coded.{shownOf}
 use Rattle.schedule.specs.Parts.{zeroed}
 
 -- no refusal has the number 0
-faults-some : (m : List ℕ) (received n : ℕ) → Among n (faults m received) → n ≡ 0 → ⊥
+pub faults-some : (m : List ℕ) (received n : ℕ) → Among n (faults m received) → n ≡ 0 → ⊥
 faults-some m received n (inl e) z = omega arith
 faults-some m received n (inr (inl e)) z = omega arith
 faults-some m received n (inr (inr (inl e))) z = omega arith

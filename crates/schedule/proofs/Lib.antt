@@ -5,5 +5,8 @@ pub mod Listing
 pub mod News
 pub mod Order
 pub mod Places
+pub mod Determined
 pub mod Fills
+pub mod Once
 pub mod Repeats
+pub mod Slides

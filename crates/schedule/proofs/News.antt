@@ -2,9 +2,13 @@
 use mathlib.Core.Path.{_≡_, refl, sym, ap, _∙_}
 use mathlib.Core.Bool.{Bool, true, false, not, Bool·beq, false≢true, true≢false}
 use mathlib.Core.List.{List}
-use Prim.Native.Nat.{ℕ, _≤_, _<_}
+use Prim.Native.Nat.{ℕ, _+_, _-_, _/_, _%_, _^_, _≤_, _<_}
+use native.Mathlib.Omega.{arith}
+use lib.ListN.{drop}
+use lib.Seq.{getD-take, getD-drop}
+use lib.Dec.{eqb}
 use borrow.Author.Tests.{le-leb, lt-leb}
-use Rattle.schedule.specs.Paper.{end, new, newPast, grouped}
+use Rattle.schedule.specs.Paper.{octet, end, new, newPast, grouped}
 
 beq-same : (a b : Bool) → a ≡ b → Bool·beq a b ≡ true
 beq-same true true e = refl
@@ -29,6 +33,13 @@ beq-flip true = refl
 beq-flip false = refl
 
 module _ (m : List ℕ) (i : ℕ) where
+  -- a slot's new bit by the octet of the message that has it
+  pub new-octet : i < 48 → eqb (octet m (2 + i / 8) / 2 ^ (7 - i % 8) % 2) 1 ≡ new m i
+  unfolding new
+  new-octet h =
+      let inside : i / 8 < 6 = omega arith in
+      rw (getD-take 6 (drop 2 m) (i / 8) 0 inside, getD-drop 2 m (i / 8) 0)
+
   -- what is not in the one group is in the other
   pub grouped-flip : grouped m false i ≡ not (grouped m true i)
   grouped-flip = beq-flip (new m i)

@@ -2,3 +2,4 @@
 pub mod Paper
 pub mod Coded
 pub mod Parts
+pub mod Claims

@@ -2,7 +2,7 @@
 use mathlib.Core.Bool.{Bool, true, false, cond, not, _&&_, _||_, Bool·beq}
 use mathlib.Core.List.{List, [], _∷_, _++_}
 use Prim.Native.Nat.{ℕ, zero, suc, _+_, _*_, _-_, _/_, _%_, _^_}
-use lib.ListN.{length, getD}
+use lib.ListN.{length, take, drop, getD}
 use lib.Dec.{eqb, leb, ltb}
 use Rattle.laws.specs.Ruled.{ruled}
 use Rattle.laws.specs.Upto.{some, count, picked, each}
@@ -23,9 +23,13 @@ begin m = octet m 0 % 64
 abbrev pub end : List ℕ → ℕ
 end m = octet m 1 % 64
 
--- 01 Schedule message, 000 3.5.2: octets 3 to 8 have a new bit for each slot, slot 1 in bit 8 of octet 3
+-- 01 Schedule message, 000 3.5.2: octets 3 to 8, the new bits
+abbrev pub bitmap : List ℕ → List ℕ
+bitmap m = take 6 (drop 2 m)
+
+-- 01 Schedule message, 000 3.5.2: one new bit for each slot, slot 1 in bit 8 of octet 3
 unfoldable pub new : List ℕ → ℕ → Bool
-new m i = eqb (octet m (2 + i / 8) / 2 ^ (7 - i % 8) % 2) 1
+new m i = eqb (octet (bitmap m) (i / 8) / 2 ^ (7 - i % 8) % 2) 1
 
 -- 01 Schedule message, 000 3.5.5: what a description tells of its slot
 pub data Told : Type 0 where
@@ -36,6 +40,10 @@ pub data Told : Type 0 where
 -- 01 Schedule message, 000 3.5.5: a description has two octets where bit 8 of its first is set, and else one
 abbrev pub width : ℕ → ℕ
 width x = cond (leb 128 x) 2 1
+
+-- 01 Schedule message: 42 to 7F are reserved
+abbrev pub reserved : ℕ → Bool
+reserved x = leb 66 x && leb x 127
 
 -- 01 Schedule message, 000 3.5.5: one octet: 00 to 3F a repeat of the slot in bits 6 to 1, 41 advised, 40 and the reserved 42 to 7F optional
 abbrev pub short : ℕ → Told
@@ -64,8 +72,7 @@ order m = picked (grouped m true) (end m) ++ picked (grouped m false) (end m)
 
 -- how many descriptions stand before those of the slots whose new bit is as given
 abbrev pub base : List ℕ → Bool → ℕ
-base m true = 0
-base m false = count (grouped m true) (end m)
+base m b = cond b 0 (count (grouped m true) (end m))
 
 -- 01 Schedule message: how many descriptions stand before that of a slot; `order-rank` has that this is its place in the order
 abbrev pub rank : List ℕ → ℕ → ℕ

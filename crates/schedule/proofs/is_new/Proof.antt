@@ -1,7 +1,6 @@
 -- `schedule::is_new` meets its contract: the shift divides by the power of two that the definition has.
-use mathlib.Core.Path.{refl}
 use borrow.Author.Needs.{needs}
-use Rattle.schedule.specs.Paper.{new as newOf}
+use Rattle.schedule.proofs.News.{new-octet}
 use Rattle.schedule.proofs.is_new.Statement.{statement}
 use Rattle.schedule.proofs.is_new.Tie as tie
 
@@ -21,8 +20,7 @@ shr-result : tie.Need-shr-result
 shr-result c = search needs
 
 returns : tie.Need-returns
-unfolding newOf
-returns c = refl
+returns c = new-octet _ _ (c .before .pre .1)
 
 pub is-new-spec : {M : Type 1} → statement M
 is-new-spec =

@@ -1,0 +1,71 @@
+-- Answers that meet a contract of `schedule` are equal.
+use mathlib.Core.Path.{_≡_, refl, sym, ap, _∙_}
+use mathlib.Core.Bool.{cond}
+use mathlib.Core.List.{List, [], _∷_, map}
+use mathlib.Core.Logic.{inl}
+use Prim.Native.Nat.{ℕ}
+use lib.Dec.{eqb, lit≤}
+use Rattle.answer.proofs.Inverse.{refusalOf, refusalOf-numberOf, not-done}
+use Rattle.schedule.specs.declared.Description.{Description}
+use Rattle.schedule.specs.declared.Description.the-variants.{First, Repeat, Optional, Advised}
+use Rattle.schedule.specs.declared.Slot.{Slot}
+use Rattle.schedule.specs.declared.Reading.{Reading}
+use Rattle.schedule.specs.declared.Table.{Table}
+use Rattle.schedule.specs.declared.Given.{Given as GivenCode}
+use Rattle.schedule.specs.Paper.{Told, first, again, optional, advised, Shown, Read, read, Listed, listed, Given, next, noMore, refusal, given}
+use Rattle.schedule.specs.Coded.{toldOf, shownOf, readOf, listedOf, givenOf}
+use Rattle.schedule.specs.declared.Reading.the-variants as readings
+use Rattle.schedule.specs.declared.Given.the-variants as givens
+
+-- the code's description, slot and answers by the paper's
+abbrev toldFrom : Told → Description
+toldFrom (first x) = First x
+toldFrom (again n) = Repeat n
+toldFrom optional = Optional
+toldFrom advised = Advised
+
+toldFrom-toldOf : (d : Description) → toldFrom (toldOf d) ≡ d
+toldFrom-toldOf (First x) = refl
+toldFrom-toldOf (Repeat n) = refl
+toldFrom-toldOf Optional = refl
+toldFrom-toldOf Advised = refl
+
+abbrev slotFrom : Shown → Slot
+slotFrom s = record { new = s .new; description = toldFrom (s .told) }
+
+slotFrom-shownOf : (s : Slot) → slotFrom (shownOf s) ≡ s
+slotFrom-shownOf s = λ i. record { new = s .new; description = toldFrom-toldOf (s .description) i }
+
+slots-back : (s : List Slot) → map slotFrom (map shownOf s) ≡ s
+slots-back [] = refl
+slots-back (x ∷ s) = λ i. slotFrom-shownOf x i ∷ slots-back s i
+
+abbrev readingFrom : Read → Reading
+readingFrom r = cond (eqb (r .number) 0) (readings.Read (r .begin) (r .end)) (readings.Refused (refusalOf (r .number)))
+
+readingFrom-readOf : (r : Reading) → readingFrom (readOf r) ≡ r
+readingFrom-readOf (readings.Read b e) = refl
+readingFrom-readOf (readings.Refused r) = rw (not-done r 0 (inl (lit≤ tt))) (ap readings.Refused (refusalOf-numberOf r))
+
+abbrev givenFrom : Given → GivenCode
+givenFrom (next n s) = givens.Next n (slotFrom s)
+givenFrom noMore = givens.NoMore
+givenFrom (refusal n) = givens.Refused (refusalOf n)
+
+givenFrom-givenOf : (g : GivenCode) → givenFrom (givenOf g) ≡ g
+givenFrom-givenOf (givens.Next n s) = ap (givens.Next n) (slotFrom-shownOf s)
+givenFrom-givenOf givens.NoMore = refl
+givenFrom-givenOf (givens.Refused r) = ap givens.Refused (refusalOf-numberOf r)
+
+pub determined-read-schedule : (m : List ℕ) (received : ℕ) (r s : Reading) → readOf r ≡ read m received → readOf s ≡ read m received → r ≡ s
+determined-read-schedule m received r s a b = sym (readingFrom-readOf r) ∙ ap readingFrom (a ∙ sym b) ∙ readingFrom-readOf s
+
+pub determined-read-slots : (m : List ℕ) (received : ℕ) (r s : Table) → listedOf r ≡ listed m received → listedOf s ≡ listed m received → r ≡ s
+determined-read-slots m received r s a b =
+    let e = a ∙ sym b in
+    let answer = sym (readingFrom-readOf (r .answer)) ∙ ap (λ (l : Listed). readingFrom (l .read)) e ∙ readingFrom-readOf (s .answer) in
+    let slots = sym (slots-back (r .slots)) ∙ ap (λ (l : Listed). map slotFrom (l .slots)) e ∙ slots-back (s .slots) in
+    λ i. record { answer = answer i; slots = slots i }
+
+pub determined-description-at : (m : List ℕ) (received place : ℕ) (r s : GivenCode) → givenOf r ≡ given m received place → givenOf s ≡ given m received place → r ≡ s
+determined-description-at m received place r s a b = sym (givenFrom-givenOf r) ∙ ap givenFrom (a ∙ sym b) ∙ givenFrom-givenOf s
