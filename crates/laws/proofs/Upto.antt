@@ -61,10 +61,6 @@ module _ (p : ℕ → Bool) where
   unfolding count
   count-no n e = rw (add-one, e) (omega arith)
 
-  count-suc : (n : ℕ) → count p n ≤ count p (suc n)
-  unfolding count
-  count-suc n = omega arith
-
   pub count-le : (n : ℕ) → count p n ≤ n
   unfolding count
   count-le zero = omega arith

@@ -5,6 +5,7 @@ use mathlib.Core.List.{List, [], _∷_, map}
 use mathlib.Core.Logic.{inl}
 use Prim.Native.Nat.{ℕ}
 use lib.Dec.{eqb, lit≤}
+use denote.Ref.{RefT, now}
 use Rattle.answer.proofs.Inverse.{refusalOf, refusalOf-numberOf, not-done}
 use Rattle.schedule.specs.declared.Description.{Description}
 use Rattle.schedule.specs.declared.Description.the-variants.{First, Repeat, Optional, Advised}
@@ -12,6 +13,7 @@ use Rattle.schedule.specs.declared.Slot.{Slot}
 use Rattle.schedule.specs.declared.Reading.{Reading}
 use Rattle.schedule.specs.declared.Table.{Table}
 use Rattle.schedule.specs.declared.Given.{Given as GivenCode}
+use Rattle.schedule.specs.declared.Descriptions.{Descriptions}
 use Rattle.schedule.specs.Paper.{Told, first, again, optional, advised, Shown, Read, read, Listed, listed, Given, next, noMore, refusal, given}
 use Rattle.schedule.specs.Coded.{toldOf, shownOf, readOf, listedOf, givenOf}
 use Rattle.schedule.specs.declared.Reading.the-variants as readings
@@ -69,3 +71,18 @@ determined-read-slots m received r s a b =
 
 pub determined-description-at : (m : List ℕ) (received place : ℕ) (r s : GivenCode) → givenOf r ≡ given m received place → givenOf s ≡ given m received place → r ≡ s
 determined-description-at m received place r s a b = sym (givenFrom-givenOf r) ∙ ap givenFrom (a ∙ sym b) ∙ givenFrom-givenOf s
+
+pub determined-open : (m : RefT (List ℕ)) (received : ℕ) (r s : Descriptions)
+    → (r .message ≡ m) × (r .received ≡ received) × (r .place ≡ 0) → (s .message ≡ m) × (s .received ≡ received) × (s .place ≡ 0) → r ≡ s
+determined-open m received r s a b =
+    λ i. record { message = (a .0 ∙ sym (b .0)) i; received = (a .1 ∙ sym (b .1)) i; place = (a .2 ∙ sym (b .2)) i }
+
+pub determined-next : (d : Descriptions) (r s : GivenCode)
+    → givenOf r ≡ given (now (d .message)) (d .received) (d .place) → givenOf s ≡ given (now (d .message)) (d .received) (d .place) → r ≡ s
+determined-next d r s a b = determined-description-at (now (d .message)) (d .received) (d .place) r s a b
+
+pub determined-moved : (d : Descriptions) (place : ℕ) (r s : Descriptions)
+    → (r .message ≡ d .message) × (r .received ≡ d .received) × (r .place ≡ place)
+    → (s .message ≡ d .message) × (s .received ≡ d .received) × (s .place ≡ place) → r ≡ s
+determined-moved d place r s a b =
+    λ i. record { message = (a .0 ∙ sym (b .0)) i; received = (a .1 ∙ sym (b .1)) i; place = (a .2 ∙ sym (b .2)) i }

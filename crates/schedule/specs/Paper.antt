@@ -62,7 +62,7 @@ unfoldable pub place : List ℕ → ℕ → ℕ
 place m zero = 8
 place m (suc k) = place m k + width (octet m (place m k))
 
--- the slots whose new bit is as given
+-- 01 Schedule message: whether a slot's new bit is as given
 abbrev pub grouped : List ℕ → Bool → ℕ → Bool
 grouped m b i = Bool·beq (new m i) b
 
@@ -70,7 +70,7 @@ grouped m b i = Bool·beq (new m i) b
 unfoldable pub order : List ℕ → List ℕ
 order m = picked (grouped m true) (end m) ++ picked (grouped m false) (end m)
 
--- how many descriptions stand before those of the slots whose new bit is as given
+-- 01 Schedule message: how many descriptions stand before those of the slots whose new bit is as given
 abbrev pub base : List ℕ → Bool → ℕ
 base m b = cond b 0 (count (grouped m true) (end m))
 
@@ -96,6 +96,7 @@ falseIn t i (again n) = eqb n 0 || (leb (suc i) n || not (isFirst (t (n - 1))))
 falseIn t i optional = false
 falseIn t i advised = false
 
+-- 01 Numbers given, 24: slot i has such a repeat
 abbrev pub falseRepeat : (ℕ → Told) → ℕ → Bool
 falseRepeat t i = falseIn t i (t i)
 
@@ -132,15 +133,16 @@ bodyFaults m received =
 abbrev pub faults : List ℕ → ℕ → List (Bool × ℕ)
 faults m received = headFaults m received ++ bodyFaults m received
 
--- a slot's new bit and its description
+-- 01 Schedule message: a slot's new bit and its description
 pub record Shown : Type 0 where
   pub new : Bool
   pub told : Told
 
--- what is shown where nothing is told
+-- 01 Order: what is shown of a slot that is not told of: not new, and optional
 abbrev pub unused : Shown
 unused = record { new = false; told = optional }
 
+-- 01 Schedule message: what a message shows of a slot
 abbrev pub shown : List ℕ → ℕ → Shown
 shown m i = record { new = new m i; told = tells m i }
 
@@ -154,6 +156,7 @@ pub record Read : Type 0 where
 abbrev pub unread : ℕ → Read
 unread n = record { number = n; begin = 0; end = 0 }
 
+-- 01 Schedule message: Begin and End of a message that is not refused
 abbrev pub good : List ℕ → Read
 good m = record { number = 0; begin = begin m; end = end m }
 
@@ -161,7 +164,7 @@ good m = record { number = 0; begin = begin m; end = end m }
 unfoldable pub read : List ℕ → ℕ → Read
 read m received = ruled unread (faults m received) (good m)
 
--- the reader's answer with all 48 slots
+-- 01 Schedule message: the reader's answer, and the 48 slots that a message can describe
 pub record Listed : Type 0 where
   pub read : Read
   pub slots : List Shown
@@ -170,9 +173,11 @@ pub record Listed : Type 0 where
 abbrev pub slotAt : List ℕ → ℕ → Shown
 slotAt m i = cond (ltb i (end m)) (shown m i) unused
 
+-- 01 Order: with a refusal no slot is told of
 abbrev pub unlisted : ℕ → Listed
 unlisted n = record { read = unread n; slots = each (λ (i : ℕ). unused) 48 }
 
+-- 01 Schedule message: a message that is not refused, with all its slots
 abbrev pub whole : List ℕ → Listed
 whole m = record { read = good m; slots = each (slotAt m) 48 }
 

@@ -361,3 +361,43 @@ pub fn description_at(message: &[u8], received: usize, place: usize) -> Given
         }
     }
 }
+
+// The lent message, the octets received of it, and how many of its descriptions are given already.
+pub struct Descriptions<'a> {
+    pub message: &'a [u8],
+    pub received: usize,
+    pub place: usize,
+}
+
+// The descriptions of a message, none given yet.
+pub fn open<'a>(message: &'a [u8], received: usize) -> Descriptions<'a>
+    ensures { λ r. ⌜ (r .message ≡ message .entry) × (r .received ≡ received) × (r .place ≡ 0) ⌝ }
+{
+    Descriptions {
+        message,
+        received,
+        place: 0,
+    }
+}
+
+// What is given next.
+pub fn next<'a>(descriptions: Descriptions<'a>) -> Given
+    ensures { λ r. ⌜ givenOf r ≡ given (now (descriptions .entry .message)) (descriptions .entry .received) (descriptions .entry .place) ⌝ }
+{
+    description_at(
+        descriptions.message,
+        descriptions.received,
+        descriptions.place,
+    )
+}
+
+// The same descriptions with another number given.
+pub fn moved<'a>(descriptions: Descriptions<'a>, place: usize) -> Descriptions<'a>
+    ensures { λ r. ⌜ (r .message ≡ descriptions .entry .message) × (r .received ≡ descriptions .entry .received) × (r .place ≡ place) ⌝ }
+{
+    Descriptions {
+        message: descriptions.message,
+        received: descriptions.received,
+        place,
+    }
+}
