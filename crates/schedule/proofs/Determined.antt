@@ -2,11 +2,12 @@
 use mathlib.Core.Path.{_≡_, refl, sym, ap, _∙_}
 use mathlib.Core.Bool.{cond}
 use mathlib.Core.List.{List, [], _∷_, map}
-use mathlib.Core.Logic.{inl}
 use Prim.Native.Nat.{ℕ}
-use lib.Dec.{eqb, lit≤}
+use lib.Dec.{eqb}
 use denote.Ref.{RefT, now}
-use Rattle.answer.proofs.Inverse.{refusalOf, refusalOf-numberOf, not-done}
+use borrow.Author.Tests.{ne-eqb}
+use Rattle.answer.specs.Number.{numberOf}
+use Rattle.answer.proofs.Inverse.{refusalOf, refusalOf-numberOf, numberOf-positive}
 use Rattle.schedule.specs.declared.Description.{Description}
 use Rattle.schedule.specs.declared.Description.the-variants.{First, Repeat, Optional, Advised}
 use Rattle.schedule.specs.declared.Slot.{Slot}
@@ -47,7 +48,7 @@ readingFrom r = cond (eqb (r .number) 0) (readings.Read (r .begin) (r .end)) (re
 
 readingFrom-readOf : (r : Reading) → readingFrom (readOf r) ≡ r
 readingFrom-readOf (readings.Read b e) = refl
-readingFrom-readOf (readings.Refused r) = rw (not-done r 0 (inl (lit≤ tt))) (ap readings.Refused (refusalOf-numberOf r))
+readingFrom-readOf (readings.Refused r) = rw (ne-eqb (numberOf r) 0 (numberOf-positive r)) (ap readings.Refused (refusalOf-numberOf r))
 
 abbrev givenFrom : Given → GivenCode
 givenFrom (next n s) = givens.Next n (slotFrom s)

@@ -7,15 +7,15 @@ use Prim.Native.Nat.{ℕ, _+_, _≤_, _<_}
 use native.Mathlib.Numerals.{add-one}
 use native.Mathlib.Omega.{arith}
 use lib.ListN.{length, getD, List·getD-map}
-use lib.Dec.{eqb, leb, lit≤}
-use borrow.Author.Tests.{eqb-true, eqb-false, leb-true, lt-ltb, le-ltb, not-false}
+use lib.Dec.{eqb, leb}
+use borrow.Author.Tests.{eqb-true, leb-true, lt-ltb, le-ltb, not-false}
 use Rattle.laws.specs.Upto.{each}
 use Rattle.laws.proofs.Ruled.{Among, ruled-map}
 use Rattle.laws.proofs.Outcome.{Outcome, refuses, passes, outcome}
 use Rattle.laws.proofs.Tests.{both}
 use Rattle.laws.proofs.Upto.{each-at}
 use Rattle.answer.specs.Number.{numberOf}
-use Rattle.answer.proofs.Inverse.{not-done}
+use Rattle.answer.proofs.Inverse.{numberOf-positive}
 use Rattle.answer.specs.declared.Refusal.{Refusal}
 use Rattle.schedule.specs.declared.Slot.{Slot}
 use Rattle.schedule.specs.Paper.{begin, end, within, faults, Shown, shown, slotAt, slotOf, Read, unread, read, Listed, unlisted, whole, listed, Given, next, noMore, refusal, givenAt, given}
@@ -51,7 +51,7 @@ module _ (m : List ℕ) (received : ℕ) where
             ap refusal same ∙ sym (h Given refusal (givenAt m k))
         go (passes h f) =
             absurd
-            (eqb-false (numberOf r) 0 (not-done r 0 (inl (lit≤ tt)))
+            (numberOf-positive r
             (sym (ap (λ (y : Read). y .number) e) ∙ ap (λ (l : Listed). l .read .number) (q ∙ f Listed unlisted (whole m))))
 
     -- what is known of a message that is read

@@ -7,8 +7,8 @@ use Prim.Native.Nat.{ℕ, _+_, _≤_, _<_}
 use native.Mathlib.Omega.{arith}
 use lib.ListN.{length, getD, replicate, getD-replicate, length-map, List·getD-map}
 use lib.Seq.{ext-getD}
-use lib.Dec.{eqb, leb, ltb, lit≤}
-use borrow.Author.Tests.{eqb-true, eqb-false, leb-true, lt-ltb, le-ltb, not-false}
+use lib.Dec.{eqb, leb, ltb}
+use borrow.Author.Tests.{eqb-true, leb-true, lt-ltb, le-ltb, not-false}
 use Rattle.laws.specs.Ruled.{ruled}
 use Rattle.laws.specs.Upto.{some, count, each}
 use Rattle.laws.proofs.Ruled.{Among}
@@ -16,7 +16,7 @@ use Rattle.laws.proofs.Outcome.{Outcome, refuses, passes, outcome, ruled-append
 use Rattle.laws.proofs.Tests.{both, either}
 use Rattle.laws.proofs.Upto.{some-agree, each-length, each-at}
 use Rattle.answer.specs.Number.{numberOf}
-use Rattle.answer.proofs.Inverse.{not-done}
+use Rattle.answer.proofs.Inverse.{numberOf-positive}
 use Rattle.answer.specs.declared.Refusal.{Refusal}
 use Rattle.schedule.specs.declared.Description.the-variants.{Optional}
 use Rattle.schedule.specs.declared.Slot.{Slot}
@@ -101,7 +101,7 @@ module _ (m : List ℕ) (received : ℕ) where
           ap unlisted (ap (λ (x : Read). x .number) (q ∙ h Read unread (good m)))
           ∙ sym (ruled-append unlisted (headFaults m received) (bodyFaults m received) (whole m) ∙ h Listed unlisted (ruled unlisted (bodyFaults m received) (whole m)))
       go (passes h f) =
-          absurd (eqb-false (numberOf r) 0 (not-done r 0 (inl (lit≤ tt))) (ap (λ (x : Read). x .number) (q ∙ f Read unread (good m))))
+          absurd (numberOf-positive r (ap (λ (x : Read). x .number) (q ∙ f Read unread (good m))))
 
   module _ (b e : ℕ) (h : Headed b e) where
     pub readable : Readable m received e

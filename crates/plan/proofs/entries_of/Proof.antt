@@ -1,7 +1,7 @@
 -- `plan::entries_of` meets its contract. The invariant: the entries so far stand at the front, and the rest is optional.
 use mathlib.Core.Path.{_≡_, refl, _∙_}
 use mathlib.Core.List.{_++_}
-use Prim.Native.Nat.{_+_, _-_, _≤_}
+use Prim.Native.Nat.{_-_, _≤_}
 use lib.ListN.{length, drop, replicate, length-set}
 use native.Mathlib.Omega.{arith}
 use borrow.Author.Needs.{needs}
