@@ -49,7 +49,7 @@ fn put(word: u64, base: u64, out: &mut [u8])
 }
 
 // Eight septets are seven octets; the last five take five, with five zero bits.
-pub fn pack(septets: &[u8], octets: &mut [u8])
+pub(crate) fn pack(septets: &[u8], octets: &mut [u8])
     requires { ⌜ Packable (now septets) (now octets) ⌝ }
     ensures { λ r. ⌜ now (octets .exit) ≡ packed (now (septets .entry)) ⌝ }
 {
@@ -64,7 +64,7 @@ pub fn pack(septets: &[u8], octets: &mut [u8])
 }
 
 // As many septets as there is room for: one for each octet, and one more for each seven.
-pub fn unpack(octets: &[u8], septets: &mut [u8])
+pub(crate) fn unpack(octets: &[u8], septets: &mut [u8])
     requires { ⌜ length (now septets) ≡ length (now octets) + length (now octets) / 7 ⌝ }
     ensures { λ r. ⌜ now (septets .exit) ≡ digits 128 (length (now (septets .entry))) (value 256 (now (octets .entry))) ⌝ }
 {
