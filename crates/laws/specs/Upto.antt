@@ -1,4 +1,4 @@
--- Numbers below a bound: whether one passes a test, how many do and which, and what a function gives at each.
+-- Numbers below a bound: whether one passes a test, how many do, which, and the lowest of them; what a function gives at each.
 use mathlib.Core.Bool.{Bool, false, cond, _||_}
 use mathlib.Core.List.{List, [], _∷_, _++_}
 use Prim.Native.Nat.{ℕ, zero, suc, _+_}
@@ -7,6 +7,11 @@ use Prim.Native.Nat.{ℕ, zero, suc, _+_}
 unfoldable pub some : (ℕ → Bool) → ℕ → Bool
 some p zero = false
 some p (suc n) = some p n || p n
+
+-- the lowest number below n that passes the test, counted from 1; 0 where none passes
+unfoldable pub lowest : (ℕ → Bool) → ℕ → ℕ
+lowest p zero = 0
+lowest p (suc n) = cond (some p n) (lowest p n) (cond (p n) (suc n) 0)
 
 -- how many numbers below n pass the test
 unfoldable pub count : (ℕ → Bool) → ℕ → ℕ

@@ -3,7 +3,7 @@ use Prim.Native.Nat.{ℕ, zero, suc, _+_, _*_, _-_, _/_, _%_}
 use mathlib.Core.Bool.{Bool, not, _&&_, _||_}
 use mathlib.Core.List.{List, [], _∷_, _++_}
 use lib.Dec.{eqb, ltb}
-use lib.ListN.{length, take, drop, replicate}
+use lib.ListN.{length, take, drop, replicate, getD}
 use Rattle.laws.specs.Ruled.{ruled}
 use Rattle.laws.specs.Search.{some, firstFrom}
 use Rattle.page.specs.Paper.{Name, octet, samePage}
@@ -120,3 +120,19 @@ lowestSlot p x = firstFrom (holds x) 1 (within p)
 -- 01 The plan: a plan has or lacks a page
 unfoldable pub hasPage : Plan → Name → Bool
 hasPage p x = some (holds x) (within p)
+
+-- 01 The plan: the entry of a slot, slots counted from 0 here as in the schedule
+abbrev pub entryAt : Plan → ℕ → Entry
+entryAt p i = getD (p .entries) i free
+
+-- 01 The plan: the page of a slot planned with one
+abbrev pub pageAt : Plan → ℕ → Name
+pageAt p i = pageOf (entryAt p i)
+
+-- 01 Truthful: the lowest slot with the page of a slot, by its number
+abbrev pub lowestAt : Plan → ℕ → ℕ
+lowestAt p i = lowestSlot p (pageAt p i)
+
+-- 01 Schedule message, Descriptions: the low 15 bits of the identifier planned for a slot
+abbrev pub low15At : Plan → ℕ → ℕ
+low15At p i = entryAt p i .id % 32768

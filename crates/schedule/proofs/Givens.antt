@@ -84,22 +84,25 @@ module _ (m : List ℕ) (received : ℕ) where
               gives = λ k. f Given refusal (givenAt m k);
             }
 
-    module _ (e : ℕ) (g : Good e) (k : ℕ) where
-      pub given-none : e ≤ k → noMore ≡ given m received k
-      given-none l =
-          let far : end m ≤ k = omega (arith, g .ends) in
-          sym (g .gives k ∙ rw (le-ltb k (end m) far))
-
-      pub given-next : (s : List Slot) (i : ℕ) → k < e → x .slots ≡ map shownOf s → i ≡ slotOf m k → i < e
-          → next (i + 1) (shownOf (getD s i zeroed)) ≡ given m received k
-      given-next s i l p o w =
-          let near : k < end m = omega (arith, g .ends) in
+    module _ (e : ℕ) (g : Good e) where
+      -- an array of the slots holds what the message shows of each
+      pub shown-at : (s : List Slot) (i : ℕ) → x .slots ≡ map shownOf s → i < e → shownOf (getD s i zeroed) ≡ shown m i
+      shown-at s i p w =
           let inside : i < end m = omega (arith, g .ends) in
           let low : i < 48 = omega (arith, g .last) in
-          let here : shownOf (getD s i zeroed) ≡ shown m i =
           sym (List·getD-map shownOf s i zeroed)
           ∙ ap (λ (l : List Shown). getD l i (shownOf zeroed)) (sym p ∙ g .shows)
           ∙ each-at (slotAt m) 48 i (shownOf zeroed) low
           ∙ rw (lt-ltb i (end m) inside)
-          in
-          rw (here, add-one, o) (sym (g .gives k ∙ rw (lt-ltb k (end m) near)))
+
+      module _ (k : ℕ) where
+        pub given-none : e ≤ k → noMore ≡ given m received k
+        given-none l =
+            let far : end m ≤ k = omega (arith, g .ends) in
+            sym (g .gives k ∙ rw (le-ltb k (end m) far))
+
+        pub given-next : (s : List Slot) (i : ℕ) → k < e → x .slots ≡ map shownOf s → i ≡ slotOf m k → i < e
+            → next (i + 1) (shownOf (getD s i zeroed)) ≡ given m received k
+        given-next s i l p o w =
+            let near : k < end m = omega (arith, g .ends) in
+            rw (shown-at s i p w, add-one, o) (sym (g .gives k ∙ rw (lt-ltb k (end m) near)))

@@ -1,0 +1,3 @@
+-- What `board` defines.
+pub mod Paper
+pub mod Claims

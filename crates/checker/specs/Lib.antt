@@ -1,0 +1,3 @@
+-- What `checker` defines.
+pub mod Paper
+pub mod Truthful

@@ -1,0 +1,68 @@
+-- Checking a schedule message beside two plans, as tests. Slots are counted from 0 here: slot i is number i + 1.
+use mathlib.Core.Bool.{Bool, true, false, cond, not, _&&_, _||_, Bool·beq}
+use mathlib.Core.List.{List, [], _∷_}
+use Prim.Native.Nat.{ℕ, suc}
+use lib.Dec.{eqb}
+use Rattle.laws.specs.Ruled.{ruled, unless0}
+use Rattle.laws.specs.Upto.{lowest}
+use Rattle.schedule.specs.Paper.{Told, first, again, optional, advised, Shown, shown, end, read}
+use Rattle.plan.specs.Paper.{Plan, planNumber, hasPage, entryAt, pageAt, lowestAt, low15At}
+
+-- 01 Truthful: the lowest slot with a page
+abbrev pub leads : Plan → ℕ → Bool
+leads c i = eqb (entryAt c i .kind) 2 && eqb (lowestAt c i) (suc i)
+
+-- 01 Truthful: a later slot with that page
+abbrev pub repeats : Plan → ℕ → Bool
+repeats c i = eqb (entryAt c i .kind) 2 && not (eqb (lowestAt c i) (suc i))
+
+-- 01 Truthful: what may be told of a slot, by what is told; reserved descriptions are read as optional
+abbrev pub mayTell : Plan → ℕ → Told → Bool
+mayTell c i (first x) = leads c i && eqb x (low15At c i)
+mayTell c i (again n) = repeats c i && eqb n (lowestAt c i)
+mayTell c i optional = eqb (entryAt c i .kind) 0 || repeats c i
+mayTell c i advised = eqb (entryAt c i .kind) 1 || eqb (entryAt c i .kind) 2
+
+-- 01 Truthful: the new bit beside a description: 1 for advised, 0 for optional, and for first and repeat 1 exactly if the previous plan lacks the page
+abbrev pub newFor : Plan → Plan → ℕ → Told → Bool
+newFor c p i (first x) = not (hasPage p (pageAt c i))
+newFor c p i (again n) = not (hasPage p (pageAt c i))
+newFor c p i optional = false
+newFor c p i advised = true
+
+-- 01 Truthful: a slot is told truly
+unfoldable pub isTrue : Plan → Plan → ℕ → Shown → Bool
+isTrue c p i s = mayTell c i (s .told) && Bool·beq (s .new) (newFor c p i (s .told))
+
+-- 01 Numbers given, 40: what a message shows of a slot is untrue
+abbrev pub untrue : Plan → Plan → List ℕ → ℕ → Bool
+untrue c p m i = not (isTrue c p i (shown m i))
+
+-- 01 Order: the checker's number, and the slot that comes with 40
+pub record Checked : Type 0 where
+  pub number : ℕ
+  pub slot : ℕ
+
+-- 01 Order: with a refusal the other number is 0
+abbrev pub unchecked : ℕ → Checked
+unchecked n = record { number = n; slot = 0 }
+
+-- 01 Numbers given, 40: untrue, with a slot
+abbrev pub untrueAt : ℕ → Checked
+untrueAt s = record { number = 40; slot = s }
+
+-- 01 Numbers given, 40: with the lowest untrue slot, or 0 where End differs
+abbrev pub verdict : Plan → Plan → List ℕ → Checked
+verdict c p m =
+    cond (eqb (end m) (c .count))
+    (cond (eqb (lowest (untrue c p m) (c .count)) 0) (unchecked 0) (untrueAt (lowest (untrue c p m) (c .count))))
+    (untrueAt 0)
+
+-- 01 Order, checker: current, previous, 35, the reader's
+abbrev pub faults : Plan → Plan → List ℕ → ℕ → List (Bool × ℕ)
+faults c p m received =
+    unless0 (planNumber c) ∷ unless0 (planNumber p) ∷ (eqb (c .count) 0, 35) ∷ unless0 (read m received .number) ∷ []
+
+-- 01 The plan, Order: checking a message of which some octets are received, beside the current plan c and the previous plan p
+unfoldable pub check : Plan → Plan → List ℕ → ℕ → Checked
+check c p m received = ruled unchecked (faults c p m received) (verdict c p m)

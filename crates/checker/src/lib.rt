@@ -1,0 +1,1 @@
+// Schedule messages checked against a plan and the plan before it.

@@ -1,0 +1,2 @@
+-- What `sender` defines.
+pub mod Paper

@@ -1,0 +1,1 @@
+// Schedule messages written from a plan and the plan before it.
