@@ -3,5 +3,6 @@ pub mod Answers
 pub mod Determined
 pub mod Entries
 pub mod FileBack
+pub mod Lowest
 pub mod ReadGood
 pub mod Slots

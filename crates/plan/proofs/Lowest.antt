@@ -1,0 +1,62 @@
+-- The lowest slot of the page of a slot: it is no higher, has the same page, and is its own lowest.
+use mathlib.Core.Path.{_≡_, refl, sym, ap, _∙_}
+use mathlib.Core.Bool.{true}
+use Prim.Native.Nat.{ℕ, suc, _-_, _≤_, _<_}
+use native.Mathlib.Omega.{arith, by-contra}
+use lib.ListN.{length, getD, length-take, List·getD-eq-default}
+use lib.Seq.{getD-take}
+use Rattle.page.proofs.Sameness.{Same}
+use Rattle.plan.specs.Paper.{Entry, Plan, free, within, holds, entryAt, pageAt, lowestAt}
+use Rattle.plan.proofs.Slots.{holds-kind, holds-own, holds-identifier, lowest-same, Has, Lowest, absent, lowest, lowest-slot, lowest-reached}
+
+-- what is known of the lowest slot, with number s, of the page of slot i
+pub record Leading (p : Plan) (i s : ℕ) : Type 0 where
+  pub some : 0 < s
+  pub reaches : s ≤ suc i
+  pub page : entryAt p (s - 1) .kind ≡ 2
+  pub same : Same (pageAt p (s - 1)) (pageAt p i)
+  pub id : entryAt p (s - 1) .id ≡ entryAt p i .id
+  pub own : lowestAt p (s - 1) ≡ s
+
+module _ (p : Plan) where
+  within-at : (i : ℕ) → i < p .count → getD (within p) i free ≡ entryAt p i
+  within-at i l = getD-take (p .count) (p .entries) i free l
+
+  module _ (i : ℕ) (l : i < p .count) (k : entryAt p i .kind ≡ 2) where
+    -- an entry past the array is free, so one with a page is in it
+    inside : i < length (p .entries)
+    inside =
+        by-contra (suc i) (length (p .entries))
+        (λ far.
+        let none : entryAt p i .kind ≡ 0 =
+        ap (λ (e : Entry). e .kind) (List·getD-eq-default (p .entries) free (omega arith))
+        in
+        omega arith)
+
+    -- a slot within the count that is planned with a page has that page
+    pub has-own : Has p (pageAt p i) i
+    has-own =
+        record {
+          inside = rw length-take (let a = inside in omega arith);
+          holding = rw (within-at i l) (holds-own (entryAt p i) k);
+        }
+
+    pub leading : Leading p i (lowestAt p i)
+    leading = go (lowestAt p i) refl (lowest-slot p (pageAt p i))
+      where
+        go : (s : ℕ) → lowestAt p i ≡ s → Lowest p (pageAt p i) s → Leading p i s
+        go s e (absent z none) = absurd (none i has-own)
+        go s e (lowest j q h none) =
+            let reached = lowest-reached p (pageAt p i) i has-own in
+            let here : s - 1 ≡ j = omega arith in
+            let low : j < p .count = omega (arith, reached .1) in
+            let holding : holds (pageAt p i) (entryAt p j) ≡ true = rw (sym (within-at j low)) (h .holding) in
+            let known = holds-kind (pageAt p i) (entryAt p j) holding in
+            record {
+              some = omega arith;
+              reaches = omega (arith, reached .1);
+              page = rw here (known .0);
+              same = rw here (known .1);
+              id = rw here (holds-identifier (pageAt p i) (entryAt p j) holding);
+              own = rw here (lowest-same (pageAt p j) (pageAt p i) (known .1) p ∙ e);
+            }
