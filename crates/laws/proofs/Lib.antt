@@ -1,5 +1,6 @@
 -- What `laws` proves.
 pub mod Bits
+pub mod Lowest
 pub mod Outcome
 pub mod Parts
 pub mod Radix

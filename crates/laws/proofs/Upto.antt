@@ -14,7 +14,7 @@ use Rattle.laws.proofs.Snoc.{length-snoc}
 use Rattle.laws.proofs.Tests.{either}
 
 -- a number below one more is the last one, or below it
-below-suc : {i n : ℕ} → i < suc n → (i ≡ n) ⊎ (i < n)
+pub below-suc : {i n : ℕ} → i < suc n → (i ≡ n) ⊎ (i < n)
 below-suc h = eq-or-lt-of-le (le-of-suc-le-suc h)
 
 -- a number below n that passes the test

@@ -1,0 +1,48 @@
+-- Laws of the lowest number below a bound that passes a test.
+use mathlib.Core.Path.{_≡_, refl, sym, _∙_}
+use mathlib.Core.Bool.{Bool, true, false, cond, false≢true}
+use mathlib.Core.Logic.{⊎-elim}
+use Prim.Native.Nat.{ℕ, zero, suc, _<_}
+use native.Mathlib.Nat.{not-suc-le-zero}
+use native.Mathlib.Omega.{arith}
+use Rattle.laws.specs.Upto.{some, lowest}
+use Rattle.laws.proofs.Upto.{below-suc, some-at, some-none}
+
+module _ (p : ℕ → Bool) where
+  -- what the lowest number is: 0 where none passes, or one more than the first that does
+  pub data Lowest (n r : ℕ) : Type 0 where
+    none-passes : r ≡ 0 → ((i : ℕ) → i < n → p i ≡ false) → Lowest n r
+    first-passes : (i : ℕ) → r ≡ suc i → i < n → p i ≡ true → ((j : ℕ) → j < i → p j ≡ false) → Lowest n r
+
+  pub lowest-is : (n : ℕ) → Lowest n (lowest p n)
+  unfolding lowest some
+  lowest-is zero = none-passes refl (λ i l. absurd (not-suc-le-zero l))
+  lowest-is (suc n) = go (lowest-is n)
+    where
+      here : (b : Bool) → p n ≡ b → some p n ≡ false → ((i : ℕ) → i < n → p i ≡ false) → Lowest (suc n) (cond (some p n) (lowest p n) (cond (p n) (suc n) 0))
+      here true e s none = rw (s, e) (first-passes n refl (omega arith) e none)
+      here false e s none =
+          rw (s, e) (none-passes refl (λ i l. ⊎-elim (λ q. rw q e) (λ b. none i b) (below-suc l)))
+
+      go : Lowest n (lowest p n) → Lowest (suc n) (cond (some p n) (lowest p n) (cond (p n) (suc n) 0))
+      go (none-passes e none) = here (p n) refl (some-none p n none) none
+      go (first-passes i e l q before) = rw (some-at p n i l q) (first-passes i e (omega arith) q before)
+
+  -- the end of a loop that found the first number that passes
+  pub lowest-at : (n i : ℕ) → i < n → p i ≡ true → ((j : ℕ) → j < i → p j ≡ false) → lowest p n ≡ suc i
+  lowest-at n i l e before = go (lowest p n) (lowest-is n)
+    where
+      go : (r : ℕ) → Lowest n r → r ≡ suc i
+      go r (none-passes q none) = absurd (false≢true (sym (none i l) ∙ e))
+      go r (first-passes k q h f lower) =
+          let up : k < i → ⊥ = λ b. false≢true (sym (before k b) ∙ f) in
+          let down : i < k → ⊥ = λ b. false≢true (sym (lower i b) ∙ e) in
+          omega arith
+
+  -- the end of one that found none
+  pub lowest-none : (n : ℕ) → ((i : ℕ) → i < n → p i ≡ false) → lowest p n ≡ 0
+  lowest-none n none = go (lowest p n) (lowest-is n)
+    where
+      go : (r : ℕ) → Lowest n r → r ≡ 0
+      go r (none-passes q _) = q
+      go r (first-passes k q h f lower) = absurd (false≢true (sym (none k h) ∙ f))
