@@ -401,3 +401,10 @@ pub fn moved<'a>(descriptions: Descriptions<'a>, place: usize) -> Descriptions<'
         place,
     }
 }
+
+// What is given once the given number of descriptions are.
+fn given_at(message: &[u8], received: usize, place: usize) -> Given
+    ensures { λ r. ⌜ givenOf r ≡ given (now (message .entry)) received place ⌝ }
+{
+    next(moved(open(message, received), place))
+}
