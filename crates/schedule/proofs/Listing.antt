@@ -1,28 +1,29 @@
 -- The cases of the reader with all slots: refused by the header, by 23 or by 24, or all slots as they are shown.
 use mathlib.Core.Path.{_≡_, refl, sym, ap, _∙_}
-use mathlib.Core.Bool.{Bool, true, false, _&&_, _||_}
+use mathlib.Core.Bool.{Bool, true, false, _||_}
 use mathlib.Core.List.{List, map}
 use mathlib.Core.Logic.{inl, inr, ⊎-elim}
 use Prim.Native.Nat.{ℕ, _+_, _≤_, _<_}
 use native.Mathlib.Omega.{arith}
 use lib.ListN.{length, getD, replicate, getD-replicate, length-map, List·getD-map}
 use lib.Seq.{ext-getD}
-use lib.Dec.{eqb, leb, ltb}
-use borrow.Author.Tests.{eqb-true, leb-true, lt-ltb, le-ltb, not-false}
+use lib.Dec.{eqb, ltb}
+use borrow.Author.Tests.{eqb-true, lt-ltb, le-ltb, not-false}
 use Rattle.laws.specs.Ruled.{ruled}
 use Rattle.laws.specs.Upto.{some, count, each}
 use Rattle.laws.proofs.Ruled.{Among}
 use Rattle.laws.proofs.Outcome.{Outcome, refuses, passes, outcome, ruled-append}
-use Rattle.laws.proofs.Tests.{both, either}
+use Rattle.laws.proofs.Tests.{either}
 use Rattle.laws.proofs.Upto.{some-agree, each-length, each-at}
 use Rattle.answer.specs.Number.{numberOf}
 use Rattle.answer.proofs.Inverse.{numberOf-positive}
 use Rattle.answer.specs.declared.Refusal.{Refusal}
 use Rattle.schedule.specs.declared.Description.the-variants.{Optional}
 use Rattle.schedule.specs.declared.Slot.{Slot}
-use Rattle.schedule.specs.Paper.{begin, end, new, place, grouped, base, tells, shown, Shown, unused, slotAt, blocks, within, headFaults, bodyFaults, faults, falseRepeat, Read, unread, good, Listed, unlisted, whole, listed}
+use Rattle.schedule.specs.Paper.{end, new, place, grouped, base, tells, shown, Shown, unused, slotAt, blocks, within, headFaults, bodyFaults, faults, falseRepeat, Read, unread, good, Listed, unlisted, whole, listed}
 use Rattle.schedule.specs.Coded.{shownOf}
 use Rattle.schedule.specs.Parts.{Readable, headRead, zeroed, over, Fills, tellsOf}
+use Rattle.schedule.proofs.Header.{within-end}
 use Rattle.schedule.proofs.News.{grouped-flip}
 use Rattle.schedule.proofs.Order.{groups-whole}
 use Rattle.schedule.proofs.Places.{place-mono}
@@ -80,14 +81,12 @@ module _ (m : List ℕ) (received : ℕ) where
           let reads = f Read unread (good m) in
           let ends : e ≡ end m = ap (λ (r : Read). r .end) (q ∙ reads) in
           let sent = blocks-room received (not-false (blocks received) (h .1 .0)) in
-          let range = both (leb 1 (begin m)) (leb (begin m) (end m) && leb (end m) 48) (not-false (within m) (h .1 .1 .1 .0)) in
-          let over = both (leb (begin m) (end m)) (leb (end m) 48) (range .1) in
           record {
             long = eqb-true (length m) 88 (not-false (eqb (length m) 88) (h .0));
             room = sent .0;
             few = sent .1;
             ends = ends;
-            last = rw ends (leb-true (end m) 48 (over .1));
+            last = rw ends (within-end m (not-false (within m) (h .1 .1 .1 .0)));
             reads = reads;
             lists = ruled-append unlisted (headFaults m received) (bodyFaults m received) (whole m) ∙ f Listed unlisted (ruled unlisted (bodyFaults m received) (whole m));
           }

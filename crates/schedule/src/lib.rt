@@ -4,8 +4,8 @@ ghost use mathlib.Core.Bool.{true, false};
 ghost use Prim.Native.Nat.{_<_, _≤_};
 ghost use lib.ListN.{length};
 ghost use Rattle.laws.specs.Upto.{some, count};
-ghost use Rattle.schedule.specs.Paper.{new as newOf, end as endOf, newPast, blocks, short, isFirst, falseRepeat, place as placeOf, base, grouped, read, listed, given, slotOf};
-ghost use Rattle.schedule.specs.Coded.{toldOf, readOf, listedOf, givenOf};
+ghost use Rattle.schedule.specs.Paper.{new as newOf, end as endOf, newPast, blocks, short, isFirst, falseRepeat, place as placeOf, base, grouped, read, listed, given, slotOf, ordered};
+ghost use Rattle.schedule.specs.Coded.{toldOf, readOf, listedOf, givenOf, orderedOf};
 ghost use Rattle.schedule.specs.Parts.{Readable, headRead, steppedOf, step, Group, tellsOf, Picks, unlistedBy};
 use answer::Refusal;
 
@@ -50,6 +50,24 @@ pub enum Given {
     Next(usize, Slot),
     NoMore,
     Refused(Refusal),
+}
+
+// A slot by its number.
+pub struct Numbered {
+    pub number: usize,
+    pub slot: Slot,
+}
+
+// How many slots are given, or a refusal.
+pub enum Counted {
+    Count(usize),
+    Refused(Refusal),
+}
+
+// All that the description reader gives, in the message's order.
+pub struct Ordered {
+    pub answer: Counted,
+    pub given: [Numbered; 48],
 }
 
 // Whether slot i, counted from 0, has its new bit set.
@@ -407,4 +425,43 @@ fn given_at(message: &[u8], received: usize, place: usize) -> Given
     ensures { λ r. ⌜ givenOf r ≡ given (now (message .entry)) received place ⌝ }
 {
     next(moved(open(message, received), place))
+}
+
+// All that is given from opening on. Each step reads the message anew: where the order doesn't matter, `read_slots` is the fast way.
+pub fn all_given(message: &[u8], received: usize) -> Ordered
+    ensures { λ r. ⌜ orderedOf r ≡ ordered (now (message .entry)) received ⌝ }
+{
+    let mut given = [Numbered {
+        number: 0,
+        slot: Slot {
+            new: false,
+            description: Description::Optional,
+        },
+    }; 48];
+    let mut k = 0;
+    while k < SLOTS {
+        let step = given_at(message, received, k);
+        match step {
+            Given::Next(number, slot) => {
+                given[k] = Numbered { number, slot };
+            }
+            Given::NoMore => {
+                return Ordered {
+                    answer: Counted::Count(k),
+                    given,
+                };
+            }
+            Given::Refused(refusal) => {
+                return Ordered {
+                    answer: Counted::Refused(refusal),
+                    given,
+                };
+            }
+        }
+        k += 1;
+    }
+    Ordered {
+        answer: Counted::Count(k),
+        given,
+    }
 }
