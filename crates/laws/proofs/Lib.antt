@@ -3,6 +3,7 @@ pub mod Bits
 pub mod Outcome
 pub mod Parts
 pub mod Radix
+pub mod Received
 pub mod Ruled
 pub mod Search
 pub mod Snoc

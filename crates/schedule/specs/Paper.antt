@@ -4,6 +4,7 @@ use mathlib.Core.List.{List, [], _∷_, _++_}
 use Prim.Native.Nat.{ℕ, zero, suc, _+_, _*_, _-_, _/_, _%_, _^_}
 use lib.ListN.{length, take, drop, getD}
 use lib.Dec.{eqb, leb, ltb}
+use Rattle.laws.specs.Received.{wholeBlocks}
 use Rattle.laws.specs.Ruled.{ruled}
 use Rattle.laws.specs.Upto.{some, count, picked, each}
 
@@ -100,10 +101,6 @@ falseIn t i advised = false
 abbrev pub falseRepeat : (ℕ → Told) → ℕ → Bool
 falseRepeat t i = falseIn t i (t i)
 
--- 01 Numbers given, 18: what one to four blocks hold
-abbrev pub blocks : ℕ → Bool
-blocks received = eqb received 22 || (eqb received 44 || (eqb received 66 || eqb received 88))
-
 -- 01 Schedule message: 1 ≤ Begin ≤ End ≤ 48
 abbrev pub within : List ℕ → Bool
 within m = leb 1 (begin m) && (leb (begin m) (end m) && leb (end m) 48)
@@ -116,7 +113,7 @@ newPast m i = leb (end m) i && new m i
 abbrev pub headFaults : List ℕ → ℕ → List (Bool × ℕ)
 headFaults m received =
     (not (eqb (length m) 88), 16)
-    ∷ (not (blocks received), 18)
+    ∷ (not (wholeBlocks received), 18)
     ∷ (not (eqb (type m) 0), 20)
     ∷ (not (within m), 21)
     ∷ (some (newPast m) 48, 22)

@@ -4,10 +4,11 @@ ghost use mathlib.Core.Bool.{true, false};
 ghost use Prim.Native.Nat.{_<_, _≤_};
 ghost use lib.ListN.{length};
 ghost use Rattle.laws.specs.Upto.{some, count};
-ghost use Rattle.schedule.specs.Paper.{new as newOf, end as endOf, newPast, blocks, short, isFirst, falseRepeat, place as placeOf, base, grouped, read, listed, given, slotOf, ordered};
+ghost use Rattle.schedule.specs.Paper.{new as newOf, end as endOf, newPast, short, isFirst, falseRepeat, place as placeOf, base, grouped, read, listed, given, slotOf, ordered};
 ghost use Rattle.schedule.specs.Coded.{toldOf, readOf, listedOf, givenOf, orderedOf};
 ghost use Rattle.schedule.specs.Parts.{Readable, headRead, steppedOf, step, Group, tellsOf, Picks, unlistedBy};
 use answer::Refusal;
+use answer::whole_blocks;
 
 // 000 3.3.1: the octets of a message.
 const MESSAGE: usize = 88;
@@ -100,7 +101,7 @@ fn read_header(message: &[u8], received: usize) -> Reading
     if message.len() != MESSAGE {
         return Reading::Refused(Refusal::MessageLength);
     }
-    if !is_received(received) {
+    if !whole_blocks(received) {
         return Reading::Refused(Refusal::ReceivedOctets);
     }
     let begin = message[0] as usize;
@@ -121,22 +122,6 @@ fn read_header(message: &[u8], received: usize) -> Reading
         return Reading::Refused(Refusal::NewPastEnd);
     }
     Reading::Read(begin, end)
-}
-
-// Whether a number of octets is that of one to four blocks.
-fn is_received(received: usize) -> bool
-    ensures { λ r. ⌜ r ≡ blocks received ⌝ }
-{
-    if received == 22 {
-        return true;
-    }
-    if received == 44 {
-        return true;
-    }
-    if received == 66 {
-        return true;
-    }
-    received == MESSAGE
 }
 
 // A description with the place after it, or one that passes the received octets.
