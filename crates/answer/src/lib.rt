@@ -1,5 +1,6 @@
-// The refusals of document 01's table of numbers, each with its number.
+// The refusals of document 01's table of numbers, each with its number, and the test behind one that pages and schedule messages share.
 ghost use mathlib.Core.Path.{_≡_};
+ghost use Rattle.laws.specs.Received.{wholeBlocks};
 ghost use Rattle.answer.specs.Number.{numberOf};
 
 pub enum Refusal {
@@ -97,5 +98,15 @@ pub fn number(refusal: Refusal) -> u8
         Refusal::Untrue => 40,
         Refusal::SlotNumber => 41,
         Refusal::WantedCount => 42,
+    }
+}
+
+// Whether so many octets are those of one to four blocks. What is received of a page or a schedule message must be, or it is refused as `ReceivedOctets`.
+pub fn whole_blocks(received: usize) -> bool
+    ensures { λ r. ⌜ r ≡ wholeBlocks received ⌝ }
+{
+    match received {
+        22 | 44 | 66 | 88 => true,
+        _ => false,
     }
 }

@@ -4,6 +4,7 @@ pub mod Lowest
 pub mod Outcome
 pub mod Parts
 pub mod Radix
+pub mod Received
 pub mod Ruled
 pub mod Search
 pub mod Snoc

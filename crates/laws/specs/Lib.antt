@@ -1,5 +1,6 @@
 -- What `laws` defines.
 pub mod Radix
+pub mod Received
 pub mod Ruled
 pub mod Search
 pub mod Table

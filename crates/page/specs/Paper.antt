@@ -1,9 +1,10 @@
 -- A page's header, the sameness of pages, and the part handed back, as document 01 has them.
 use Prim.Native.Nat.{ℕ, _+_, _*_, _-_, _/_, _%_}
-use mathlib.Core.Bool.{Bool, not, _&&_, _||_}
+use mathlib.Core.Bool.{Bool, not, _&&_}
 use mathlib.Core.List.{List, [], _∷_}
 use lib.Dec.{eqb}
 use lib.ListN.{length, getD, take, drop}
+use Rattle.laws.specs.Received.{wholeBlocks}
 use Rattle.laws.specs.Ruled.{ruled}
 
 -- 01 Page and text, 002 9.3.2: what the header says
@@ -41,10 +42,6 @@ pub record Name : Type 0 where
 -- 01 Page and text: the same page when serial number, message identifier and page parameter are equal
 unfoldable pub samePage : Name → Name → Bool
 samePage a b = eqb (a .serial) (b .serial) && (eqb (a .id) (b .id) && eqb (a .parameter) (b .parameter))
-
--- 01 Intake: the octets received are 22, 44, 66 or 88
-unfoldable pub wholeBlocks : ℕ → Bool
-wholeBlocks n = eqb n 22 || (eqb n 44 || (eqb n 66 || eqb n 88))
 
 -- 01 Order, the handing back: 16, then 18
 abbrev pub handing : List ℕ → ℕ → List (Bool × ℕ)

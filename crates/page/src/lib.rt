@@ -1,9 +1,10 @@
 // A page's header, the sameness of two pages, and the part of a page's content that was received.
 ghost use mathlib.Core.Path.{_≡_};
 ghost use Prim.Native.Nat.{_+_, _*_};
-ghost use Rattle.page.specs.Paper.{header, headerOctets, samePage, wholeBlocks, handedPart, handedNumber};
+ghost use Rattle.page.specs.Paper.{header, headerOctets, samePage, handedPart, handedNumber};
 ghost use Rattle.page.specs.Coded.{headingOf, nameOf, numberOfHanding, partOf};
 use answer::Refusal;
+use answer::whole_blocks;
 
 // A serial number.
 pub struct Serial(pub u16);
@@ -78,16 +79,6 @@ pub fn same(a: PageName, b: PageName) -> bool
         return false;
     }
     a.parameter == b.parameter
-}
-
-// Whether so many octets are those of one to four blocks.
-fn whole_blocks(received: usize) -> bool
-    ensures { λ r. ⌜ r ≡ wholeBlocks received ⌝ }
-{
-    match received {
-        22 | 44 | 66 | 88 => true,
-        _ => false,
-    }
 }
 
 // Whether `content` hands a part back, and if not why.

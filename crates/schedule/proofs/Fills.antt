@@ -20,7 +20,7 @@ use Rattle.schedule.proofs.News.{grouped-is}
 use Rattle.schedule.proofs.Places.{place-next, place-after, Taken, step-took, step-past}
 
 -- whether i is below j + 1, where it is not j
-below-other : (i j : ℕ) → (i ≡ j → ⊥) → ltb i (j + 1) ≡ ltb i j
+pub below-other : (i j : ℕ) → (i ≡ j → ⊥) → ltb i (j + 1) ≡ ltb i j
 below-other i j h = go (ltb i j) refl
   where
     go : (b : Bool) → ltb i j ≡ b → ltb i (j + 1) ≡ ltb i j

@@ -1,26 +1,25 @@
 -- The reader and the reader of descriptions, told from the reader with all slots.
 use mathlib.Core.Path.{_≡_, sym, ap, _∙_}
-use mathlib.Core.Bool.{_&&_}
 use mathlib.Core.List.{List, map}
 use mathlib.Core.Logic.{inl, inr}
 use Prim.Native.Nat.{ℕ, _+_, _≤_, _<_}
 use native.Mathlib.Numerals.{add-one}
 use native.Mathlib.Omega.{arith}
 use lib.ListN.{length, getD, List·getD-map}
-use lib.Dec.{eqb, leb}
-use borrow.Author.Tests.{eqb-true, leb-true, lt-ltb, le-ltb, not-false}
+use lib.Dec.{eqb}
+use borrow.Author.Tests.{eqb-true, lt-ltb, le-ltb, not-false}
 use Rattle.laws.specs.Upto.{each}
 use Rattle.laws.proofs.Ruled.{Among, ruled-map}
 use Rattle.laws.proofs.Outcome.{Outcome, refuses, passes, outcome}
-use Rattle.laws.proofs.Tests.{both}
 use Rattle.laws.proofs.Upto.{each-at}
 use Rattle.answer.specs.Number.{numberOf}
 use Rattle.answer.proofs.Inverse.{numberOf-positive}
 use Rattle.answer.specs.declared.Refusal.{Refusal}
 use Rattle.schedule.specs.declared.Slot.{Slot}
-use Rattle.schedule.specs.Paper.{begin, end, within, faults, Shown, shown, slotAt, slotOf, Read, unread, read, Listed, unlisted, whole, listed, Given, next, noMore, refusal, givenAt, given}
+use Rattle.schedule.specs.Paper.{end, within, faults, Shown, shown, slotAt, slotOf, Read, unread, read, Listed, unlisted, whole, listed, Given, next, noMore, refusal, givenAt, given}
 use Rattle.schedule.specs.Coded.{shownOf}
 use Rattle.schedule.specs.Parts.{zeroed}
+use Rattle.schedule.proofs.Header.{within-end}
 
 -- no refusal has the number 0
 pub faults-some : (m : List ℕ) (received n : ℕ) → Among n (faults m received) → n ≡ 0 → ⊥
@@ -74,12 +73,10 @@ module _ (m : List ℕ) (received : ℕ) where
         go (passes h f) =
             let all = q ∙ f Listed unlisted (whole m) in
             let ends : e ≡ end m = sym (ap (λ (y : Read). y .end) p) ∙ ap (λ (l : Listed). l .read .end) all in
-            let range = both (leb 1 (begin m)) (leb (begin m) (end m) && leb (end m) 48) (not-false (within m) (h .1 .1 .1 .0)) in
-            let over = both (leb (begin m) (end m)) (leb (end m) 48) (range .1) in
             record {
               long = eqb-true (length m) 88 (not-false (eqb (length m) 88) (h .0));
               ends = ends;
-              last = rw ends (leb-true (end m) 48 (over .1));
+              last = rw ends (within-end m (not-false (within m) (h .1 .1 .1 .0)));
               shows = ap (λ (l : Listed). l .slots) all;
               gives = λ k. f Given refusal (givenAt m k);
             }

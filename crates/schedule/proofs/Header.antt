@@ -1,18 +1,22 @@
 -- The cases of the header: which of its tests answers.
 use mathlib.Core.Path.{_≡_}
-use mathlib.Core.Bool.{true, false, and-false}
+use mathlib.Core.Bool.{true, false, _&&_, and-false}
 use mathlib.Core.List.{List}
 use Prim.Native.Nat.{ℕ, _≤_, _<_}
 use native.Mathlib.Omega.{arith}
 use lib.ListN.{length}
-use lib.Dec.{eqb}
-use borrow.Author.Tests.{eq-eqb, ne-eqb, le-leb, lt-leb}
+use lib.Dec.{eqb, leb}
+use borrow.Author.Tests.{eq-eqb, ne-eqb, le-leb, lt-leb, leb-true}
+use Rattle.laws.specs.Received.{wholeBlocks}
 use Rattle.laws.specs.Upto.{some}
-use Rattle.schedule.specs.Paper.{octet, type, begin, end, blocks, within, newPast, Read, unread}
+use Rattle.laws.proofs.Tests.{both}
+use Rattle.schedule.specs.Paper.{octet, type, begin, end, within, newPast, Read, unread}
 use Rattle.schedule.specs.Parts.{headRead}
 
-pub blocks-last : (r : ℕ) → (r ≡ 22 → ⊥) → (r ≡ 44 → ⊥) → (r ≡ 66 → ⊥) → eqb r 88 ≡ blocks r
-blocks-last r a b c = rw (ne-eqb r 22 a, ne-eqb r 44 b, ne-eqb r 66 c)
+pub within-end : (m : List ℕ) → within m ≡ true → end m ≤ 48
+within-end m w =
+    let upper = both (leb 1 (begin m)) (leb (begin m) (end m) && leb (end m) 48) w .1 in
+    leb-true (end m) 48 (both (leb (begin m) (end m)) (leb (end m) 48) upper .1)
 
 -- the rule of Begin and End by the first octet, where the type is 00
 module _ (m : List ℕ) (low : octet m 0 < 64) where
@@ -39,11 +43,11 @@ module _ (m : List ℕ) (received : ℕ) where
   head-length h = rw (ne-eqb (length m) 88 h)
 
   module _ (whole : length m ≡ 88) where
-    pub head-received : blocks received ≡ false → unread 18 ≡ headRead m received
+    pub head-received : wholeBlocks received ≡ false → unread 18 ≡ headRead m received
     unfolding headRead
     head-received h = rw (eq-eqb (length m) 88 whole, h)
 
-    module _ (sent : blocks received ≡ true) where
+    module _ (sent : wholeBlocks received ≡ true) where
       pub head-type : 64 ≤ octet m 0 → unread 20 ≡ headRead m received
       unfolding headRead
       head-type h =

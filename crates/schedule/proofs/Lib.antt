@@ -1,5 +1,6 @@
 -- What `schedule` proves.
 pub mod Givens
+pub mod Giving
 pub mod Header
 pub mod Listing
 pub mod News

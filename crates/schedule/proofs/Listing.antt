@@ -1,28 +1,30 @@
 -- The cases of the reader with all slots: refused by the header, by 23 or by 24, or all slots as they are shown.
 use mathlib.Core.Path.{_≡_, refl, sym, ap, _∙_}
-use mathlib.Core.Bool.{Bool, true, false, _&&_, _||_}
+use mathlib.Core.Bool.{Bool, true, false}
 use mathlib.Core.List.{List, map}
-use mathlib.Core.Logic.{inl, inr, ⊎-elim}
+use mathlib.Core.Logic.{inl, inr}
 use Prim.Native.Nat.{ℕ, _+_, _≤_, _<_}
 use native.Mathlib.Omega.{arith}
 use lib.ListN.{length, getD, replicate, getD-replicate, length-map, List·getD-map}
 use lib.Seq.{ext-getD}
-use lib.Dec.{eqb, leb, ltb}
-use borrow.Author.Tests.{eqb-true, leb-true, lt-ltb, le-ltb, not-false}
+use lib.Dec.{eqb, ltb}
+use borrow.Author.Tests.{eqb-true, lt-ltb, le-ltb, not-false}
+use Rattle.laws.specs.Received.{wholeBlocks}
 use Rattle.laws.specs.Ruled.{ruled}
 use Rattle.laws.specs.Upto.{some, count, each}
+use Rattle.laws.proofs.Received.{whole-bounds}
 use Rattle.laws.proofs.Ruled.{Among}
 use Rattle.laws.proofs.Outcome.{Outcome, refuses, passes, outcome, ruled-append}
-use Rattle.laws.proofs.Tests.{both, either}
 use Rattle.laws.proofs.Upto.{some-agree, each-length, each-at}
 use Rattle.answer.specs.Number.{numberOf}
 use Rattle.answer.proofs.Inverse.{numberOf-positive}
 use Rattle.answer.specs.declared.Refusal.{Refusal}
 use Rattle.schedule.specs.declared.Description.the-variants.{Optional}
 use Rattle.schedule.specs.declared.Slot.{Slot}
-use Rattle.schedule.specs.Paper.{begin, end, new, place, grouped, base, tells, shown, Shown, unused, slotAt, blocks, within, headFaults, bodyFaults, faults, falseRepeat, Read, unread, good, Listed, unlisted, whole, listed}
+use Rattle.schedule.specs.Paper.{end, new, place, grouped, base, tells, shown, Shown, unused, slotAt, within, headFaults, bodyFaults, faults, falseRepeat, Read, unread, good, Listed, unlisted, whole, listed}
 use Rattle.schedule.specs.Coded.{shownOf}
 use Rattle.schedule.specs.Parts.{Readable, headRead, zeroed, over, Fills, tellsOf}
+use Rattle.schedule.proofs.Header.{within-end}
 use Rattle.schedule.proofs.News.{grouped-flip}
 use Rattle.schedule.proofs.Order.{groups-whole}
 use Rattle.schedule.proofs.Places.{place-mono}
@@ -44,21 +46,6 @@ head-some m received n (inr (inr (inr (inl e)))) z = omega arith
 head-some m received n (inr (inr (inr (inr (inl e))))) z = omega arith
 head-some m received n (inr (inr (inr (inr (inr e))))) z = e
 
-blocks-room : (r : ℕ) → blocks r ≡ true → (22 ≤ r) × (r ≤ 88)
-blocks-room r e =
-    ⊎-elim
-    (λ a. let q = eqb-true r 22 a in (omega arith, omega arith))
-    (λ w.
-    ⊎-elim
-    (λ a. let q = eqb-true r 44 a in (omega arith, omega arith))
-    (λ v.
-    ⊎-elim
-    (λ a. let q = eqb-true r 66 a in (omega arith, omega arith))
-    (λ a. let q = eqb-true r 88 a in (omega arith, omega arith))
-    (either (eqb r 66) (eqb r 88) v))
-    (either (eqb r 44) (eqb r 66 || eqb r 88) w))
-    (either (eqb r 22) (eqb r 44 || (eqb r 66 || eqb r 88)) e)
-
 module _ (m : List ℕ) (received : ℕ) where
   -- a header that was read
   pub record Headed (b e : ℕ) : Type 0 where
@@ -79,15 +66,13 @@ module _ (m : List ℕ) (received : ℕ) where
       go (passes h f) =
           let reads = f Read unread (good m) in
           let ends : e ≡ end m = ap (λ (r : Read). r .end) (q ∙ reads) in
-          let sent = blocks-room received (not-false (blocks received) (h .1 .0)) in
-          let range = both (leb 1 (begin m)) (leb (begin m) (end m) && leb (end m) 48) (not-false (within m) (h .1 .1 .1 .0)) in
-          let over = both (leb (begin m) (end m)) (leb (end m) 48) (range .1) in
+          let sent = whole-bounds received (not-false (wholeBlocks received) (h .1 .0)) in
           record {
             long = eqb-true (length m) 88 (not-false (eqb (length m) 88) (h .0));
             room = sent .0;
             few = sent .1;
             ends = ends;
-            last = rw ends (leb-true (end m) 48 (over .1));
+            last = rw ends (within-end m (not-false (within m) (h .1 .1 .1 .0)));
             reads = reads;
             lists = ruled-append unlisted (headFaults m received) (bodyFaults m received) (whole m) ∙ f Listed unlisted (ruled unlisted (bodyFaults m received) (whole m));
           }

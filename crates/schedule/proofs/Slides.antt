@@ -8,10 +8,11 @@ use lib.ListN.{length, take, drop, getD, set, length-set, List·getD-eq-default}
 use lib.Seq.{getD-set-same, getD-set-other, take-set-le, drop-set-add}
 use lib.Dec.{eqb, leb, ltb}
 use borrow.Author.Tests.{eqb-true, eqb-false, ltb-true, ltb-false, leb-true, lt-leb, le-leb, ne-eqb}
+use Rattle.laws.specs.Received.{wholeBlocks}
 use Rattle.laws.specs.Ruled.{ruled}
 use Rattle.laws.specs.Upto.{some, count, picked, each}
 use Rattle.laws.proofs.Tests.{both}
-use Rattle.schedule.specs.Paper.{octet, end, new, bitmap, width, reserved, told, place, rank, order, tells, falseRepeat, blocks, faults, unused, unread, read, unlisted, listed, next, noMore, refusal, given}
+use Rattle.schedule.specs.Paper.{octet, end, new, bitmap, width, reserved, told, place, rank, order, tells, falseRepeat, faults, unused, unread, read, unlisted, listed, next, noMore, refusal, given}
 use Rattle.schedule.specs.Claims.{made40, Alike}
 use Rattle.schedule.proofs.Places.{place-mono, place-after}
 
@@ -125,7 +126,7 @@ module _ (m : List ℕ) (k : ℕ) (h : reserved (octet m (place m k)) ≡ true) 
     faults-same : faults m′ received ≡ faults m received
     faults-same =
         λ p. (not (eqb (length-set m spot 64 p) 88), 16)
-        ∷ (not (blocks received), 18)
+        ∷ (not (wholeBlocks received), 18)
         ∷ (not (eqb (head-same p / 64) 0), 20)
         ∷ (not (leb 1 (head-same p % 64) && (leb (head-same p % 64) (end-same p % 64) && leb (end-same p % 64) 48)), 21)
         ∷ (some (λ (i : ℕ). leb (end-same p % 64) i && new-same p i) 48, 22)

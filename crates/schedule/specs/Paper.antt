@@ -4,6 +4,7 @@ use mathlib.Core.List.{List, [], _∷_, _++_}
 use Prim.Native.Nat.{ℕ, zero, suc, _+_, _*_, _-_, _/_, _%_, _^_}
 use lib.ListN.{length, take, drop, getD}
 use lib.Dec.{eqb, leb, ltb}
+use Rattle.laws.specs.Received.{wholeBlocks}
 use Rattle.laws.specs.Ruled.{ruled}
 use Rattle.laws.specs.Upto.{some, count, picked, each}
 
@@ -100,10 +101,6 @@ falseIn t i advised = false
 abbrev pub falseRepeat : (ℕ → Told) → ℕ → Bool
 falseRepeat t i = falseIn t i (t i)
 
--- 01 Numbers given, 18: what one to four blocks hold
-abbrev pub blocks : ℕ → Bool
-blocks received = eqb received 22 || (eqb received 44 || (eqb received 66 || eqb received 88))
-
 -- 01 Schedule message: 1 ≤ Begin ≤ End ≤ 48
 abbrev pub within : List ℕ → Bool
 within m = leb 1 (begin m) && (leb (begin m) (end m) && leb (end m) 48)
@@ -116,7 +113,7 @@ newPast m i = leb (end m) i && new m i
 abbrev pub headFaults : List ℕ → ℕ → List (Bool × ℕ)
 headFaults m received =
     (not (eqb (length m) 88), 16)
-    ∷ (not (blocks received), 18)
+    ∷ (not (wholeBlocks received), 18)
     ∷ (not (eqb (type m) 0), 20)
     ∷ (not (within m), 21)
     ∷ (some (newPast m) 48, 22)
@@ -202,3 +199,36 @@ givenAt m k = cond (ltb k (end m)) (next (suc (slotOf m k)) (shown m (slotOf m k
 -- 01 Schedule message, Order: the reader of descriptions; over a refused message each call gives that refusal
 unfoldable pub given : List ℕ → ℕ → ℕ → Given
 given m received k = ruled refusal (faults m received) (givenAt m k)
+
+-- 01 Schedule message: a slot by its number, and what is shown of it
+pub record Numbered : Type 0 where
+  pub number : ℕ
+  pub shown : Shown
+
+-- 01 Schedule message: all that the reader of descriptions gives, in the message's order: the refusal's number or 0, how many slots are given, and each, with unused ones after them up to 48
+pub record Ordered : Type 0 where
+  pub number : ℕ
+  pub count : ℕ
+  pub given : List Numbered
+
+-- 01 Order: with a refusal the other numbers are 0
+abbrev pub nothing : Numbered
+nothing = record { number = 0; shown = unused }
+
+-- 01 Schedule message: the slot that is given, if one is
+abbrev pub entry : Given → Numbered
+entry (next n s) = record { number = n; shown = s }
+entry noMore = nothing
+entry (refusal n) = nothing
+
+-- 01 Order: with a refusal no slot is given
+abbrev pub unordered : ℕ → Ordered
+unordered n = record { number = n; count = 0; given = each (λ (k : ℕ). nothing) 48 }
+
+-- 01 Schedule message: a message that is not refused gives its slots up to End, each in its place of the order
+abbrev pub inOrder : List ℕ → Ordered
+inOrder m = record { number = 0; count = end m; given = each (λ (k : ℕ). entry (givenAt m k)) 48 }
+
+-- 01 Schedule message, Order: the reader of descriptions, from opening to no more
+unfoldable pub ordered : List ℕ → ℕ → Ordered
+ordered m received = ruled unordered (faults m received) (inOrder m)

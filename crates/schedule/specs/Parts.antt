@@ -10,8 +10,8 @@ use Rattle.laws.specs.Upto.{count, each}
 use Rattle.answer.specs.Number.{numberOf}
 use Rattle.schedule.specs.declared.Description.the-variants.{First}
 use Rattle.schedule.specs.declared.Slot.{Slot}
-use Rattle.schedule.specs.declared.Step.{Step}
-use Rattle.schedule.specs.declared.Step.the-variants.{Took, Past}
+use Rattle.schedule.specs.declared.told.Step.{Step}
+use Rattle.schedule.specs.declared.told.Step.the-variants.{Took, Past}
 use Rattle.schedule.specs.declared.Reach.{Reach}
 use Rattle.schedule.specs.declared.Reach.the-variants.{To, Refused}
 use Rattle.schedule.specs.Paper.{Told, octet, end, width, told, place, new, grouped, base, shown, Shown, Read, unread, good, headFaults, Listed, unused}

@@ -7,8 +7,9 @@ use Prim.Native.Nat.{ℕ, _≤_}
 use native.Mathlib.Omega.{arith}
 use lib.ListN.{length}
 use borrow.Author.Tests.{ltb-false, not-false}
+use Rattle.laws.specs.Received.{wholeBlocks}
 use Rattle.laws.proofs.Ruled.{Among, Ruling, refuses, passes, ruling}
-use Rattle.page.specs.Paper.{Heading, wholeBlocks}
+use Rattle.page.specs.Paper.{Heading}
 use Rattle.text.specs.Paper.{Writing, foreign, endsInCr, usedOctets, pageOf, writerTests, written, received, trimmed, shown, readerTests, reading}
 use Rattle.text.proofs.Cases.{unwritten, unread}
 

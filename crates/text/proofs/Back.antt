@@ -12,14 +12,15 @@ use lib.Pow.{pow-add}
 use lib.Seq.{take-length, drop-at, take-append-add, getD-take}
 use borrow.Author.Tests.{eqb-false}
 use Rattle.laws.specs.Radix.{value, Below}
+use Rattle.laws.specs.Received.{wholeBlocks}
 use Rattle.laws.proofs.Parts.{drop-take, take-replicate}
 use Rattle.laws.proofs.Radix.{length-digits, take-digits, digits-front, digits-kept, power-bits}
+use Rattle.laws.proofs.Received.{Blocks, whole, whole-bounds}
 use Rattle.laws.proofs.Tests.{neither}
 use Rattle.alphabet.specs.Paper.{codePoint, septetOf, noSeptet}
 use Rattle.alphabet.proofs.Laws.{Writes, reads-cr}
-use Rattle.page.specs.Paper.{Heading, headerOctets, octet, wholeBlocks}
+use Rattle.page.specs.Paper.{Heading, headerOctets, octet}
 use Rattle.page.proofs.HeaderBack.{header-length, header-scheme}
-use Rattle.page.proofs.Received.{Blocks, whole, in-page}
 use Rattle.text.specs.Paper.{Writing, cr, septets, packed, pageOf, usedOctets, foreign, endsInCr, written, wholeOf, received, trimmed, shown, reading}
 use Rattle.text.proofs.Accepted.{writer-accepts}
 use Rattle.text.proofs.Cases.{reading-0}
@@ -131,9 +132,9 @@ pub text-back : (h : Heading) (t p : List ℕ) → written h t p .number ≡ 0
     → reading q n u ≡ record { number = 0; characters = length t; text = t ++ replicate (93 - length t) 0 }
 text-back h t p z q u n w used lq lu agree =
     let a = writer-accepts h t p z in
-    let b = in-page n w in
+    let b = whole-bounds n w in
     let e : take n q ≡ take n (pageOf h t) = agree ∙ ap (λ (x : Writing). take n (x .page)) (a .result) in
-    let s : octet q 5 ≤ 15 = rw (scheme-back h t q n (b .0) e) (a .scheme) in
+    let s : octet q 5 ≤ 15 = rw (scheme-back h t q n (omega arith) e) (a .scheme) in
     let got : received q n ≡ take (8 * (n - 6) / 7) (septets t) =
     ap wholeOf (content-back h t q n e)
     ∙ front-back (septets t) (n - 6) (septets-count t (a .short)) (omega arith) (septets-below t (a .known)) in

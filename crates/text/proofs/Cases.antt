@@ -6,7 +6,8 @@ use Prim.Native.Nat.{ℕ, _<_, _≤_}
 use native.Mathlib.Omega.{arith}
 use lib.ListN.{length}
 use borrow.Author.Tests.{eq-eqb, ne-eqb, lt-ltb, le-ltb}
-use Rattle.page.specs.Paper.{Heading, octet, wholeBlocks, handedNumber}
+use Rattle.laws.specs.Received.{wholeBlocks}
+use Rattle.page.specs.Paper.{Heading, octet, handedNumber}
 use Rattle.page.proofs.Received.{Handled, length-wrong, received-wrong, all-right, handled}
 use Rattle.text.specs.Paper.{Writing, Reading, badParameter, foreign, endsInCr, usedOctets, pageOf, written, received, trimmed, shown, reading}
 

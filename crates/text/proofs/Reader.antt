@@ -7,7 +7,7 @@ use native.Mathlib.Omega.{arith}
 use lib.Dec.{lit≤}
 use lib.ListN.{length, take, drop, replicate, length-take}
 use Rattle.laws.proofs.Radix.{length-digits}
-use Rattle.page.proofs.Received.{in-page}
+use Rattle.laws.proofs.Received.{whole-bounds}
 use Rattle.text.specs.Paper.{Reading, cr, wholeOf, received, trimmed, shown, reading}
 use Rattle.text.proofs.Accepted.{Reads, refused, read, reads}
 use Rattle.text.proofs.Trim.{trim-rest, trim-length, trim-front}
@@ -31,7 +31,7 @@ characters-bounded p n t = go (reads p n t)
     go (refused m ne e) = rw e (lit≤ tt)
     go (read w e) =
         let c : reading p n t .characters ≡ length (trimmed (received p n)) = ap (λ (r : Reading). r .characters) e ∙ count-shown (trimmed (received p n)) in
-        omega (arith, c, trim-length (received p n), received-bound p n (in-page n w .1))
+        omega (arith, c, trim-length (received p n), received-bound p n (whole-bounds n w .1))
 
 -- the septets received are those shown and then CRs only
 pub drops-crs-only : (p : List ℕ) (n : ℕ) (t : List ℕ) → reading p n t .number ≡ 0

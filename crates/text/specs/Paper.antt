@@ -4,10 +4,11 @@ use mathlib.Core.Bool.{Bool, false, cond, not, _&&_, _||_}
 use mathlib.Core.List.{List, [], _∷_, _++_, map}
 use lib.Dec.{eqb, ltb}
 use lib.ListN.{length, getD, take, drop, replicate}
+use Rattle.laws.specs.Received.{wholeBlocks}
 use Rattle.laws.specs.Ruled.{ruled}
 use Rattle.laws.specs.Radix.{value, digits}
 use Rattle.alphabet.specs.Paper.{codePoint, septetOf, noSeptet}
-use Rattle.page.specs.Paper.{Heading, headerOctets, octet, wholeBlocks}
+use Rattle.page.specs.Paper.{Heading, headerOctets, octet}
 
 -- 01 Page and text: CR is 0D
 abbrev pub cr : ℕ

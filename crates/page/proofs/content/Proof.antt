@@ -6,9 +6,11 @@ use native.Mathlib.Omega.{arith}
 use borrow.Author.Needs.{needs}
 use borrow.Author.Tests.{not-true, not-false}
 use denote.Ref.{now}
-use Rattle.page.specs.Paper.{wholeBlocks, emptyPart, contentPart, handedPart}
+use Rattle.laws.specs.Received.{wholeBlocks}
+use Rattle.laws.proofs.Received.{whole-bounds}
+use Rattle.page.specs.Paper.{emptyPart, contentPart, handedPart}
 use Rattle.page.specs.Coded.{partOf}
-use Rattle.page.proofs.Received.{refused-length, refused-received, handed, in-page}
+use Rattle.page.proofs.Received.{refused-length, refused-received, handed}
 use Rattle.page.proofs.content.Statement.{statement}
 use Rattle.page.proofs.content.Tie as tie
 
@@ -31,8 +33,8 @@ returns-2 c =
 received : (c : tie.Else2) → wholeBlocks (c .before .before .before .before .args .received) ≡ true
 received c = sym (c .before .whole-blocks .ensures) ∙ not-false _ (c .if2 .left)
 
-within : (c : tie.Else2) → (6 ≤ c .before .before .before .before .args .received) × (c .before .before .before .before .args .received ≤ 88)
-within c = in-page _ (received c)
+within : (c : tie.Else2) → (22 ≤ c .before .before .before .before .args .received) × (c .before .before .before .before .args .received ≤ 88)
+within c = whole-bounds _ (received c)
 
 sub-result : tie.Need-sub-result
 sub-result c = omega (arith, within c)

@@ -10,11 +10,11 @@ use Rattle.schedule.proofs.read_header.Tie as tie
 returns : tie.Need-returns
 returns c = head-length _ _ (c .if1 .taken)
 
-is-received-requires : tie.Need-is-received-requires
-is-received-requires c κs = search needs
+whole-blocks-requires : tie.Need-whole-blocks-requires
+whole-blocks-requires c κs = search needs
 
 returns-2 : tie.Need-returns-2
-returns-2 c = head-received _ _ (c .before .before .if1 .left) (sym (c .before .is-received .ensures) ∙ not-true _ (c .if2 .taken))
+returns-2 c = head-received _ _ (c .before .before .if1 .left) (sym (c .before .whole-blocks .ensures) ∙ not-true _ (c .if2 .taken))
 
 shared-slice-read-begin : tie.Need-shared-slice-read-begin
 shared-slice-read-begin c = search needs
@@ -29,32 +29,32 @@ cast-end : tie.Need-cast-end
 cast-end c = omega (arith, c .shared-slice-known3 .given 1 .fits)
 
 returns-3 : tie.Need-returns-3
-returns-3 c = head-type _ _ (c .before .before .before .before .before .if1 .left) (sym (c .before .before .before .before .is-received .ensures) ∙ not-false _ (c .before .before .before .if2 .left)) (c .if3 .taken)
+returns-3 c = head-type _ _ (c .before .before .before .before .before .if1 .left) (sym (c .before .before .before .before .whole-blocks .ensures) ∙ not-false _ (c .before .before .before .if2 .left)) (c .if3 .taken)
 
 returns-4 : tie.Need-returns-4
-returns-4 c = head-range _ _ (c .before .before .before .before .before .before .if1 .left) (sym (c .before .before .before .before .before .is-received .ensures) ∙ not-false _ (c .before .before .before .before .if2 .left)) (c .before .if3 .left) (within-zero (c .before .before .before .before .before .before .before .before .args .message .now) (c .before .if3 .left) (c .if4 .taken))
+returns-4 c = head-range _ _ (c .before .before .before .before .before .before .if1 .left) (sym (c .before .before .before .before .before .whole-blocks .ensures) ∙ not-false _ (c .before .before .before .before .if2 .left)) (c .before .if3 .left) (within-zero (c .before .before .before .before .before .before .before .before .args .message .now) (c .before .if3 .left) (c .if4 .taken))
 
 returns-5 : tie.Need-returns-5
-returns-5 c = head-range _ _ (c .before .before .before .before .before .before .before .if1 .left) (sym (c .before .before .before .before .before .before .is-received .ensures) ∙ not-false _ (c .before .before .before .before .before .if2 .left)) (c .before .before .if3 .left) (within-over (c .before .before .before .before .before .before .before .before .before .args .message .now) (c .before .before .if3 .left) (c .if5 .taken))
+returns-5 c = head-range _ _ (c .before .before .before .before .before .before .before .if1 .left) (sym (c .before .before .before .before .before .before .whole-blocks .ensures) ∙ not-false _ (c .before .before .before .before .before .if2 .left)) (c .before .before .if3 .left) (within-over (c .before .before .before .before .before .before .before .before .before .args .message .now) (c .before .before .if3 .left) (c .if5 .taken))
 
 returns-6 : tie.Need-returns-6
-returns-6 c = head-range _ _ (c .before .before .before .before .before .before .before .before .if1 .left) (sym (c .before .before .before .before .before .before .before .is-received .ensures) ∙ not-false _ (c .before .before .before .before .before .before .if2 .left)) (c .before .before .before .if3 .left) (within-last (c .before .before .before .before .before .before .before .before .before .before .args .message .now) (c .before .before .before .if3 .left) (c .if6 .taken))
+returns-6 c = head-range _ _ (c .before .before .before .before .before .before .before .before .if1 .left) (sym (c .before .before .before .before .before .before .before .whole-blocks .ensures) ∙ not-false _ (c .before .before .before .before .before .before .if2 .left)) (c .before .before .before .if3 .left) (within-last (c .before .before .before .before .before .before .before .before .before .before .args .message .now) (c .before .before .before .if3 .left) (c .if6 .taken))
 
 has-new-past-requires : tie.Need-has-new-past-requires
 has-new-past-requires c κs = search needs
 
 returns-7 : tie.Need-returns-7
-returns-7 c = head-new _ _ (c .before .before .before .before .before .before .before .before .before .before .if1 .left) (sym (c .before .before .before .before .before .before .before .before .before .is-received .ensures) ∙ not-false _ (c .before .before .before .before .before .before .before .before .if2 .left)) (c .before .before .before .before .before .if3 .left) (within-good (c .before .before .before .before .before .before .before .before .before .before .before .before .args .message .now) (c .before .before .before .before .before .if3 .left) (c .before .before .before .before .if4 .left) (c .before .before .before .if5 .left) (c .before .before .if6 .left)) (sym (c .before .has-new-past .ensures) ∙ c .if7 .taken)
+returns-7 c = head-new _ _ (c .before .before .before .before .before .before .before .before .before .before .if1 .left) (sym (c .before .before .before .before .before .before .before .before .before .whole-blocks .ensures) ∙ not-false _ (c .before .before .before .before .before .before .before .before .if2 .left)) (c .before .before .before .before .before .if3 .left) (within-good (c .before .before .before .before .before .before .before .before .before .before .before .before .args .message .now) (c .before .before .before .before .before .if3 .left) (c .before .before .before .before .if4 .left) (c .before .before .before .if5 .left) (c .before .before .if6 .left)) (sym (c .before .has-new-past .ensures) ∙ c .if7 .taken)
 
 returns-8 : tie.Need-returns-8
-returns-8 c = head-good _ _ (c .before .before .before .before .before .before .before .before .before .before .if1 .left) (sym (c .before .before .before .before .before .before .before .before .before .is-received .ensures) ∙ not-false _ (c .before .before .before .before .before .before .before .before .if2 .left)) (c .before .before .before .before .before .if3 .left) (within-good (c .before .before .before .before .before .before .before .before .before .before .before .before .args .message .now) (c .before .before .before .before .before .if3 .left) (c .before .before .before .before .if4 .left) (c .before .before .before .if5 .left) (c .before .before .if6 .left)) (sym (c .before .has-new-past .ensures) ∙ c .if7 .left)
+returns-8 c = head-good _ _ (c .before .before .before .before .before .before .before .before .before .before .if1 .left) (sym (c .before .before .before .before .before .before .before .before .before .whole-blocks .ensures) ∙ not-false _ (c .before .before .before .before .before .before .before .before .if2 .left)) (c .before .before .before .before .before .if3 .left) (within-good (c .before .before .before .before .before .before .before .before .before .before .before .before .args .message .now) (c .before .before .before .before .before .if3 .left) (c .before .before .before .before .if4 .left) (c .before .before .before .if5 .left) (c .before .before .if6 .left)) (sym (c .before .has-new-past .ensures) ∙ c .if7 .left)
 
 pub read-header-spec : {M : Type 1} → statement M
 read-header-spec =
     tie.close
     (tie.spec
     returns
-    is-received-requires
+    whole-blocks-requires
     returns-2
     shared-slice-read-begin
     cast-begin

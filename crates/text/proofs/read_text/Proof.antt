@@ -10,9 +10,11 @@ use denote.Ref.{now}
 use lib.ListN.{length, take, drop, length-take}
 use Rattle.answer.specs.Number.{numberOf}
 use Rattle.answer.proofs.Inverse.{numberOf-positive}
-use Rattle.page.specs.Paper.{Part, wholeBlocks}
+use Rattle.laws.specs.Received.{wholeBlocks}
+use Rattle.laws.proofs.Received.{whole-bounds}
+use Rattle.page.specs.Paper.{Part}
 use Rattle.page.specs.Coded.{numberOfHanding, partOf}
-use Rattle.page.proofs.Received.{handed-content, in-page}
+use Rattle.page.proofs.Received.{handed-content}
 use Rattle.text.specs.Paper.{wholeOf, trimmed, shown}
 use Rattle.text.proofs.Cases.{reading-15, reading-13, reading-0, reading-refused, handed-right}
 use Rattle.text.proofs.read_text.Statement.{statement}
@@ -64,7 +66,7 @@ show-requires c κs =
     let s = c .before .before .before .before .before .before .before .before .before .before in
     let n = s .args .received in
     let k : length (take (n - 6) (drop 6 (page s))) ≤ n - 6 = rw length-take (min-le-left (n - 6) (length (drop 6 (page s)))) in (
-      rw (handed-back (c .before)) (omega (arith, k, in-page n (right (c .before .before .before .before) .1))),
+      rw (handed-back (c .before)) (omega (arith, k, whole-bounds n (right (c .before .before .before .before) .1))),
       c .before .before .before .before .before .before .before .if1 .left,
     )
 

@@ -1,8 +1,8 @@
--- `schedule::is_new` meets its contract: the shift divides by the power of two that the definition has.
+-- `schedule::groups::is_new` meets its contract: the shift divides by the power of two that the definition has.
 use borrow.Author.Needs.{needs}
 use Rattle.schedule.proofs.News.{new-octet}
-use Rattle.schedule.proofs.is_new.Statement.{statement}
-use Rattle.schedule.proofs.is_new.Tie as tie
+use Rattle.schedule.proofs.groups.is_new.Statement.{statement}
+use Rattle.schedule.proofs.groups.is_new.Tie as tie
 
 add-result : tie.Need-add-result
 add-result c = search needs

@@ -1,4 +1,4 @@
--- `schedule::has_new_past` meets its contract. The invariant: no slot passed so far is past End with its new bit set.
+-- `schedule::groups::has_new_past` meets its contract. The invariant: no slot passed so far is past End with its new bit set.
 use mathlib.Core.Path.{_≡_, sym, _∙_}
 use mathlib.Core.Bool.{false, true}
 use Prim.Native.Nat.{ℕ, _≤_, _<_, _-_}
@@ -8,8 +8,8 @@ use borrow.Author.Needs.{needs}
 use Rattle.laws.proofs.Upto.{some-none, some-at}
 use Rattle.schedule.specs.Paper.{newPast, end as endOf}
 use Rattle.schedule.proofs.News.{newPast-below, newPast-from}
-use Rattle.schedule.proofs.has_new_past.Statement.{statement}
-use Rattle.schedule.proofs.has_new_past.Tie as tie
+use Rattle.schedule.proofs.groups.has_new_past.Statement.{statement}
+use Rattle.schedule.proofs.groups.has_new_past.Tie as tie
 
 abbrev Inv-loop : tie.InvT-loop
 Inv-loop message end i₀ i = (end ≤ i) × (i ≤ 48) × ((k : ℕ) → k < i → newPast message k ≡ false)

@@ -1,4 +1,4 @@
--- `schedule::slot_at` meets its contract: the slot picked out of its group is the one that the order has at the place.
+-- `schedule::groups::slot_at` meets its contract: the slot picked out of its group is the one that the order has at the place.
 use mathlib.Core.Bool.{true, false}
 use mathlib.Core.Path.{_≡_, sym, _∙_}
 use Prim.Native.Nat.{_+_, _-_}
@@ -8,8 +8,8 @@ use borrow.Author.Needs.{needs}
 use Rattle.laws.specs.Upto.{count}
 use Rattle.schedule.specs.Paper.{grouped, end as endOf}
 use Rattle.schedule.proofs.Order.{groups-whole, order-picks}
-use Rattle.schedule.proofs.slot_at.Statement.{statement}
-use Rattle.schedule.proofs.slot_at.Tie as tie
+use Rattle.schedule.proofs.groups.slot_at.Statement.{statement}
+use Rattle.schedule.proofs.groups.slot_at.Tie as tie
 
 count-new-requires : tie.Need-count-new-requires
 count-new-requires c κs = search needs

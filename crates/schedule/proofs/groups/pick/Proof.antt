@@ -1,4 +1,4 @@
--- `schedule::pick` meets its contract. The invariant: the slots of the group that were passed and those still to pass make up the place.
+-- `schedule::groups::pick` meets its contract. The invariant: the slots of the group that were passed and those still to pass make up the place.
 use mathlib.Core.Logic.{⊎-elim}
 use mathlib.Core.Path.{_≡_}
 use Prim.Native.Nat.{_≤_, _+_, _-_}
@@ -8,8 +8,8 @@ use Rattle.laws.proofs.Upto.{count-none, count-yes, count-no}
 use Rattle.laws.specs.Upto.{count}
 use Rattle.schedule.specs.Paper.{grouped}
 use Rattle.schedule.proofs.News.{grouped-told}
-use Rattle.schedule.proofs.pick.Statement.{statement}
-use Rattle.schedule.proofs.pick.Tie as tie
+use Rattle.schedule.proofs.groups.pick.Statement.{statement}
+use Rattle.schedule.proofs.groups.pick.Tie as tie
 
 abbrev Inv-loop : tie.InvT-loop
 Inv-loop message end new place left₀ i₀ left i = (i ≤ end) × (count (grouped message new) i + left ≡ place)

@@ -1,8 +1,8 @@
--- `page::whole_blocks` meets its contract: the arm taken says which number it is, or that it is none.
+-- `answer::whole_blocks` meets its contract: the arm taken says which number it is, or that it is none.
 use mathlib.Core.Path.{sym}
-use Rattle.page.proofs.Received.{whole, not-whole}
-use Rattle.page.proofs.whole_blocks.Statement.{statement}
-use Rattle.page.proofs.whole_blocks.Tie as tie
+use Rattle.laws.proofs.Received.{whole, not-whole}
+use Rattle.answer.proofs.whole_blocks.Statement.{statement}
+use Rattle.answer.proofs.whole_blocks.Tie as tie
 
 returns : tie.Need-returns
 returns c = sym (whole (c .before .args .received) (c .match .keys1))

@@ -1,4 +1,4 @@
--- `schedule::count_new` meets its contract. The invariant: the number is the count of the slots passed.
+-- `schedule::groups::count_new` meets its contract. The invariant: the number is the count of the slots passed.
 use mathlib.Core.Logic.{⊎-elim}
 use mathlib.Core.Path.{_≡_, sym, _∙_, ap}
 use mathlib.Core.Bool.{true, true≢false}
@@ -9,8 +9,8 @@ use Rattle.laws.proofs.Upto.{count-none, count-yes, count-no, count-le}
 use Rattle.laws.specs.Upto.{count}
 use Rattle.schedule.specs.Paper.{grouped}
 use Rattle.schedule.proofs.News.{grouped-same, grouped-other}
-use Rattle.schedule.proofs.count_new.Statement.{statement}
-use Rattle.schedule.proofs.count_new.Tie as tie
+use Rattle.schedule.proofs.groups.count_new.Statement.{statement}
+use Rattle.schedule.proofs.groups.count_new.Tie as tie
 
 abbrev Inv-loop : tie.InvT-loop
 Inv-loop message end n₀ i₀ n i = (i ≤ end) × (n ≡ count (grouped message true) i)

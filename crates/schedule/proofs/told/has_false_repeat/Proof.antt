@@ -1,4 +1,4 @@
--- `schedule::has_false_repeat` meets its contract. The invariant: no slot passed so far has a false repeat.
+-- `schedule::told::has_false_repeat` meets its contract. The invariant: no slot passed so far has a false repeat.
 use mathlib.Core.Logic.{⊎-elim}
 use mathlib.Core.Bool.{false}
 use mathlib.Core.Path.{_≡_, sym, ap, _∙_, refl}
@@ -13,8 +13,8 @@ use Rattle.schedule.specs.Coded.{toldOf}
 use Rattle.schedule.specs.Parts.{tellsOf, zeroed}
 use Rattle.schedule.specs.Paper.{falseRepeat}
 use Rattle.schedule.proofs.Repeats.{false-zero, false-late, false-other, true-repeat, no-repeat}
-use Rattle.schedule.proofs.has_false_repeat.Statement.{statement}
-use Rattle.schedule.proofs.has_false_repeat.Tie as tie
+use Rattle.schedule.proofs.told.has_false_repeat.Statement.{statement}
+use Rattle.schedule.proofs.told.has_false_repeat.Tie as tie
 
 abbrev Inv-loop : tie.InvT-loop
 Inv-loop end slots i₀ i = (i ≤ end) × ((k : ℕ) → k < i → falseRepeat (tellsOf slots) k ≡ false)

@@ -1,9 +1,9 @@
--- `schedule::short_description` meets its contract: the tests that led to each answer decide those of `short`.
+-- `schedule::told::short_description` meets its contract: the tests that led to each answer decide those of `short`.
 use Prim.Native.Nat.{_≤_}
 use native.Mathlib.Omega.{arith}
 use borrow.Author.Tests.{ne-eqb, le-leb, lt-leb}
-use Rattle.schedule.proofs.short_description.Statement.{statement}
-use Rattle.schedule.proofs.short_description.Tie as tie
+use Rattle.schedule.proofs.told.short_description.Statement.{statement}
+use Rattle.schedule.proofs.told.short_description.Tie as tie
 
 returns : tie.Need-returns
 returns c = let few : c .before .args .octet ≤ 63 = omega arith in simp (le-leb _ _ few)

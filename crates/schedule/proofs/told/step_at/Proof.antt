@@ -1,12 +1,12 @@
--- `schedule::step_at` meets its contract: the octet that is met decides the width, and the width whether it fits.
+-- `schedule::told::step_at` meets its contract: the octet that is met decides the width, and the width whether it fits.
 use Prim.Native.Nat.{_+_}
 use native.Mathlib.Omega.{arith}
 use borrow.Author.Tests.{le-leb}
 use borrow.Author.Needs.{needs}
 use Rattle.schedule.specs.Paper.{octet}
 use Rattle.schedule.proofs.Places.{step-is-past, step-is-short, step-is-long, width-some}
-use Rattle.schedule.proofs.step_at.Statement.{statement}
-use Rattle.schedule.proofs.step_at.Tie as tie
+use Rattle.schedule.proofs.told.step_at.Statement.{statement}
+use Rattle.schedule.proofs.told.step_at.Tie as tie
 
 returns : tie.Need-returns
 returns c =
