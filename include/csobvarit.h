@@ -1,4 +1,4 @@
-/* The calls of Csobvarit for C: cell broadcast blocks taken in one at a time, on memory that the caller lends. */
+/* The calls of Csobvarit for C: cell broadcast blocks, text and schedules, on memory that the caller lends. */
 #ifndef CSOBVARIT_H
 #define CSOBVARIT_H
 
@@ -78,7 +78,7 @@ uint32_t cb_intake(uint8_t *state, size_t state_len, const uint8_t *piece, size_
 #define CB_ENDS_IN_CR       12 /* refused: the text ends in CR */
 #define CB_SCHEME           13 /* refused: coding scheme above 0F */
 #define CB_PAGE_PARAMETER   14 /* refused: a zero half, or a page over the total; GSM 03.41, 9.3.2 */
-#define CB_MESSAGE_LENGTH   16 /* refused: the page isn't 88 octets long */
+#define CB_MESSAGE_LENGTH   16 /* refused: the page or message isn't 88 octets long */
 #define CB_RECEIVED_OCTETS  18 /* refused: the received octets aren't 22, 44, 66 or 88 */
 
 /* What cb_write_text returns is number + 256 * used octets, and cb_read_text number + 256 * characters. */
@@ -101,6 +101,48 @@ uint32_t cb_write_text(uint16_t serial, uint16_t identifier, uint8_t scheme, uin
  *   15, 16, 18, 13              text: untouched; the first of these that applies, in this order
  */
 uint32_t cb_read_text(const uint8_t *page, size_t page_len, size_t received, uint16_t *text, size_t text_len);
+
+/*
+ * Schedule messages (GSM 04.12, 3.5): the octets of a complete one and the octets received, as cb_intake gives them.
+ * Nothing is written to what is lent, whatever the answer.
+ */
+#define CB_SCHEDULE_TYPE       20 /* refused: the type isn't 00; GSM 04.12, 3.5.1 */
+#define CB_BEGIN_OR_END        21 /* refused: not 1 <= Begin <= End <= 48; GSM 04.12, 3.5.1 */
+#define CB_NEW_PAST_END        22 /* refused: a new bit is set past End */
+#define CB_DESCRIPTION_PAST    23 /* refused: a description passes the received octets */
+#define CB_REPEAT_OF_NO_FIRST  24 /* refused: a repeat of 0, of no slot below its own, or of no first transmission */
+
+/* What cb_read_schedule returns is number + 2^8 * Begin + 2^16 * End. */
+#define CB_BEGIN(returned) ((uint32_t)(returned) >> 8 & 0xFFu)
+#define CB_END(returned)   ((uint32_t)(returned) >> 16 & 0xFFu)
+
+/*
+ * Reads a whole message.
+ *
+ *   0                           Begin and End, 1 to 48
+ *   16, 18, 20, 21, 22, 23, 24  the first of these that applies, in this order; Begin and End are 0
+ */
+uint32_t cb_read_schedule(const uint8_t *message, size_t message_len, size_t received);
+
+/* What cb_description returns is number + 2^8 * slot + 2^16 * new bit + 2^32 * code. */
+#define CB_SLOT(returned) ((uint32_t)((uint64_t)(returned) >> 8) & 0xFFu)
+#define CB_NEW(returned)  ((uint32_t)((uint64_t)(returned) >> 16) & 0xFFu)
+#define CB_CODE(returned) ((uint32_t)((uint64_t)(returned) >> 32))
+
+/* Codes: 8000 hex + the identifier's low 15 bits for a first transmission, 1 to 47 for a repeat of that slot, or: */
+#define CB_FIRST    0x8000u /* from this code on */
+#define CB_OPTIONAL 0x40u   /* reading optional; what the message has as 42 to 7F hex too */
+#define CB_ADVISED  0x41u   /* reading advised */
+
+/*
+ * Gives the description that stands in the message after so many others: those of slots with new bit 1 come first,
+ * then the rest, each group in slot order. Call it with place 0, 1 and so on, up to no more.
+ *
+ *   0, slot 1 to 48             the slot's number, its new bit and its description
+ *   0, slot 0                   no more: place is End or above; new bit and code are 0
+ *   16, 18, 20, 21, 22, 23, 24  as cb_read_schedule, at every place; slot, new bit and code are 0
+ */
+uint64_t cb_description(const uint8_t *message, size_t message_len, size_t received, size_t place);
 
 #ifdef __cplusplus
 }

@@ -1,3 +1,4 @@
 -- What `capi` proves.
 pub mod Determined
 pub mod Packed
+pub mod Scheduled

@@ -1,7 +1,9 @@
--- The calls for C on text: the answers of the text room, packed into one number.
+-- The calls for C: the answers of the other rooms, packed into one number.
+use mathlib.Core.Bool.{Bool, cond}
 use mathlib.Core.List.{List}
 use Prim.Native.Nat.{ℕ, _+_, _*_}
 use Rattle.page.specs.Paper.{Heading}
+use Rattle.schedule.specs.Paper.{Told, first, again, optional, advised, Shown, Read, read, Given, next, noMore, refusal, given}
 use Rattle.text.specs.Paper.{written, reading}
 
 -- what a call leaves: the number returned, and the memory that it was lent to write
@@ -20,3 +22,32 @@ writeCall h t p = packed (written h t p .number) (written h t p .used) (written 
 -- 01 Page and text: the text reader for C: number + 256 × characters
 abbrev pub readCall : List ℕ → ℕ → List ℕ → Left
 readCall p n t = packed (reading p n t .number) (reading p n t .characters) (reading p n t .text)
+
+-- three numbers in one: number + 2^8 × Begin + 2^16 × End
+abbrev pub packedRead : Read → ℕ
+packedRead r = r .number + 0x100 * r .begin + 0x10000 * r .end
+
+-- 01 Schedule message: the schedule reader for C
+abbrev pub scheduleCall : List ℕ → ℕ → ℕ
+scheduleCall m received = packedRead (read m received)
+
+-- 01 Schedule message, 000 3.5.5: a description as one number: 8000 hex + the 15 bits of a first transmission, the slot that is repeated, 40 or 41 hex
+abbrev pub codeOf : Told → ℕ
+codeOf (first x) = 0x8000 + x
+codeOf (again n) = n
+codeOf optional = 0x40
+codeOf advised = 0x41
+
+-- a new bit as a number
+abbrev pub bitOf : Bool → ℕ
+bitOf new = cond new 1 0
+
+-- four numbers in one: number + 2^8 × slot + 2^16 × new bit + 2^32 × code; all are 0 for no more, and all but the number with a refusal
+abbrev pub packedGiven : Given → ℕ
+packedGiven (next n s) = 0x100 * n + 0x10000 * bitOf (s .new) + 0x100000000 * codeOf (s .told)
+packedGiven noMore = 0
+packedGiven (refusal n) = n
+
+-- 01 Schedule message: the reader of descriptions for C
+abbrev pub descriptionCall : List ℕ → ℕ → ℕ → ℕ
+descriptionCall m received place = packedGiven (given m received place)
