@@ -2,7 +2,9 @@
 use mathlib.Core.Bool.{Bool, cond}
 use mathlib.Core.List.{List}
 use Prim.Native.Nat.{ℕ, _+_, _*_}
-use Rattle.page.specs.Paper.{Heading}
+use Rattle.block.specs.Paper.{Kind, page, schedule, written as writtenBlocks}
+use Rattle.page.specs.Paper.{Heading, handedNumber}
+use Rattle.plan.specs.Paper.{readPlan}
 use Rattle.schedule.specs.Paper.{Told, first, again, optional, advised, Shown, Read, read, Given, next, noMore, refusal, given}
 use Rattle.text.specs.Paper.{written, reading}
 
@@ -51,3 +53,23 @@ packedGiven (refusal n) = n
 -- 01 Schedule message: the reader of descriptions for C
 abbrev pub descriptionCall : List ℕ → ℕ → ℕ → ℕ
 descriptionCall m received place = packedGiven (given m received place)
+
+-- 01 Order, the handing back: the call beside it, for C
+abbrev pub contentCall : List ℕ → ℕ → ℕ
+contentCall p received = handedNumber p received
+
+-- 01 Blocks: the kind, page or schedule, as C tells it
+abbrev pub kindIf : Bool → Kind
+kindIf isSchedule = cond isSchedule schedule page
+
+-- 01 Blocks: the block writer for C
+abbrev pub blocksCall : List ℕ → Bool → ℕ → List ℕ → Left
+blocksCall m isSchedule used out =
+    record {
+      returned = writtenBlocks m (kindIf isSchedule) used out .number;
+      memory = writtenBlocks m (kindIf isSchedule) used out .output;
+    }
+
+-- 01 The plan: the reader of plan files for C: number + 256 × count
+abbrev pub planCall : List ℕ → ℕ
+planCall f = readPlan f .number + 256 * readPlan f .plan .count
