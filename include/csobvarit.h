@@ -1,7 +1,8 @@
-/* The calls of Csobvarit for C: cell broadcast blocks taken in one at a time, on memory that the caller lends. */
+/* The calls of Csobvarit for C: cell broadcast blocks, text, schedules and plans, on memory that the caller lends. */
 #ifndef CSOBVARIT_H
 #define CSOBVARIT_H
 
+#include <stdbool.h>
 #include <stddef.h>
 #include <stdint.h>
 
@@ -66,7 +67,7 @@ uint32_t cb_intake(uint8_t *state, size_t state_len, const uint8_t *piece, size_
                    uint8_t *output, size_t output_len);
 
 /*
- * Text: the entries from here on are in libcapi.a.
+ * Text and blocks: the entries from here on are in libcapi.a.
  *
  * A code point is 16 bits; the default alphabet is GSM 03.38's. Memory that a call is lent to write may not overlap
  * anything else that it is given.
@@ -78,10 +79,14 @@ uint32_t cb_intake(uint8_t *state, size_t state_len, const uint8_t *piece, size_
 #define CB_ENDS_IN_CR       12 /* refused: the text ends in CR */
 #define CB_SCHEME           13 /* refused: coding scheme above 0F */
 #define CB_PAGE_PARAMETER   14 /* refused: a zero half, or a page over the total; GSM 03.41, 9.3.2 */
-#define CB_MESSAGE_LENGTH   16 /* refused: the page isn't 88 octets long */
+#define CB_MESSAGE_LENGTH   16 /* refused: the page or message isn't 88 octets long */
+#define CB_USED_OCTETS      17 /* refused: the used octets aren't 1 to 88 */
 #define CB_RECEIVED_OCTETS  18 /* refused: the received octets aren't 22, 44, 66 or 88 */
 
-/* What cb_write_text returns is number + 256 * used octets, and cb_read_text number + 256 * characters. */
+/*
+ * What cb_write_text returns is number + 256 * used octets, cb_read_text number + 256 * characters, and cb_read_plan
+ * number + 256 * count.
+ */
 #define CB_NUMBER(returned) ((uint32_t)(returned) & 0xFFu)
 #define CB_COUNT(returned)  ((uint32_t)(returned) >> 8) /* 0 with a refusal */
 
@@ -101,6 +106,86 @@ uint32_t cb_write_text(uint16_t serial, uint16_t identifier, uint8_t scheme, uin
  *   15, 16, 18, 13              text: untouched; the first of these that applies, in this order
  */
 uint32_t cb_read_text(const uint8_t *page, size_t page_len, size_t received, uint16_t *text, size_t text_len);
+
+/*
+ * Whether a page in another alphabet can be handed on: its content received is page + 6, received - 6 octets long.
+ * Nothing is written.
+ *
+ *   0                           it can
+ *   16, 18                      it can't; the first of these that applies
+ */
+uint32_t cb_content(const uint8_t *page, size_t page_len, size_t received);
+
+#define CB_BLOCKS 92 /* octets of four blocks */
+
+/*
+ * Writes 88 octets of message, a page or a schedule, as four blocks: type octets, and the octets as they stand. The
+ * last-block mark is set from the block of the last used octet on.
+ *
+ *   0                           out: the four blocks
+ *   15, 16, 17                  out: untouched; the first of these that applies, in this order
+ */
+uint32_t cb_write_blocks(const uint8_t *message, size_t message_len, bool schedule, size_t used,
+                         uint8_t *out, size_t out_len);
+
+/*
+ * Schedule messages (GSM 04.12, 3.5): the octets of a complete one and the octets received, as cb_intake gives them.
+ * Nothing is written to what is lent, whatever the answer.
+ */
+#define CB_SCHEDULE_TYPE       20 /* refused: the type isn't 00; GSM 04.12, 3.5.1 */
+#define CB_BEGIN_OR_END        21 /* refused: not 1 <= Begin <= End <= 48; GSM 04.12, 3.5.1 */
+#define CB_NEW_PAST_END        22 /* refused: a new bit is set past End */
+#define CB_DESCRIPTION_PAST    23 /* refused: a description passes the received octets */
+#define CB_REPEAT_OF_NO_FIRST  24 /* refused: a repeat of 0, of no slot below its own, or of no first transmission */
+
+/* What cb_read_schedule returns is number + 2^8 * Begin + 2^16 * End. */
+#define CB_BEGIN(returned) ((uint32_t)(returned) >> 8 & 0xFFu)
+#define CB_END(returned)   ((uint32_t)(returned) >> 16 & 0xFFu)
+
+/*
+ * Reads a whole message.
+ *
+ *   0                           Begin and End, 1 to 48
+ *   16, 18, 20, 21, 22, 23, 24  the first of these that applies, in this order; Begin and End are 0
+ */
+uint32_t cb_read_schedule(const uint8_t *message, size_t message_len, size_t received);
+
+/* What cb_description returns is number + 2^8 * slot + 2^16 * new bit + 2^32 * code. */
+#define CB_SLOT(returned) ((uint32_t)((uint64_t)(returned) >> 8) & 0xFFu)
+#define CB_NEW(returned)  ((uint32_t)((uint64_t)(returned) >> 16) & 0xFFu)
+#define CB_CODE(returned) ((uint32_t)((uint64_t)(returned) >> 32))
+
+/* Codes: 8000 hex + the identifier's low 15 bits for a first transmission, 1 to 47 for a repeat of that slot, or: */
+#define CB_FIRST    0x8000u /* from this code on */
+#define CB_OPTIONAL 0x40u   /* reading optional; what the message has as 42 to 7F hex too */
+#define CB_ADVISED  0x41u   /* reading advised */
+
+/*
+ * Gives the description that stands in the message after so many others: those of slots with new bit 1 come first,
+ * then the rest, each group in slot order. Call it with place 0, 1 and so on, up to no more.
+ *
+ *   0, slot 1 to 48             the slot's number, its new bit and its description
+ *   0, slot 0                   no more: place is End or above; new bit and code are 0
+ *   16, 18, 20, 21, 22, 23, 24  as cb_read_schedule, at every place; slot, new bit and code are 0
+ */
+uint64_t cb_description(const uint8_t *message, size_t message_len, size_t received, size_t place);
+
+/*
+ * Plan files: CBP in ASCII, the version 1 in two octets, the count in one, and six octets for each slot: its kind (0
+ * optional, 1 advised, 2 page), serial number, identifier and page parameter.
+ */
+#define CB_PLAN_MARK    30 /* refused: the file doesn't begin with CBP */
+#define CB_PLAN_VERSION 31 /* refused: its version isn't 1 */
+#define CB_PLAN_LENGTH  32 /* refused: under 6 octets, a count over 48, or a length that isn't 6 + 6 * count */
+#define CB_PLAN_ENTRY   33 /* refused: a kind over 2, or an octet that isn't 0 in kind 0 or 1 */
+
+/*
+ * Reads a plan file, of any length: number + 256 * count. Nothing is written.
+ *
+ *   0                           the file is good; the count is its slots, 0 to 48
+ *   32 if short, 30, 31, 32, 33 the first of these that applies, in this order; the count is 0
+ */
+uint32_t cb_read_plan(const uint8_t *file, size_t file_len);
 
 #ifdef __cplusplus
 }

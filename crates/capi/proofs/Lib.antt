@@ -1,3 +1,6 @@
 -- What `capi` proves.
 pub mod Determined
 pub mod Packed
+pub mod Planned
+pub mod Scheduled
+pub mod Sent

@@ -12,9 +12,14 @@
 //                                   the text is written as this page, and the page reads as this text
 //     R answer scheme parameter count codes
 //                                   the writer refuses the text so, and leaves the page as it was
-// Codes are code points, two octets each, high octet first.
+//     M received length message number begin end descriptions
+//                                   the schedule message reads so, and gives these descriptions and no more: for each
+//                                   its slot, its new bit, and 8000 hex + 15 bits, the slot repeated, 0040 or 0041
+//     F number count file           the plan file reads so
+// Codes are code points, two octets each, high octet first; so are received octets and descriptions.
 mod blocks;
 mod hex;
+mod schedules;
 mod texts;
 
 ghost use Prim.Native.Nat.{_<_};
@@ -27,7 +32,7 @@ const TOO_LONG: usize = 4097;
 const ROOM: usize = 2048;
 
 // The rows of the table: one for each letter with a result, and one for lines and files that cannot be read.
-const ROWS: usize = 8;
+const ROWS: usize = 10;
 
 const BLOCKS: usize = 0;
 
@@ -43,7 +48,11 @@ const PAGES: usize = 5;
 
 const REFUSALS: usize = 6;
 
-const UNREAD: usize = 7;
+const SCHEDULES: usize = 7;
+
+const PLANS: usize = 8;
+
+const UNREAD: usize = 9;
 
 struct Run {
     // the number of the line at hand, its length so far, and whether it is as stored
@@ -90,6 +99,8 @@ fn print_table(run: Run) {
     print_row(b"packing", tried[PACKING], differ[PACKING]);
     print_row(b"pages", tried[PAGES], differ[PAGES]);
     print_row(b"refusals", tried[REFUSALS], differ[REFUSALS]);
+    print_row(b"schedules", tried[SCHEDULES], differ[SCHEDULES]);
+    print_row(b"plans", tried[PLANS], differ[PLANS]);
     print_row(b"unread", tried[UNREAD], differ[UNREAD]);
 }
 
@@ -225,6 +236,8 @@ fn try_letter(run: Run, letter: u8, octets: &[u8]) -> Run {
         b'K' => counted(run, PACKING, texts::is_packed(octets)),
         b'W' => counted(run, PAGES, texts::is_page(octets)),
         b'R' => counted(run, REFUSALS, texts::is_refused(octets)),
+        b'M' => counted(run, SCHEDULES, schedules::is_message(octets)),
+        b'F' => counted(run, PLANS, schedules::is_plan_file(octets)),
         _ => counted(run, UNREAD, false),
     }
 }

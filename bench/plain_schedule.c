@@ -1,0 +1,101 @@
+/* A schedule message as it is read in C without proofs: what cb_read_schedule and cb_description are measured beside. */
+#include "plain_schedule.h"
+
+#include <stdbool.h>
+
+enum { MESSAGE = 88, SLOTS = 48, HEADER = 8, FIRST = 0x8000, REPEATS = 0x40, OPTIONAL = 0x40, ADVISED = 0x41 };
+
+/* All that a message tells: each slot's new bit and code, as csobvarit.h has it, and the slots in the message's order. */
+struct table {
+    unsigned begin, end;
+    bool new[SLOTS];
+    uint16_t code[SLOTS];
+    uint8_t order[SLOTS];
+};
+
+static bool is_new(const uint8_t *message, unsigned slot)
+{
+    return message[2 + slot / 8] >> (7 - slot % 8) & 1;
+}
+
+/* Reads the descriptions of one group of slots, and moves the place and the number of descriptions on. */
+static bool read_group(const uint8_t *message, size_t received, bool new, struct table *table, size_t *at, unsigned *given)
+{
+    for (unsigned slot = 0; slot < table->end; slot++) {
+        if (is_new(message, slot) != new)
+            continue;
+        if (*at >= received)
+            return false;
+        unsigned octet = message[(*at)++];
+        if (octet >= 0x80) {
+            if (*at >= received)
+                return false;
+            octet = octet << 8 | message[(*at)++];
+        } else if (octet > ADVISED) {
+            octet = OPTIONAL;
+        }
+        table->new[slot] = new;
+        table->code[slot] = (uint16_t)octet;
+        table->order[(*given)++] = (uint8_t)slot;
+    }
+    return true;
+}
+
+static bool has_false_repeat(const struct table *table)
+{
+    for (unsigned slot = 0; slot < table->end; slot++) {
+        unsigned code = table->code[slot];
+        if (code < REPEATS && (code == 0 || code > slot || table->code[code - 1] < FIRST))
+            return true;
+    }
+    return false;
+}
+
+/* Reads a message with all its slots into the table, and gives 0 or the refusal. */
+static unsigned read_slots(const uint8_t *message, size_t message_len, size_t received, struct table *table)
+{
+    size_t at = HEADER;
+    unsigned given = 0;
+
+    if (message_len != MESSAGE)
+        return 16;
+    if (received != 22 && received != 44 && received != 66 && received != 88)
+        return 18;
+    if (message[0] >> 6 != 0)
+        return 20;
+    table->begin = message[0] & 0x3F;
+    table->end = message[1] & 0x3F;
+    if (table->begin == 0 || table->begin > table->end || table->end > SLOTS)
+        return 21;
+    for (unsigned slot = table->end; slot < SLOTS; slot++)
+        if (is_new(message, slot))
+            return 22;
+    if (!read_group(message, received, true, table, &at, &given))
+        return 23;
+    if (!read_group(message, received, false, table, &at, &given))
+        return 23;
+    return has_false_repeat(table) ? 24 : 0;
+}
+
+uint32_t plain_read_schedule(const uint8_t *message, size_t message_len, size_t received)
+{
+    struct table table;
+    unsigned number = read_slots(message, message_len, received, &table);
+
+    if (number != 0)
+        return number;
+    return table.begin << 8 | table.end << 16;
+}
+
+uint64_t plain_description(const uint8_t *message, size_t message_len, size_t received, size_t place)
+{
+    struct table table;
+    unsigned number = read_slots(message, message_len, received, &table);
+
+    if (number != 0)
+        return number;
+    if (place >= table.end)
+        return 0;
+    unsigned slot = table.order[place];
+    return (uint64_t)table.code[slot] << 32 | (uint64_t)table.new[slot] << 16 | (slot + 1) << 8;
+}

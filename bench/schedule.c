@@ -1,0 +1,221 @@
+/*
+ * cb_read_schedule and cb_description beside plain C: whether they do the same, and how long they take.
+ *
+ *   schedule check             messages near good ones must give the same numbers
+ *   schedule time JOB          prints nanoseconds a call, Rattle and plain C, and their ratio
+ *   schedule pass JOB rattle|plain   goes over the messages once and prints how many, for a counter of instructions
+ *
+ * JOB is read_schedule or description.
+ *
+ * What is timed are messages of 39 slots with all 88 octets received. cb_read_schedule reads every slot of the message
+ * on its way to Begin and End; cb_description does that too, and then gives one slot.
+ */
+#define _POSIX_C_SOURCE 199309L
+
+#include <stdbool.h>
+#include <stdio.h>
+#include <stdlib.h>
+#include <string.h>
+#include <time.h>
+
+#include "blocks.h"
+#include "csobvarit.h"
+#include "plain_schedule.h"
+
+typedef uint32_t reader(const uint8_t *, size_t, size_t);
+typedef uint64_t describer(const uint8_t *, size_t, size_t, size_t);
+
+enum { CALLS = 1000000, MESSAGES = 4096, SLOTS = 48, TIMED_SLOTS = 39, ROUNDS = 51, ROOM = 112 };
+
+static uint8_t messages[MESSAGES][CB_OUTPUT];
+
+static bool one_in(uint64_t *row, unsigned n)
+{
+    return draw(row) % n == 0;
+}
+
+/* The octets of a slot's description, which are two only where there is room: how many. */
+static size_t describe(uint64_t *row, unsigned slot, const bool *first, bool room, uint8_t *octets)
+{
+    unsigned kind = draw(row) % 8;
+    unsigned named = (unsigned)(draw(row) % (slot + 1));
+
+    octets[1] = (uint8_t)draw(row);
+    if (kind < 3 && room) {
+        octets[0] = 0x80 | (uint8_t)draw(row);
+        return 2;
+    }
+    if (kind < 6 && named < slot && first[named])
+        octets[0] = (uint8_t)(named + 1);
+    else
+        octets[0] = one_in(row, 16) ? 0x40 + draw(row) % 0x40 : 0x40 + draw(row) % 2;
+    return 1;
+}
+
+/* A message that reads without refusal. */
+static void make_message(uint64_t *row, unsigned end, uint8_t *message)
+{
+    uint8_t octets[SLOTS][2];
+    size_t width[SLOTS];
+    bool first[SLOTS];
+    size_t at = 8;
+
+    memset(message, 0x2B, CB_OUTPUT);
+    memset(message + 2, 0, 6);
+    message[0] = (uint8_t)(1 + draw(row) % end);
+    message[1] = (uint8_t)(end | (draw(row) % 4) << 6);
+    for (unsigned i = 0; i < end; i++) {
+        width[i] = describe(row, i, first, at + 2 + (end - 1 - i) <= CB_OUTPUT, octets[i]);
+        first[i] = width[i] == 2;
+        at += width[i];
+        if (one_in(row, 2))
+            message[2 + i / 8] |= (uint8_t)(0x80 >> i % 8);
+    }
+    at = 8;
+    for (unsigned group = 0; group < 2; group++) {
+        for (unsigned i = 0; i < end; i++) {
+            if ((message[2 + i / 8] >> (7 - i % 8) & 1) == group)
+                continue;
+            memcpy(message + at, octets[i], width[i]);
+            at += width[i];
+        }
+    }
+}
+
+static void damage(uint64_t *row, uint8_t *message)
+{
+    if (one_in(row, 16))
+        message[draw(row) % CB_OUTPUT] = (uint8_t)draw(row);
+    if (one_in(row, 16))
+        message[draw(row) % 2] = (uint8_t)draw(row);
+    if (one_in(row, 8))
+        message[8 + draw(row) % 40] = (uint8_t)(draw(row) % 0x40);
+    if (one_in(row, 16))
+        message[2 + draw(row) % 6] ^= (uint8_t)(1 << draw(row) % 8);
+}
+
+static void differ(const char *what, int at)
+{
+    fprintf(stderr, "schedule: %s %d differs\n", what, at);
+    abort();
+}
+
+/* Every place of one message in sixteen, and one place of the others. */
+static void check_descriptions(uint64_t *row, int at, const uint8_t *message, size_t length, size_t received)
+{
+    bool all = one_in(row, 16);
+
+    for (size_t i = 0; i < (all ? 50 : 1); i++) {
+        size_t place = all ? i : draw(row) % 50;
+        if (cb_description(message, length, received, place) != plain_description(message, length, received, place))
+            differ("a description of message", at);
+    }
+}
+
+/* The messages that are timed are read whole, and both give every slot of them alike. */
+static void check_timed(void)
+{
+    for (int i = 0; i < MESSAGES; i++) {
+        uint32_t a = cb_read_schedule(messages[i], CB_OUTPUT, CB_OUTPUT);
+        if (a != plain_read_schedule(messages[i], CB_OUTPUT, CB_OUTPUT) || CB_NUMBER(a) != 0 || CB_END(a) != TIMED_SLOTS)
+            differ("timed message", i);
+        for (size_t place = 0; place <= TIMED_SLOTS; place++)
+            if (cb_description(messages[i], CB_OUTPUT, CB_OUTPUT, place) !=
+                plain_description(messages[i], CB_OUTPUT, CB_OUTPUT, place))
+                differ("a description of timed message", i);
+    }
+}
+
+static int check(void)
+{
+    static const uint8_t answers[] = {0, 16, 18, 20, 21, 22, 23, 24};
+    unsigned long seen[256] = {0};
+    uint64_t row = 5;
+
+    check_timed();
+    for (int i = 0; i < CALLS; i++) {
+        uint8_t message[ROOM] = {0};
+        size_t length = one_in(&row, 32) ? draw(&row) % ROOM : CB_OUTPUT;
+        size_t received = one_in(&row, 16) ? draw(&row) % 300 : one_in(&row, 4) ? 22 * (1 + draw(&row) % 4) : 88;
+
+        make_message(&row, 1 + draw(&row) % SLOTS, message);
+        damage(&row, message);
+        uint32_t a = cb_read_schedule(message, length, received);
+        if (a != plain_read_schedule(message, length, received))
+            differ("message", i);
+        check_descriptions(&row, i, message, length, received);
+        seen[CB_NUMBER(a)]++;
+    }
+    for (size_t i = 0; i < sizeof answers; i++) {
+        if (seen[answers[i]] == 0) {
+            fprintf(stderr, "schedule: no call was answered %d\n", answers[i]);
+            return 1;
+        }
+    }
+    printf("schedule: the same for %d messages, every answer among them\n", CALLS);
+    return 0;
+}
+
+static void read_all(reader *read)
+{
+    for (int i = 0; i < MESSAGES; i++)
+        read(messages[i], CB_OUTPUT, CB_OUTPUT);
+}
+
+static void describe_all(describer *description)
+{
+    for (int i = 0; i < MESSAGES; i++)
+        description(messages[i], CB_OUTPUT, CB_OUTPUT, (size_t)i % TIMED_SLOTS);
+}
+
+static void pass(bool reading, bool rattle)
+{
+    if (reading)
+        read_all(rattle ? cb_read_schedule : plain_read_schedule);
+    else
+        describe_all(rattle ? cb_description : plain_description);
+}
+
+static double timed_pass(bool reading, bool rattle)
+{
+    struct timespec from, to;
+
+    clock_gettime(CLOCK_PROCESS_CPUTIME_ID, &from);
+    pass(reading, rattle);
+    clock_gettime(CLOCK_PROCESS_CPUTIME_ID, &to);
+    return ((double)(to.tv_sec - from.tv_sec) * 1e9 + (double)(to.tv_nsec - from.tv_nsec)) / MESSAGES;
+}
+
+static int time_both(bool reading)
+{
+    double least[2] = {1e9, 1e9};
+
+    for (int i = 0; i < ROUNDS; i++) {
+        for (int plain = 0; plain < 2; plain++) {
+            double t = timed_pass(reading, !plain);
+            if (t < least[plain])
+                least[plain] = t;
+        }
+    }
+    printf("%.1f %.1f %.2f\n", least[0], least[1], least[0] / least[1]);
+    return 0;
+}
+
+int main(int argc, char **argv)
+{
+    uint64_t row = 1;
+
+    for (int i = 0; i < MESSAGES; i++)
+        make_message(&row, TIMED_SLOTS, messages[i]);
+    if (argc == 2 && strcmp(argv[1], "check") == 0)
+        return check();
+    if (argc == 3 && strcmp(argv[1], "time") == 0)
+        return time_both(strcmp(argv[2], "read_schedule") == 0);
+    if (argc == 4 && strcmp(argv[1], "pass") == 0) {
+        pass(strcmp(argv[2], "read_schedule") == 0, strcmp(argv[3], "rattle") == 0);
+        printf("%d\n", MESSAGES);
+        return 0;
+    }
+    fprintf(stderr, "schedule: check, time JOB or pass JOB rattle|plain, where JOB is read_schedule or description\n");
+    return 2;
+}

@@ -1,0 +1,92 @@
+-- Laws of what the schedule room's answers pack into.
+use mathlib.Core.Path.{_≡_, refl, sym, ap, _∙_}
+use mathlib.Core.Bool.{Bool, true, false}
+use mathlib.Core.List.{List}
+use Prim.Native.Nat.{ℕ, _+_, _*_, _≤_, _<_}
+use native.Mathlib.Omega.{arith}
+use lib.Dec.{ltb}
+use mir.Val.{boolByte}
+use borrow.Author.Tests.{ltb-true}
+use Rattle.laws.proofs.Ruled.{Ruling, refuses, passes, ruling}
+use Rattle.answer.specs.declared.Refusal.{Refusal}
+use Rattle.answer.specs.Number.{numberOf}
+use Rattle.schedule.specs.declared.Slot.{Slot}
+use Rattle.schedule.specs.declared.Reading.{Reading}
+use Rattle.schedule.specs.declared.Reading.the-variants as readings
+use Rattle.schedule.specs.declared.Given.{Given as GivenCode}
+use Rattle.schedule.specs.declared.Given.the-variants as givens
+use Rattle.schedule.specs.Paper.{end, faults, Read, unread, good, read, slotOf, Given, next, noMore, refusal, givenAt, given}
+use Rattle.schedule.specs.Coded.{toldOf, readOf, givenOf}
+use Rattle.schedule.proofs.Order.{order-rank}
+use Rattle.schedule.proofs.Once.{rank-onto}
+use Rattle.capi.specs.Paper.{bitOf, codeOf, packedRead, scheduleCall, packedGiven, descriptionCall}
+
+-- a bool as a number
+bit-byte : (b : Bool) → boolByte b ≡ bitOf b
+bit-byte true = refl
+bit-byte false = refl
+
+pub bit-small : (b : Bool) → boolByte b ≤ 1
+bit-small true = omega arith
+bit-small false = omega arith
+
+-- the slot that is given; 0 for none
+abbrev slotNumber : Given → ℕ
+slotNumber (next i s) = i
+slotNumber noMore = 0
+slotNumber (refusal n) = 0
+
+module _ (m : List ℕ) (received : ℕ) where
+  -- Begin and End have six bits
+  pub ends-small : (read m received .begin < 64) × (read m received .end < 64)
+  unfolding read
+  ends-small = go (ruling unread (faults m received) (good m))
+    where
+      go : {r : Read} → Ruling unread (faults m received) (good m) r → (r .begin < 64) × (r .end < 64)
+      go (refuses n a e) = rw e (omega arith, omega arith)
+      go (passes h e) = rw e (omega arith, omega arith)
+
+  -- a slot that is given is not past End, which has six bits
+  slot-below : (k : ℕ) → k < end m → slotOf m k < end m
+  slot-below k l =
+      let w = rank-onto m k l in
+      let here : slotOf m k ≡ w .slot = ap (slotOf m) (sym (w .ranks)) ∙ order-rank m (w .slot) (w .below) in
+      rw here (w .below)
+
+  slot-at-small : (k : ℕ) (b : Bool) → ltb k (end m) ≡ b → slotNumber (givenAt m k) < 64
+  slot-at-small k true e = rw e (omega (arith, slot-below k (ltb-true k (end m) e)))
+  slot-at-small k false e = rw e (omega arith)
+
+  pub slot-small : (k : ℕ) → slotNumber (given m received k) < 64
+  unfolding given
+  slot-small k = go (ruling refusal (faults m received) (givenAt m k))
+    where
+      go : {g : Given} → Ruling refusal (faults m received) (givenAt m k) g → slotNumber g < 64
+      go (refuses n a e) = rw e (omega arith)
+      go (passes h e) = rw e (slot-at-small k (ltb k (end m)) refl)
+
+module _ (m : List ℕ) (received : ℕ) (x : Reading) (e : readOf x ≡ read m received) where
+  pub begin-end-small : (b d : ℕ) → x ≡ readings.Read b d → (b < 64) × (d < 64)
+  begin-end-small b d k =
+      let w = rw k at e in
+      (omega (arith, ends-small m received .0, ap (λ (r : Read). r .begin) w), omega (arith, ends-small m received .1, ap (λ (r : Read). r .end) w))
+
+  pub reads-schedule : (b d : ℕ) → x ≡ readings.Read b d → 0x100 * b + 0x10000 * d ≡ scheduleCall m received
+  reads-schedule b d k = omega (arith, ap packedRead (rw k at e))
+
+  pub refuses-schedule : (f : Refusal) (r : ℕ) → r ≡ numberOf f → x ≡ readings.Refused f → r ≡ scheduleCall m received
+  refuses-schedule f r n k = omega (arith, n, ap packedRead (rw k at e))
+
+module _ (m : List ℕ) (received place : ℕ) (x : GivenCode) (e : givenOf x ≡ given m received place) where
+  pub given-small : (i : ℕ) (s : Slot) → x ≡ givens.Next i s → i < 64
+  given-small i s k = omega (arith, slot-small m received place, ap slotNumber (rw k at e))
+
+  pub gives-next : (i : ℕ) (s : Slot) (c : ℕ) → c ≡ codeOf (toldOf (s .description)) → x ≡ givens.Next i s
+      → 0x100000000 * c + 0x10000 * boolByte (s .new) + 0x100 * i ≡ descriptionCall m received place
+  gives-next i s c p k = omega (arith, bit-byte (s .new), p, ap packedGiven (rw k at e))
+
+  pub gives-none : x ≡ givens.NoMore → 0 ≡ descriptionCall m received place
+  gives-none k = ap packedGiven (rw k at e)
+
+  pub gives-refused : (f : Refusal) (r : ℕ) → r ≡ numberOf f → x ≡ givens.Refused f → r ≡ descriptionCall m received place
+  gives-refused f r n k = n ∙ ap packedGiven (rw k at e)
