@@ -56,9 +56,7 @@ impl Entry {
             Entry::Start => (&[], &["state"], ""),
             Entry::Intake => (&["call", "state length", "output length"], &["state", "output", "piece"], ""),
             Entry::WriteBlocks => (&["schedule", "used", "output length"], &["message"], ""),
-            Entry::WriteText => {
-                (&["serial", "identifier", "scheme", "parameter", "output length"], &[], "text")
-            }
+            Entry::WriteText => (&["serial", "identifier", "scheme", "parameter", "output length"], &[], "text"),
             Entry::ReadText => (&["received", "text length"], &["page"], ""),
             Entry::Content => (&["received"], &["page"], ""),
             Entry::ReadSchedule => (&["received"], &["message"], ""),

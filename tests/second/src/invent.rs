@@ -346,7 +346,8 @@ fn put_untrue(file: &mut [u8]) {
 fn many_pages(random: &mut Random) -> Plan {
     let pages = random.within(41, 48);
     let start = random.word();
-    let page = |i: usize| plan::Entry::Page(Page { serial: start.wrapping_add(i as u16), identifier: 1, parameter: 0x11 });
+    let page =
+        |i: usize| plan::Entry::Page(Page { serial: start.wrapping_add(i as u16), identifier: 1, parameter: 0x11 });
     Plan { entries: (0..pages).map(page).collect() }
 }
 
@@ -369,10 +370,26 @@ fn some_entry(random: &mut Random, pages: &[Page]) -> plan::Entry {
 }
 
 fn some_plan(random: &mut Random, least: usize, most: usize) -> Plan {
+    if most == SLOTS && random.once_in(6) {
+        return full_plan(random);
+    }
     let count = random.within(least, most);
     let pool = random.within(1, most);
     let pages: Vec<Page> = (0..pool).map(|_| some_page(random)).collect();
     Plan { entries: (0..count).map(|_| some_entry(random, &pages)).collect() }
+}
+
+/// A plan whose descriptions need about 80 octets: different pages, with repeats of them put in between.
+fn full_plan(random: &mut Random) -> Plan {
+    let need = random.within(77, 83);
+    let count = random.within(need.div_ceil(2), SLOTS);
+    let pages: Vec<Page> = (0..need - count).map(|at| Page { serial: at as u16, ..some_page(random) }).collect();
+    let mut entries: Vec<plan::Entry> = pages.iter().map(|&page| plan::Entry::Page(page)).collect();
+    while entries.len() < count {
+        let entry = some_entry(random, &pages);
+        entries.insert(random.below(entries.len() + 1), entry);
+    }
+    Plan { entries }
 }
 
 /// A plan that shares pages with another.

@@ -111,8 +111,7 @@ fn descriptions(message: &[u8], received: usize, end: usize) -> Result<Vec<Told>
     let mut told = Vec::with_capacity(end);
     let mut at = DESCRIPTIONS;
     for (slot, new) in order(message, end) {
-        let description =
-            description(&message[at..received]).ok_or(Refusal::DescriptionPassesReceived)?;
+        let description = description(&message[at..received]).ok_or(Refusal::DescriptionPassesReceived)?;
         at += description.width();
         told.push(Told { slot, new, description });
     }

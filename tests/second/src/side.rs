@@ -28,7 +28,15 @@ pub trait Side {
     fn read_plan(&self, file: &mut [u8]) -> u64;
     fn write_schedule(&self, current: &mut [u8], previous: &mut [u8], begin: usize, out: &mut [u8]) -> u64;
     fn check_schedule(&self, current: &mut [u8], previous: &mut [u8], message: &mut [u8], received: usize) -> u64;
-    fn decide(&self, known: bool, message: &mut [u8], received: usize, slot: usize, wanted: &mut [u16], held: u64) -> u64;
+    fn decide(
+        &self,
+        known: bool,
+        message: &mut [u8],
+        received: usize,
+        slot: usize,
+        wanted: &mut [u16],
+        held: u64,
+    ) -> u64;
 }
 
 /// This implementation.
@@ -104,7 +112,15 @@ impl Side for Ours {
         }
     }
 
-    fn decide(&self, known: bool, message: &mut [u8], received: usize, slot: usize, wanted: &mut [u16], held: u64) -> u64 {
+    fn decide(
+        &self,
+        known: bool,
+        message: &mut [u8],
+        received: usize,
+        slot: usize,
+        wanted: &mut [u16],
+        held: u64,
+    ) -> u64 {
         let schedule = if known { read_schedule(message, received).ok() } else { None };
         packed(decide(schedule, slot, wanted, held).map(usize::from))
     }

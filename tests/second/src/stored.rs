@@ -221,16 +221,28 @@ fn lent(case: &Case) -> Vec<u8> {
 
 /// A list of octets as a field; an empty one is a hyphen.
 fn octets(list: &[u8]) -> String {
-    if list.is_empty() { "-".into() } else { hex(list) }
+    if list.is_empty() {
+        "-".into()
+    } else {
+        hex(list)
+    }
 }
 
 fn words(list: &[u16]) -> String {
-    if list.is_empty() { "-".into() } else { hex_words(list) }
+    if list.is_empty() {
+        "-".into()
+    } else {
+        hex_words(list)
+    }
 }
 
 /// Memory after a call; `=` where it is as it was.
 fn after(before: &[u8], after: &[u8]) -> String {
-    if before == after { "=".into() } else { octets(after) }
+    if before == after {
+        "=".into()
+    } else {
+        octets(after)
+    }
 }
 
 /// Output after a call; `=` where it is as it was lent.
@@ -239,5 +251,9 @@ fn left(out: &[u8]) -> String {
 }
 
 fn left_words(text: &[u16]) -> String {
-    if text.iter().all(|&point| point == LENT_WORD) { "=".into() } else { words(text) }
+    if text.iter().all(|&point| point == LENT_WORD) {
+        "=".into()
+    } else {
+        words(text)
+    }
 }

@@ -118,7 +118,15 @@ impl Side for Theirs {
         call!(cb_check_schedule(current.as_ptr(), c, previous.as_ptr(), p, message.as_ptr(), m, received))
     }
 
-    fn decide(&self, known: bool, message: &mut [u8], received: usize, slot: usize, wanted: &mut [u16], held: u64) -> u64 {
+    fn decide(
+        &self,
+        known: bool,
+        message: &mut [u8],
+        received: usize,
+        slot: usize,
+        wanted: &mut [u16],
+        held: u64,
+    ) -> u64 {
         let (m, w) = (message.len(), wanted.len());
         call!(cb_decide(known, message.as_ptr(), m, received, slot, wanted.as_ptr(), w, held))
     }

@@ -134,7 +134,15 @@ impl Side for Wrong {
     fn check_schedule(&self, current: &mut [u8], previous: &mut [u8], message: &mut [u8], received: usize) -> u64 {
         Ours.check_schedule(current, previous, message, received)
     }
-    fn decide(&self, known: bool, message: &mut [u8], received: usize, slot: usize, wanted: &mut [u16], held: u64) -> u64 {
+    fn decide(
+        &self,
+        known: bool,
+        message: &mut [u8],
+        received: usize,
+        slot: usize,
+        wanted: &mut [u16],
+        held: u64,
+    ) -> u64 {
         let mut high: Vec<u16> = wanted.iter().copied().filter(|identifier| identifier >> 15 == 0).collect();
         Ours.decide(known, message, received, slot, if wanted.len() > 64 { wanted } else { &mut high }, held)
     }
