@@ -5,7 +5,7 @@ use crate::schedule::{Description, Schedule, SLOTS};
 
 pub const WANTED: usize = 64; // 01 Numbers given, 42
 
-/// Decides, true for read; refuses by 41, 42 in this order. No schedule, and one that is refused, are `None`. // 01 The plan
+/// Decides, true for read; refuses by 41, 42 in this order. No schedule, or a refused one, is `None`. // 01 The plan
 pub fn decide(schedule: Option<Schedule>, slot: usize, wanted: &[u16], held: u64) -> Result<bool, Refusal> {
     if slot < 1 || slot > SLOTS {
         return Err(Refusal::SlotOutside);

@@ -138,86 +138,50 @@ pub fn put(case: &mut Case, faults: &[Fault], random: &mut Random) {
 
 fn put_one(case: &mut Case, fault: Fault, random: &mut Random) {
     match fault {
-        Fault::Length(number, not) => case.numbers[number] = other_length(random, not) as u64,
+        Fault::Length(number, not) => put_output_length(case, number, other_length(random, not)),
         Fault::StateLength => put_state_length(case, random),
         Fault::StateImproper => put_improper(&mut case.lists[0], random),
-        Fault::PieceLength => {
-            let length = random.pick(&[0, 1, 22, 24, 46]);
-            case.lists[2].resize(length, 0x20);
-        }
+        Fault::PieceLength => case.lists[2].resize(random.pick(&[0, 1, 22, 24, 46, 256 + 23]), 0x20),
         Fault::Discriminator => put_type(case, 0x60, random.pick(&[0x00, 0x40, 0x60])),
         Fault::ReservedCode => put_type(case, 0x0F, random.pick(&[4, 5, 6, 7, 9, 10, 11, 12, 13, 14])),
         Fault::NullCode => put_type(case, 0x0F, 15),
-        Fault::NotNext => {
-            let next = case.lists[0].get(1).copied().unwrap_or(0);
-            put_type(case, 0x0F, if next == 2 { random.pick(&[1, 3]) } else { 2 });
-        }
-        Fault::MessageLength(list) => {
-            let length = other_length(random, MESSAGE);
-            case.lists[list].resize(length, FILL);
-        }
+        Fault::NotNext => put_not_next(case, random),
+        Fault::MessageLength(list) => case.lists[list].resize(other_length(random, MESSAGE), FILL),
         Fault::Used => case.numbers[1] = random.pick(&[0, 89, 90, 110, 256 + 22, 1 << 32, u64::MAX]),
-        Fault::Received(number) => {
-            case.numbers[number] = random.pick(&[0, 1, 21, 23, 43, 45, 65, 67, 87, 89, 110, 256 + 22, (1 << 32) + 88])
-        }
-        Fault::Scheme => case.numbers[2] = random.pick(&[0x10, 0x11, 0x40, 0x80, 0xF0, 0xFF]),
-        Fault::PageScheme => set(&mut case.lists[0], 4, random.pick(&[0x10, 0x11, 0x40, 0x80, 0xF0, 0xFF])),
+        Fault::Received(number) => case.numbers[number] = random.pick(&NOT_RECEIVED),
+        Fault::Scheme => case.numbers[2] = random.pick(&OTHER_SCHEMES) as u64,
+        Fault::PageScheme => set(&mut case.lists[0], 4, random.pick(&OTHER_SCHEMES)),
         Fault::Parameter => case.numbers[3] = random.pick(&[0x00, 0x01, 0x0F, 0x10, 0xF0, 0x21, 0x32, 0xFE]),
-        Fault::TextLength => {
-            let last = case.words.last().copied().unwrap_or(0x41);
-            let length = random.pick(&[94, 95, 96, 186]);
-            case.words.resize(length, last);
-        }
-        Fault::NotInAlphabet => {
-            let point = random.pick(&[0, 0x1B, 0x5B, 0x60, 0x7F, 0xA0, 0xE7, 0x3AA, 0x391, 0x20AC, 0xFFFF]);
-            match case.words.len() {
-                0 => case.words.push(point),
-                1 => case.words.insert(0, point),
-                length => case.words[random.below(length - 1)] = point,
-            }
-        }
-        Fault::EndsInCr => match case.words.last_mut() {
-            Some(last) => *last = 0x0D,
-            None => case.words.push(0x0D),
-        },
+        Fault::TextLength => put_long_text(&mut case.words, random),
+        Fault::NotInAlphabet => put_foreign(&mut case.words, random),
+        Fault::EndsInCr => put_cr(&mut case.words),
         Fault::ScheduleType(list) => case.lists[list][0] |= random.pick(&[0x40, 0x80, 0xC0]),
         Fault::BeginEnd(list) => put_begin_end(&mut case.lists[list], random),
         Fault::NewBitPastEnd(list) => put_new_bit(&mut case.lists[list], random),
         Fault::Passes(list, number) => put_passing(case, list, number),
-        Fault::FalseRepeat(list) => {
-            let octet = random.pick(&[0x00, 0x30, 0x3F]);
-            put_false_repeat(&mut case.lists[list], octet);
-        }
+        Fault::FalseRepeat(list) => put_false_repeat(&mut case.lists[list], random.pick(&[0x00, 0x30, 0x3F])),
         Fault::PlanShort(list) => case.lists[list].truncate(random.below(6)),
-        Fault::PlanMark(list) => {
-            let at = random.below(3);
-            alter(&mut case.lists[list], at, random);
-        }
-        Fault::PlanVersion(list) => {
-            let at = random.within(3, 4);
-            alter(&mut case.lists[list], at, random);
-        }
+        Fault::PlanMark(list) => alter(&mut case.lists[list], random.below(3), random),
+        Fault::PlanVersion(list) => alter(&mut case.lists[list], random.within(3, 4), random),
         Fault::PlanLength(list) => put_plan_length(&mut case.lists[list], random),
         Fault::PlanEntry(list) => put_plan_entry(&mut case.lists[list], random),
         Fault::NoSlots => case.lists[0] = Plan::default().file(),
-        Fault::Begin => {
-            let count = case.lists[0].get(5).copied().unwrap_or(0) as u64;
-            case.numbers[0] = random.pick(&[0, count + 1, 49, 256 + 1, u64::MAX]);
-        }
+        Fault::Begin => put_begin(case, random),
         Fault::TooLong => case.lists[0] = many_pages(random).file(),
         Fault::EndDiffers => put_other_count(&mut case.lists[0]),
         Fault::SlotUntrue => put_untrue(&mut case.lists[0]),
         Fault::Slot => case.numbers[2] = random.pick(&[0, 49, 50, 64, 256 + 1, (1 << 32) + 1, u64::MAX]),
-        Fault::WantedTooMany => {
-            let length = random.pick(&[65, 66, 128]);
-            case.words.resize(length, 1);
-        }
+        Fault::WantedTooMany => case.words.resize(random.pick(&[65, 66, 128]), 1),
     }
 }
 
-/// A length other than the right one, mostly near it.
+const NOT_RECEIVED: [u64; 13] = [0, 1, 21, 23, 43, 45, 65, 67, 87, 89, 110, 256 + 22, (1 << 32) + 88];
+const OTHER_SCHEMES: [u8; 6] = [0x10, 0x11, 0x40, 0x80, 0xF0, 0xFF];
+const FOREIGN: [u16; 11] = [0, 0x1B, 0x5B, 0x60, 0x7F, 0xA0, 0xE7, 0x3AA, 0x391, 0x20AC, 0xFFFF];
+
+/// A length other than the right one, mostly near it, or like it in its low octet.
 fn other_length(random: &mut Random, not: usize) -> usize {
-    random.pick(&[0, 1, not - 1, not - 1, not + 1, not + 1, 2 * not, not - 4])
+    random.pick(&[0, 1, not - 1, not - 1, not + 1, not + 1, 2 * not, not - 4, not + 256])
 }
 
 fn set(list: &mut [u8], at: usize, octet: u8) {
@@ -234,10 +198,27 @@ fn alter(list: &mut [u8], at: usize, random: &mut Random) {
 }
 
 fn put_state_length(case: &mut Case, random: &mut Random) {
-    let length = random.pick(&[0, 1, 2, 22, 88, 89, 91, 92, 100]);
+    let length = random.pick(&[0, 1, 2, 22, 88, 89, 91, 92, 100, 256 + STATE]);
     match case.entry {
         Entry::Start => case.lists[0].resize(length, LENT),
-        _ => case.numbers[1] = length as u64,
+        _ => {
+            case.numbers[1] = length as u64;
+            at_least(&mut case.lists[0], length);
+        }
+    }
+}
+
+/// Lends an output of a length; an intake case carries its output as a list.
+fn put_output_length(case: &mut Case, number: usize, length: usize) {
+    case.numbers[number] = length as u64;
+    if case.entry == Entry::Intake {
+        at_least(&mut case.lists[1], length);
+    }
+}
+
+fn at_least(list: &mut Vec<u8>, length: usize) {
+    if list.len() < length {
+        list.resize(length, LENT);
     }
 }
 
@@ -260,6 +241,33 @@ fn put_type(case: &mut Case, mask: u8, bits: u8) {
     if let Some(octet) = case.lists[2].first_mut() {
         *octet = *octet & !mask | bits;
     }
+}
+
+/// A second to fourth block that isn't next in the state of the case.
+fn put_not_next(case: &mut Case, random: &mut Random) {
+    let next = case.lists[0].get(1).copied().unwrap_or(0);
+    put_type(case, 0x0F, if next == 2 { random.pick(&[1, 3]) } else { 2 });
+}
+
+/// Over 93 characters, with the same at the end as before.
+fn put_long_text(text: &mut Vec<u16>, random: &mut Random) {
+    let last = text.last().copied().unwrap_or(0x41);
+    text.resize(random.pick(&[94, 95, 96, 186]), last);
+}
+
+/// A character that isn't in the alphabet, elsewhere than at the end.
+fn put_foreign(text: &mut Vec<u16>, random: &mut Random) {
+    let point = random.pick(&FOREIGN);
+    match text.len() {
+        0 => text.push(point),
+        1 => text.insert(0, point),
+        length => text[random.below(length - 1)] = point,
+    }
+}
+
+fn put_cr(text: &mut Vec<u16>) {
+    text.pop();
+    text.push(0x0D);
 }
 
 fn put_begin_end(message: &mut [u8], random: &mut Random) {
@@ -323,6 +331,12 @@ fn put_plan_entry(file: &mut Vec<u8>, random: &mut Random) {
         file[at] = random.pick(&[0, 1]);
         file[at + random.within(1, 5)] = random.pick(&[1, 128, 255]);
     }
+}
+
+/// A Begin that isn't 1 to the count of the current plan.
+fn put_begin(case: &mut Case, random: &mut Random) {
+    let count = case.lists[0].get(5).copied().unwrap_or(0) as u64;
+    case.numbers[0] = random.pick(&[0, count + 1, 49, 256 + 1, u64::MAX]);
 }
 
 /// One slot more in a plan file, or one less.
@@ -802,16 +816,19 @@ fn edge(random: &mut Random, number: u64) -> u64 {
     random.pick(&[0, 1, 22, 44, 48, 66, 88, 92, 93, near, near, near, near, any])
 }
 
+const LONG: usize = 65536 + 88; // as long as a message in its two low octets
+
 /// Octets and numbers without sense.
 fn wild(case: &mut Case, random: &mut Random) {
     for list in &mut case.lists {
-        let length = random.pick(&[0, 1, 6, 12, 23, 88, 88, 88, 90, 100]);
+        let length = random.pick(&[0, 1, 6, 12, 23, 88, 88, 88, 90, 100, 256 + 88, LONG]);
         *list = random.octets(length);
     }
     for number in &mut case.numbers {
         *number = edge(random, *number);
     }
-    let words = random.below(100);
+    let few = random.below(100);
+    let words = random.pick(&[few, few, few, 256 + 64, 65536 + 64]);
     if !case.words.is_empty() {
         case.words = (0..words).map(|_| random.word() & 0x3FF).collect();
     }
@@ -820,12 +837,12 @@ fn wild(case: &mut Case, random: &mut Random) {
 /// Keeps numbers within the widths that C gives them, and lengths within reason.
 pub fn clip(case: &mut Case) {
     let widths: &[u64] = match case.entry {
-        Entry::Intake => &[1, CARRIED as u64, CARRIED as u64],
-        Entry::WriteBlocks => &[1, u64::MAX, 255],
-        Entry::WriteText => &[0xFFFF, 0xFFFF, 0xFF, 0xFF, 255],
-        Entry::ReadText => &[u64::MAX, 255],
+        Entry::Intake => &[1, 511, 511],
+        Entry::WriteBlocks => &[1, u64::MAX, 511],
+        Entry::WriteText => &[0xFFFF, 0xFFFF, 0xFF, 0xFF, 511],
+        Entry::ReadText => &[u64::MAX, 511],
         Entry::Description => &[u64::MAX, u64::MAX, 63],
-        Entry::WriteSchedule => &[u64::MAX, 255],
+        Entry::WriteSchedule => &[u64::MAX, 511],
         Entry::Decide => &[1, u64::MAX, u64::MAX, u64::MAX],
         _ => &[],
     };

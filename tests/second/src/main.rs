@@ -67,10 +67,10 @@ fn compared(seconds: &str, seed: Option<&str>, all: bool) -> ExitCode {
     }
     println!("no difference");
     if there.is_empty() || all && !missing.is_empty() {
-        ExitCode::FAILURE
-    } else {
-        ExitCode::SUCCESS
+        println!("but entries are missing");
+        return ExitCode::FAILURE;
     }
+    ExitCode::SUCCESS
 }
 
 /// The seed given, or one from the clock.

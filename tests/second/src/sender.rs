@@ -52,7 +52,7 @@ fn planned(current: &Plan, previous: &Plan) -> Vec<Told> {
     current.entries.iter().enumerate().map(tell).collect()
 }
 
-/// A message that tells these slots 1 to End, if it fits: new ones first, then the others, then 2B. // 01 Schedule message
+/// A message that tells slots 1 to End, if it fits: new ones first, the others, then 2B. // 01 Schedule message
 pub fn lay(begin: usize, told: &[Told]) -> Option<[u8; MESSAGE]> {
     let mut message = vec![begin as u8, told.len() as u8, 0, 0, 0, 0, 0, 0];
     for told in told.iter().filter(|told| told.new) {

@@ -14,6 +14,7 @@ use crate::text::content;
 
 const SEED: u64 = 0x0C50_B7A4_1700_0001;
 const SLOTS_MOST: usize = 6; // slots of most plans and schedules, to keep the files small
+const LONG: usize = 400; // longer lists are left to the comparison
 
 /// Writes one file per subject and says how many cases and octets each has.
 pub fn write(folder: &Path) -> io::Result<String> {
@@ -70,14 +71,15 @@ pub fn fault_sets(entry: Entry) -> Vec<Vec<Fault>> {
     sets
 }
 
-/// Any case that is one call; sequences of intake have lines of their own.
+/// Any case that is one call and no longer than a line should be; sequences of intake have lines of their own.
 fn any_call(entry: Entry, random: &mut Random, most: usize) -> Case {
     loop {
         let mut case = any(entry, random, most);
         if entry == Entry::Description {
             case.numbers[2] = 1;
         }
-        if entry != Entry::Intake || case.numbers.len() == 3 && case.numbers[0] == 1 {
+        let single = entry != Entry::Intake || case.numbers.len() == 3 && case.numbers[0] == 1;
+        if single && case.words.len() < LONG && case.lists.iter().all(|list| list.len() < LONG) {
             return case;
         }
     }
@@ -106,63 +108,27 @@ fn sequence_line(case: &Case) -> String {
 
 /// A case and what it gives as a line.
 pub fn line(case: &Case) -> String {
-    let n = |at: usize| format!("{:x}", case.numbers[at]);
-    let list = |at: usize| octets(&case.lists[at]);
-    let fields = match case.entry {
-        Entry::Start => start_fields(case),
-        Entry::Intake => intake_fields(case),
-        Entry::WriteBlocks => {
-            let mut out = lent(case);
-            let returned = Ours.write_blocks(&mut given(case, 0), case.numbers[0] != 0, case.number(1), &mut out);
-            vec!["B".into(), n(0), n(1), list(0), n(2), low(returned), left(&out)]
-        }
-        Entry::WriteText => {
-            let mut out = lent(case);
-            let returned = Ours.write_text(header(case), &mut case.words.clone(), &mut out);
-            let text = words(&case.words);
-            vec!["T".into(), n(0), n(1), n(2), n(3), text, n(4), low(returned), high(returned), left(&out)]
-        }
-        Entry::ReadText => {
-            let mut text = vec![LENT_WORD; case.number(1)];
-            let returned = Ours.read_text(&mut given(case, 0), case.number(0), &mut text);
-            vec!["R".into(), list(0), n(0), n(1), low(returned), high(returned), left_words(&text)]
-        }
-        Entry::Content => {
-            let returned = Ours.content(&mut given(case, 0), case.number(0));
-            let part = content(&case.lists[0], case.number(0)).unwrap_or(&[]);
-            vec!["C".into(), list(0), n(0), low(returned), octets(part)]
-        }
-        Entry::ReadSchedule => schedule_fields(case),
-        Entry::Description => {
-            let returned = Ours.description(&mut given(case, 0), case.number(0), case.number(1));
-            let (slot, new, code) = (returned >> 8 & 0xFF, returned >> 16 & 1, returned >> 32);
-            let told = [slot, new, code].map(|number| format!("{number:x}"));
-            [vec!["G".into(), list(0), n(0), n(1), low(returned)], told.to_vec()].concat()
-        }
-        Entry::ReadPlan => {
-            let returned = Ours.read_plan(&mut given(case, 0));
-            vec!["P".into(), list(0), low(returned), high(returned)]
-        }
-        Entry::WriteSchedule => {
-            let mut out = lent(case);
-            let begin = case.number(0);
-            let returned = Ours.write_schedule(&mut given(case, 0), &mut given(case, 1), begin, &mut out);
-            vec!["W".into(), list(0), list(1), n(0), n(1), low(returned), high(returned), left(&out)]
-        }
-        Entry::CheckSchedule => {
-            let (mut current, mut previous, mut message) = (given(case, 0), given(case, 1), given(case, 2));
-            let returned = Ours.check_schedule(&mut current, &mut previous, &mut message, case.number(0));
-            vec!["K".into(), list(0), list(1), list(2), n(0), low(returned), high(returned)]
-        }
-        Entry::Decide => decide_fields(case),
+    let (letter, fields) = match case.entry {
+        Entry::Start => ("N", start_fields(case)),
+        Entry::Intake => ("I", intake_fields(case)),
+        Entry::WriteBlocks => ("B", blocks_fields(case)),
+        Entry::WriteText => ("T", writing_fields(case)),
+        Entry::ReadText => ("R", reading_fields(case)),
+        Entry::Content => ("C", content_fields(case)),
+        Entry::ReadSchedule => ("S", schedule_fields(case)),
+        Entry::Description => ("G", description_fields(case)),
+        Entry::ReadPlan => ("P", plan_fields(case)),
+        Entry::WriteSchedule => ("W", writer_fields(case)),
+        Entry::CheckSchedule => ("K", checker_fields(case)),
+        Entry::Decide => ("D", decide_fields(case)),
     };
-    fields.join(" ")
+    format!("{letter} {}", fields.join(" "))
 }
 
 fn start_fields(case: &Case) -> Vec<String> {
     let mut state = given(case, 0);
     let returned = Ours.start(&mut state);
-    vec!["N".into(), octets(&case.lists[0]), low(returned), after(&case.lists[0], &state)]
+    vec![list(case, 0), low(returned), after(&case.lists[0], &state)]
 }
 
 /// One intake call: its state is as long as what is lent of it.
@@ -171,34 +137,94 @@ fn intake_fields(case: &Case) -> Vec<String> {
     let mut state = before.to_vec();
     let mut output = vec![LENT; case.number(2)];
     let returned = Ours.intake(&mut state, &mut given(case, 2), &mut output);
-    let piece = octets(&case.lists[2]);
-    let length = format!("{:x}", output.len());
-    vec!["I".into(), octets(before), piece, length, low(returned), high(returned), after(before, &state), left(&output)]
+    let taken = vec![octets(before), list(case, 2), number(case, 2)];
+    [taken, vec![low(returned), high(returned), after(before, &state), left(&output)]].concat()
+}
+
+fn blocks_fields(case: &Case) -> Vec<String> {
+    let mut out = lent(case);
+    let returned = Ours.write_blocks(&mut given(case, 0), case.numbers[0] != 0, case.number(1), &mut out);
+    vec![number(case, 0), number(case, 1), list(case, 0), number(case, 2), low(returned), left(&out)]
+}
+
+fn writing_fields(case: &Case) -> Vec<String> {
+    let mut out = lent(case);
+    let returned = Ours.write_text(header(case), &mut case.words.clone(), &mut out);
+    let mut fields: Vec<String> = (0..4).map(|at| number(case, at)).collect();
+    fields.extend([words(&case.words), number(case, 4), low(returned), high(returned), left(&out)]);
+    fields
+}
+
+fn reading_fields(case: &Case) -> Vec<String> {
+    let mut text = vec![LENT_WORD; case.number(1)];
+    let returned = Ours.read_text(&mut given(case, 0), case.number(0), &mut text);
+    vec![list(case, 0), number(case, 0), number(case, 1), low(returned), high(returned), left_words(&text)]
+}
+
+fn content_fields(case: &Case) -> Vec<String> {
+    let returned = Ours.content(&mut given(case, 0), case.number(0));
+    let part = content(&case.lists[0], case.number(0)).unwrap_or(&[]);
+    vec![list(case, 0), number(case, 0), low(returned), octets(part)]
 }
 
 /// Begin, End and each description in the message's order.
 fn schedule_fields(case: &Case) -> Vec<String> {
-    let (message, received) = (&case.lists[0], case.number(0));
-    let mut fields = vec!["S".into(), octets(message), format!("{received:x}")];
-    match read_schedule(message, received) {
-        Err(refusal) => fields.extend([format!("{:x}", refusal.number()), "0".into(), "0".into()]),
+    let mut values: Vec<u64> = Vec::new();
+    match read_schedule(&case.lists[0], case.number(0)) {
+        Err(refusal) => values.extend([refusal.number() as u64, 0, 0]),
         Ok(schedule) => {
-            fields.extend(["0".into(), format!("{:x}", schedule.begin), format!("{:x}", schedule.end)]);
+            values.extend([0, schedule.begin as u64, schedule.end as u64]);
             for told in schedule.told {
-                let code = told.description.code();
-                fields.extend([format!("{:x}", told.slot), format!("{:x}", told.new as u8), format!("{code:x}")]);
+                values.extend([told.slot as u64, told.new as u64, told.description.code() as u64]);
             }
         }
     }
-    fields
+    let values = values.iter().map(|value| format!("{value:x}")).collect();
+    [vec![list(case, 0), number(case, 0)], values].concat()
+}
+
+fn description_fields(case: &Case) -> Vec<String> {
+    let returned = Ours.description(&mut given(case, 0), case.number(0), case.number(1));
+    let (slot, new, code) = (returned >> 8 & 0xFF, returned >> 16 & 1, returned >> 32);
+    let told = [slot, new, code].map(|value| format!("{value:x}"));
+    [vec![list(case, 0), number(case, 0), number(case, 1), low(returned)], told.to_vec()].concat()
+}
+
+fn plan_fields(case: &Case) -> Vec<String> {
+    let returned = Ours.read_plan(&mut given(case, 0));
+    vec![list(case, 0), low(returned), high(returned)]
+}
+
+fn writer_fields(case: &Case) -> Vec<String> {
+    let mut out = lent(case);
+    let returned = Ours.write_schedule(&mut given(case, 0), &mut given(case, 1), case.number(0), &mut out);
+    let plans = vec![list(case, 0), list(case, 1)];
+    [plans, vec![number(case, 0), number(case, 1), low(returned), high(returned), left(&out)]].concat()
+}
+
+fn checker_fields(case: &Case) -> Vec<String> {
+    let (mut current, mut previous, mut message) = (given(case, 0), given(case, 1), given(case, 2));
+    let returned = Ours.check_schedule(&mut current, &mut previous, &mut message, case.number(0));
+    let lists = vec![list(case, 0), list(case, 1), list(case, 2)];
+    [lists, vec![number(case, 0), low(returned), high(returned)]].concat()
 }
 
 fn decide_fields(case: &Case) -> Vec<String> {
-    let n = |at: usize| format!("{:x}", case.numbers[at]);
     let (known, received, slot, held) = (case.numbers[0] != 0, case.number(1), case.number(2), case.numbers[3]);
     let returned = Ours.decide(known, &mut given(case, 0), received, slot, &mut case.words.clone(), held);
-    let message = octets(&case.lists[0]);
-    vec!["D".into(), n(0), message, n(1), n(2), words(&case.words), n(3), low(returned), high(returned)]
+    let schedule = vec![number(case, 0), list(case, 0), number(case, 1)];
+    let rest = vec![number(case, 2), words(&case.words), number(case, 3), low(returned), high(returned)];
+    [schedule, rest].concat()
+}
+
+/// A number of a case as a field.
+fn number(case: &Case, at: usize) -> String {
+    format!("{:x}", case.numbers[at])
+}
+
+/// A list of a case as a field.
+fn list(case: &Case, at: usize) -> String {
+    octets(&case.lists[at])
 }
 
 /// The number of what an entry returned.
