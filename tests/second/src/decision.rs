@@ -40,3 +40,12 @@ fn repeat_read(schedule: &Schedule, first: usize, wanted: &[u16], held: u64) -> 
         _ => false,
     }
 }
+
+/// The set after a page was got from a slot: from a repeat it is entered under its first's slot. // 01 The plan
+pub fn entered(schedule: &Schedule, slot: usize, held: u64) -> u64 {
+    match schedule.at(slot).map(|told| told.description) {
+        Some(Description::Repeat(first)) => held | 1 << (first - 1),
+        Some(Description::First(_)) => held | 1 << (slot - 1),
+        _ => held,
+    }
+}
