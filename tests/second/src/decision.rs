@@ -1,0 +1,51 @@
+//! The decision of a board for a slot: read it or skip it.
+
+use crate::refusal::Refusal;
+use crate::schedule::{Description, Schedule, SLOTS};
+
+pub const WANTED: usize = 64; // 01 Numbers given, 42
+
+/// Decides, true for read; refuses by 41, 42 in this order. No schedule, or a refused one, is `None`. // 01 The plan
+pub fn decide(schedule: Option<Schedule>, slot: usize, wanted: &[u16], held: u64) -> Result<bool, Refusal> {
+    if slot < 1 || slot > SLOTS {
+        return Err(Refusal::SlotOutside);
+    }
+    if wanted.len() > WANTED {
+        return Err(Refusal::WantedTooMany);
+    }
+    let Some(schedule) = schedule else {
+        return Ok(true);
+    };
+    let Some(told) = schedule.at(slot) else {
+        return Ok(true);
+    };
+    Ok(match told.description {
+        Description::Advised => true,
+        Description::Optional => false,
+        Description::First(low) => matches(wanted, low),
+        Description::Repeat(first) => repeat_read(&schedule, first as usize, wanted, held),
+    })
+}
+
+/// An identifier that agrees in 15 bits is wanted. // 01 Easy to get wrong
+fn matches(wanted: &[u16], low: u16) -> bool {
+    wanted.iter().any(|&identifier| identifier & 0x7FFF == low)
+}
+
+/// A repeat is read where its first matches and its first's slot isn't held. // 01 The plan
+fn repeat_read(schedule: &Schedule, first: usize, wanted: &[u16], held: u64) -> bool {
+    let is_held = held >> (first - 1) & 1 == 1;
+    match schedule.at(first).map(|told| told.description) {
+        Some(Description::First(low)) => matches(wanted, low) && !is_held,
+        _ => false,
+    }
+}
+
+/// The set after a page was got from a slot: from a repeat it is entered under its first's slot. // 01 The plan
+pub fn entered(schedule: &Schedule, slot: usize, held: u64) -> u64 {
+    match schedule.at(slot).map(|told| told.description) {
+        Some(Description::Repeat(first)) => held | 1 << (first - 1),
+        Some(Description::First(_)) => held | 1 << (slot - 1),
+        _ => held,
+    }
+}

@@ -1,0 +1,275 @@
+//! The cases at the edges of each entry, chosen one by one.
+
+use crate::blocks::{BLOCK, FILL, MESSAGE};
+use crate::case::{Case, Entry};
+use crate::intake::STATE;
+use crate::invent::CARRIED;
+use crate::plan::{self, Page, Plan};
+use crate::schedule::{Description, Told, SLOTS};
+use crate::sender::lay;
+use crate::side::LENT;
+use crate::text::{pack, CHARACTERS};
+
+/// The edge cases of an entry.
+pub fn cases(entry: Entry) -> Vec<Case> {
+    match entry {
+        Entry::Start => vec![Case::new(entry, &[], &[&[0; STATE]], &[]), Case::new(entry, &[], &[&[]], &[])],
+        Entry::Intake => intake(),
+        Entry::WriteBlocks => blocks(),
+        Entry::WriteText => writing(),
+        Entry::ReadText => reading(),
+        Entry::Content => contents(),
+        Entry::ReadSchedule => schedules(),
+        Entry::Description => places(),
+        Entry::ReadPlan => plans(),
+        Entry::WriteSchedule => schedules_written(),
+        Entry::CheckSchedule => checks(),
+        Entry::Decide => decisions(),
+    }
+}
+
+/// Octets that are all different from their neighbours.
+fn counted(length: usize) -> Vec<u8> {
+    (0..length).map(|at| at as u8 ^ 0x5A).collect()
+}
+
+/// Each kind of code, with the mark and without, in each proper state. // 01 Intake
+fn intake() -> Vec<Case> {
+    let states = [(0, 0), (1, 1), (1, 2), (1, 3), (2, 1), (2, 2), (2, 3)];
+    let mut cases = Vec::new();
+    for (kind, taken) in states {
+        let mut state = vec![FILL; STATE];
+        state[2..2 + 22 * taken].copy_from_slice(&counted(22 * taken));
+        state[..2].copy_from_slice(&[kind, taken as u8]);
+        state.resize(CARRIED, LENT);
+        for code in [0, 1, 2, 3, 4, 7, 8, 9, 14, 15] {
+            for mark in [0x20, 0x30] {
+                let piece = [vec![mark | code], counted(22)].concat();
+                cases.push(Case::new(Entry::Intake, &[1, 90, 88], &[&state, &[LENT; CARRIED], &piece], &[]));
+            }
+        }
+    }
+    cases
+}
+
+/// Used octets about each block. // 01 Blocks
+fn blocks() -> Vec<Case> {
+    let used = [0, 1, 21, 22, 23, 43, 44, 45, 65, 66, 67, 87, 88, 89, 256 + 22];
+    let both = used.into_iter().flat_map(|used| [0, 1].map(|schedule| (schedule, used)));
+    both.map(|(schedule, used)| {
+        Case::new(Entry::WriteBlocks, &[schedule, used, 4 * BLOCK as u64], &[&counted(MESSAGE)], &[])
+    })
+    .collect()
+}
+
+fn text_case(text: &[u16], parameter: u64) -> Case {
+    Case::new(Entry::WriteText, &[0x1234, 0x8001, 0x0F, parameter, MESSAGE as u64], &[], text)
+}
+
+/// Texts of lengths about the edges, every code point up to U+03AA alone, and every parameter. // 01 Page and text
+fn writing() -> Vec<Case> {
+    let lengths = [0, 1, 7, 8, 9, 17, 18, 19, 42, 43, 44, 67, 68, 69, 92, 93, 94];
+    let mut cases: Vec<Case> = lengths.into_iter().map(|length| text_case(&vec![0x41; length], 0x11)).collect();
+    cases.extend((0..=0x3AA).map(|point| text_case(&[point], 0x11)));
+    cases.extend((0..=0xFF).filter(|parameter| parameter % 5 < 2).map(|parameter| text_case(&[0x42], parameter)));
+    cases.push(text_case(&[0x41, 0x0D, 0x0D, 0x42], 0x11));
+    cases.push(text_case(&[0x41, 0x0D], 0x11));
+    cases
+}
+
+/// Every septet, and CRs up to and about the ends of what can be received. // 01 Page and text
+fn reading() -> Vec<Case> {
+    let mut pages = vec![packed(&|at| at as u8), packed(&|at| at as u8 + 35)];
+    for characters in [0, 1, 17, 18, 19, 42, 43, 44, 67, 68, 69, 92, 93] {
+        pages.push(packed(&|at| if at < characters { 0x41 } else { 0x0D }));
+    }
+    pages.push([vec![0; 6], vec![0xFF; 82]].concat());
+    let all = pages.iter().flat_map(|page| [22, 44, 66, 88].map(|received| (page, received)));
+    all.map(|(page, received)| Case::new(Entry::ReadText, &[received, CHARACTERS as u64], &[page], &[])).collect()
+}
+
+fn packed(septet: &dyn Fn(usize) -> u8) -> Vec<u8> {
+    let septets: Vec<u8> = (0..CHARACTERS).map(septet).collect();
+    let mut page = vec![0; MESSAGE];
+    pack(&septets, &mut page[6..]);
+    page
+}
+
+fn contents() -> Vec<Case> {
+    let received = [0, 1, 6, 21, 22, 23, 44, 66, 87, 88, 89, 278, (1 << 32) + 22];
+    received.into_iter().map(|received| Case::new(Entry::Content, &[received], &[&counted(MESSAGE)], &[])).collect()
+}
+
+fn read_case(message: &[u8], received: u64) -> Case {
+    Case::new(Entry::ReadSchedule, &[received], &[message], &[])
+}
+
+/// Begin and End of every value, every octet as a description, and descriptions that end about the received. // 000 3.5
+fn schedules() -> Vec<Case> {
+    let mut cases = Vec::new();
+    for value in (0..=8).chain([47, 48, 49, 63, 64, 65, 127, 128, 129, 192, 193, 255]) {
+        cases.push(read_case(&message(&[value, 5], &[0x40; 48]), 22));
+    }
+    for value in (0..=0xFF).filter(|value| value % 64 < 16 || value % 64 > 44) {
+        cases.push(read_case(&message(&[1, value], &[0x40; 48]), 66));
+    }
+    for octet in 0..=0xFF {
+        cases.push(read_case(&message(&[1, 3], &[0x80, 0x05, octet, 0x40, 0x40]), 22));
+    }
+    for received in [22, 44, 66, 88] {
+        cases.extend(about(received));
+    }
+    cases
+}
+
+/// Descriptions that end one octet before the received, at them and past them.
+fn about(received: usize) -> Vec<Case> {
+    let room = received - 8;
+    let ends = |firsts: usize, others: usize| {
+        let octets = [[0x80, 0x01].repeat(firsts), vec![0x40; others]].concat();
+        read_case(&message(&[1, (firsts + others) as u8], &octets), received as u64)
+    };
+    let firsts = room.saturating_sub(SLOTS).max(room / 4);
+    [room - 1, room, room + 1, room + 2].into_iter().map(|sum| ends(firsts, sum - 2 * firsts)).collect()
+}
+
+/// A message of a header, no new bits, and descriptions, filled up with 2B.
+fn message(header: &[u8; 2], descriptions: &[u8]) -> Vec<u8> {
+    let mut message = [header, &[0; 6][..], descriptions].concat();
+    message.resize(MESSAGE, FILL);
+    message
+}
+
+/// Places about End. // 01 Schedule message
+fn places() -> Vec<Case> {
+    let sound = message(&[1, 3], &[0x80, 0x05, 0x01, 0x7F]);
+    let refused = message(&[1, 3], &[0x80, 0x05, 0x02, 0x7F]);
+    let places = [0, 1, 2, 3, 4, 47, 48, 49, 256, 1 << 32, u64::MAX];
+    let both = places.into_iter().flat_map(|place| [&sound, &refused].map(|message| (place, message)));
+    both.map(|(place, message)| Case::new(Entry::Description, &[22, place, 1], &[message], &[])).collect()
+}
+
+/// Counts about the ends, each with lengths about the right one. // 01 The plan
+fn plans() -> Vec<Case> {
+    let mut cases = Vec::new();
+    for count in [0usize, 1, 2, 47, 48, 49, 255] {
+        let right = 6 + 6 * count.min(49);
+        for length in [right.saturating_sub(6), right - 1, right, right + 1, right + 6] {
+            let mut file = b"CBP\x00\x01".to_vec();
+            file.push(count as u8);
+            file.resize(length, 0);
+            cases.push(Case::new(Entry::ReadPlan, &[], &[&file], &[]));
+        }
+    }
+    for kind in 0..=4 {
+        for at in 0..=5 {
+            let mut file = b"CBP\x00\x01\x01".to_vec();
+            file.extend([kind, 0, 0, 0, 0, 0]);
+            if at > 0 {
+                file[6 + at] = 0x10;
+            }
+            cases.push(Case::new(Entry::ReadPlan, &[], &[&file], &[]));
+        }
+    }
+    cases
+}
+
+/// A plan with this many different pages, and repeats of the last in the other slots.
+pub fn pages_in(pages: usize, slots: usize) -> Plan {
+    let page = |at: usize| Page { serial: at as u16, identifier: 0x8001, parameter: 0x11 };
+    Plan { entries: (0..slots).map(|at| plan::Entry::Page(page(at.min(pages - 1)))).collect() }
+}
+
+/// Plans that just fit and just don't, and the example of two slots. // 01 Where the edges are
+fn schedules_written() -> Vec<Case> {
+    let example = Page { serial: 0x0010, identifier: 0x8001, parameter: 0x11 };
+    let two = Plan { entries: vec![plan::Entry::Page(example); 2] };
+    let none = Plan::default();
+    let case = |current: &Plan, previous: &Plan, begin: u64| {
+        Case::new(Entry::WriteSchedule, &[begin, MESSAGE as u64], &[&current.file(), &previous.file()], &[])
+    };
+    let mut cases = vec![case(&two, &none, 1), case(&two, &two, 1), case(&two, &none, 2), case(&two, &none, 3)];
+    for (pages, slots) in [(32, 48), (33, 48), (40, 40), (41, 41)] {
+        cases.push(case(&pages_in(pages, slots), &none, slots as u64));
+    }
+    cases.extend(near_pages(example).into_iter().map(|other| {
+        let plan = Plan { entries: vec![plan::Entry::Page(example), plan::Entry::Page(other)] };
+        case(&plan, &two, 1)
+    }));
+    cases
+}
+
+/// Pages that differ from a page in one thing, and one that has its numbers in each other's place.
+fn near_pages(page: Page) -> Vec<Page> {
+    vec![
+        Page { serial: 0x0110, ..page },
+        Page { identifier: 0x0001, ..page },
+        Page { parameter: 0x12, ..page },
+        Page { serial: page.identifier, identifier: page.serial, ..page },
+    ]
+}
+
+/// Each planned thing beside each thing told, with the new bit either way, in slot 1 and in slot 2. // 01 The plan
+fn checks() -> Vec<Case> {
+    let page = Page { serial: 0x0010, identifier: 0x8001, parameter: 0x11 };
+    let other = Page { parameter: 0x12, ..page };
+    let planned = [plan::Entry::Page(page), plan::Entry::Page(other), plan::Entry::Optional, plan::Entry::Advised];
+    let descriptions = [
+        Description::First(0x0001),
+        Description::First(0x0002),
+        Description::Repeat(1),
+        Description::Optional,
+        Description::Advised,
+    ];
+    let mut cases = Vec::new();
+    for entry in planned {
+        for description in descriptions {
+            for new in [false, true] {
+                for known in [false, true] {
+                    let previous = Plan { entries: if known { vec![plan::Entry::Page(page); 1] } else { vec![] } };
+                    cases.push(check_second(page, entry, &previous, new, description));
+                    cases.push(check_only(entry, &previous, new, description));
+                }
+            }
+        }
+    }
+    cases
+}
+
+/// Slot 1 told truthfully as a page's first, and slot 2 as given.
+fn check_second(page: Page, entry: plan::Entry, previous: &Plan, new: bool, description: Description) -> Case {
+    let first = Told { slot: 1, new: !previous.has(page), description: Description::First(page.identifier & 0x7FFF) };
+    let current = Plan { entries: vec![plan::Entry::Page(page), entry] };
+    check_case(&current, previous, &[first, Told { slot: 2, new, description }])
+}
+
+/// A plan of one slot.
+fn check_only(entry: plan::Entry, previous: &Plan, new: bool, description: Description) -> Case {
+    check_case(&Plan { entries: vec![entry] }, previous, &[Told { slot: 1, new, description }])
+}
+
+fn check_case(current: &Plan, previous: &Plan, told: &[Told]) -> Case {
+    let message = lay(1, told).expect("two slots fit");
+    Case::new(Entry::CheckSchedule, &[22], &[&current.file(), &previous.file(), &message], &[])
+}
+
+/// Every kind of description and slots past End beside several wanted lists and held sets. // 01 The plan
+fn decisions() -> Vec<Case> {
+    let descriptions = [0x80, 0x01, 0xBF, 0xFF, 0x01, 0x02, 0x40, 0x41, 0x42, 0x7F];
+    let message = message(&[1, 8], &descriptions);
+    let wanted: [&[u16]; 6] = [&[], &[0x0001], &[0x8001], &[0x4001, 0x3FFF], &[0x0002, 0xBFFF], &[0; 64]];
+    let held = [0, 0x01, 0x02, 0xFFFF_0000_0000_0000, u64::MAX];
+    let mut cases = Vec::new();
+    for slot in 0..=10 {
+        for wanted in wanted {
+            for held in held {
+                if wanted.len() < 64 || held == 0 {
+                    cases.push(Case::new(Entry::Decide, &[1, 22, slot, held], &[&message], wanted));
+                }
+            }
+        }
+        cases.push(Case::new(Entry::Decide, &[0, 22, slot, 0], &[&message], &[]));
+        cases.push(Case::new(Entry::Decide, &[1, 23, slot, 0], &[&message], &[]));
+    }
+    cases
+}

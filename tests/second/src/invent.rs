@@ -1,0 +1,854 @@
+//! Cases invented from random numbers: sound ones, ones with chosen faults, damaged ones and wild ones.
+
+use crate::blocks::{BLOCK, CONTENT, FILL, MESSAGE};
+use crate::case::{Case, Entry};
+use crate::intake::STATE;
+use crate::plan::{self, Page, Plan};
+use crate::random::Random;
+use crate::schedule::{Description, Told, DESCRIPTIONS, SLOTS};
+use crate::sender::lay;
+use crate::side::LENT;
+use crate::text::{ALPHABET, CHARACTERS};
+
+/// Octets of the state and of the output that an intake case carries: more than are lent to a sound call.
+pub const CARRIED: usize = 100;
+
+/// A fault that can be put into a case; `usize` says in which list or number.
+#[derive(Clone, Copy, Debug, PartialEq, Eq)]
+pub enum Fault {
+    Length(usize, usize), // a length given as a number, and what it must not be
+    StateLength,
+    StateImproper,
+    PieceLength,
+    Discriminator,
+    ReservedCode,
+    NullCode,
+    NotNext,
+    MessageLength(usize),
+    Used,
+    Received(usize),
+    Scheme,
+    PageScheme,
+    Parameter,
+    TextLength,
+    NotInAlphabet,
+    EndsInCr,
+    ScheduleType(usize),
+    BeginEnd(usize),
+    NewBitPastEnd(usize),
+    Passes(usize, usize),
+    FalseRepeat(usize),
+    PlanShort(usize),
+    PlanMark(usize),
+    PlanVersion(usize),
+    PlanLength(usize),
+    PlanEntry(usize),
+    NoSlots,
+    Begin,
+    TooLong,
+    EndDiffers,
+    SlotUntrue,
+    Slot,
+    WantedTooMany,
+}
+
+/// The reader's faults, of the message in a list and received in a number. // 01 Order
+fn reader_faults(list: usize, number: usize) -> Vec<(u8, Fault)> {
+    vec![
+        (16, Fault::MessageLength(list)),
+        (18, Fault::Received(number)),
+        (20, Fault::ScheduleType(list)),
+        (21, Fault::BeginEnd(list)),
+        (22, Fault::NewBitPastEnd(list)),
+        (23, Fault::Passes(list, number)),
+        (24, Fault::FalseRepeat(list)),
+    ]
+}
+
+/// The faults of a plan file. // 01 Order
+fn plan_faults(list: usize) -> Vec<(u8, Fault)> {
+    vec![
+        (32, Fault::PlanShort(list)),
+        (30, Fault::PlanMark(list)),
+        (31, Fault::PlanVersion(list)),
+        (32, Fault::PlanLength(list)),
+        (33, Fault::PlanEntry(list)),
+    ]
+}
+
+/// The faults of an entry, each with its number, in the order in which they are refused. // 01 Order
+pub fn faults(entry: Entry) -> Vec<(u8, Fault)> {
+    match entry {
+        Entry::Start => vec![(8, Fault::StateLength)],
+        Entry::Intake => vec![
+            (15, Fault::Length(2, MESSAGE)),
+            (8, Fault::StateLength),
+            (8, Fault::StateImproper),
+            (2, Fault::PieceLength),
+            (3, Fault::Discriminator),
+            (4, Fault::ReservedCode),
+            (5, Fault::NullCode),
+            (6, Fault::NotNext),
+        ],
+        Entry::WriteBlocks => {
+            vec![(15, Fault::Length(2, 4 * BLOCK)), (16, Fault::MessageLength(0)), (17, Fault::Used)]
+        }
+        Entry::WriteText => vec![
+            (15, Fault::Length(4, MESSAGE)),
+            (13, Fault::Scheme),
+            (14, Fault::Parameter),
+            (10, Fault::TextLength),
+            (11, Fault::NotInAlphabet),
+            (12, Fault::EndsInCr),
+        ],
+        Entry::ReadText => vec![
+            (15, Fault::Length(1, CHARACTERS)),
+            (16, Fault::MessageLength(0)),
+            (18, Fault::Received(0)),
+            (13, Fault::PageScheme),
+        ],
+        Entry::Content => vec![(16, Fault::MessageLength(0)), (18, Fault::Received(0))],
+        Entry::ReadSchedule | Entry::Description => reader_faults(0, 0),
+        Entry::ReadPlan => plan_faults(0),
+        Entry::WriteSchedule => [
+            vec![(15, Fault::Length(1, MESSAGE))],
+            plan_faults(0),
+            plan_faults(1),
+            vec![(35, Fault::NoSlots), (21, Fault::Begin), (34, Fault::TooLong)],
+        ]
+        .concat(),
+        Entry::CheckSchedule => [
+            plan_faults(0),
+            plan_faults(1),
+            vec![(35, Fault::NoSlots)],
+            reader_faults(2, 0),
+            vec![(40, Fault::EndDiffers), (40, Fault::SlotUntrue)],
+        ]
+        .concat(),
+        Entry::Decide => vec![(41, Fault::Slot), (42, Fault::WantedTooMany)],
+    }
+}
+
+/// Puts faults into a case, the last refused first, so that the one refused first stands.
+pub fn put(case: &mut Case, faults: &[Fault], random: &mut Random) {
+    for &fault in faults.iter().rev() {
+        put_one(case, fault, random);
+    }
+}
+
+fn put_one(case: &mut Case, fault: Fault, random: &mut Random) {
+    match fault {
+        Fault::Length(number, not) => put_output_length(case, number, other_length(random, not)),
+        Fault::StateLength => put_state_length(case, random),
+        Fault::StateImproper => put_improper(&mut case.lists[0], random),
+        Fault::PieceLength => case.lists[2].resize(random.pick(&[0, 1, 22, 24, 46, 256 + 23]), 0x20),
+        Fault::Discriminator => put_type(case, 0x60, random.pick(&[0x00, 0x40, 0x60])),
+        Fault::ReservedCode => put_type(case, 0x0F, random.pick(&[4, 5, 6, 7, 9, 10, 11, 12, 13, 14])),
+        Fault::NullCode => put_type(case, 0x0F, 15),
+        Fault::NotNext => put_not_next(case, random),
+        Fault::MessageLength(list) => case.lists[list].resize(other_length(random, MESSAGE), FILL),
+        Fault::Used => case.numbers[1] = random.pick(&[0, 89, 90, 110, 256 + 22, 1 << 32, u64::MAX]),
+        Fault::Received(number) => case.numbers[number] = random.pick(&NOT_RECEIVED),
+        Fault::Scheme => case.numbers[2] = random.pick(&OTHER_SCHEMES) as u64,
+        Fault::PageScheme => set(&mut case.lists[0], 4, random.pick(&OTHER_SCHEMES)),
+        Fault::Parameter => case.numbers[3] = random.pick(&[0x00, 0x01, 0x0F, 0x10, 0xF0, 0x21, 0x32, 0xFE]),
+        Fault::TextLength => put_long_text(&mut case.words, random),
+        Fault::NotInAlphabet => put_foreign(&mut case.words, random),
+        Fault::EndsInCr => put_cr(&mut case.words),
+        Fault::ScheduleType(list) => case.lists[list][0] |= random.pick(&[0x40, 0x80, 0xC0]),
+        Fault::BeginEnd(list) => put_begin_end(&mut case.lists[list], random),
+        Fault::NewBitPastEnd(list) => put_new_bit(&mut case.lists[list], random),
+        Fault::Passes(list, number) => put_passing(case, list, number),
+        Fault::FalseRepeat(list) => put_false_repeat(&mut case.lists[list], random.pick(&[0x00, 0x30, 0x3F])),
+        Fault::PlanShort(list) => case.lists[list].truncate(random.below(6)),
+        Fault::PlanMark(list) => alter(&mut case.lists[list], random.below(3), random),
+        Fault::PlanVersion(list) => alter(&mut case.lists[list], random.within(3, 4), random),
+        Fault::PlanLength(list) => put_plan_length(&mut case.lists[list], random),
+        Fault::PlanEntry(list) => put_plan_entry(&mut case.lists[list], random),
+        Fault::NoSlots => case.lists[0] = Plan::default().file(),
+        Fault::Begin => put_begin(case, random),
+        Fault::TooLong => case.lists[0] = many_pages(random).file(),
+        Fault::EndDiffers => put_other_count(&mut case.lists[0]),
+        Fault::SlotUntrue => put_untrue(&mut case.lists[0]),
+        Fault::Slot => case.numbers[2] = random.pick(&[0, 49, 50, 64, 256 + 1, (1 << 32) + 1, u64::MAX]),
+        Fault::WantedTooMany => case.words.resize(random.pick(&[65, 66, 128]), 1),
+    }
+}
+
+const NOT_RECEIVED: [u64; 13] = [0, 1, 21, 23, 43, 45, 65, 67, 87, 89, 110, 256 + 22, (1 << 32) + 88];
+const OTHER_SCHEMES: [u8; 6] = [0x10, 0x11, 0x40, 0x80, 0xF0, 0xFF];
+const FOREIGN: [u16; 11] = [0, 0x1B, 0x5B, 0x60, 0x7F, 0xA0, 0xE7, 0x3AA, 0x391, 0x20AC, 0xFFFF];
+
+/// A length other than the right one, mostly near it, or like it in its low octet.
+fn other_length(random: &mut Random, not: usize) -> usize {
+    random.pick(&[0, 1, not - 1, not - 1, not + 1, not + 1, 2 * not, not - 4, not + 256])
+}
+
+fn set(list: &mut [u8], at: usize, octet: u8) {
+    if let Some(place) = list.get_mut(at) {
+        *place = octet;
+    }
+}
+
+/// Another octet at a place.
+fn alter(list: &mut [u8], at: usize, random: &mut Random) {
+    if let Some(place) = list.get_mut(at) {
+        *place ^= random.within(1, 255) as u8;
+    }
+}
+
+fn put_state_length(case: &mut Case, random: &mut Random) {
+    let length = random.pick(&[0, 1, 2, 22, 88, 89, 91, 92, 100, 256 + STATE]);
+    match case.entry {
+        Entry::Start => case.lists[0].resize(length, LENT),
+        _ => {
+            case.numbers[1] = length as u64;
+            at_least(&mut case.lists[0], length);
+        }
+    }
+}
+
+/// Lends an output of a length; an intake case carries its output as a list.
+fn put_output_length(case: &mut Case, number: usize, length: usize) {
+    case.numbers[number] = length as u64;
+    if case.entry == Entry::Intake {
+        at_least(&mut case.lists[1], length);
+    }
+}
+
+fn at_least(list: &mut Vec<u8>, length: usize) {
+    if list.len() < length {
+        list.resize(length, LENT);
+    }
+}
+
+/// Makes a state of 90 octets improper. // 01 Intake
+fn put_improper(state: &mut [u8], random: &mut Random) {
+    match random.below(4) {
+        0 => state[0] = random.within(3, 255) as u8,
+        1 => state[1] = random.within(4, 255) as u8,
+        2 => state[1] = if state[0] == 0 { random.within(1, 3) as u8 } else { 0 },
+        _ => {
+            let filled = 2 + CONTENT * (state[1] as usize).min(3);
+            let at = random.within(filled, STATE - 1);
+            alter(state, at, random);
+        }
+    }
+}
+
+/// Changes some bits of the piece's type octet.
+fn put_type(case: &mut Case, mask: u8, bits: u8) {
+    if let Some(octet) = case.lists[2].first_mut() {
+        *octet = *octet & !mask | bits;
+    }
+}
+
+/// A second to fourth block that isn't next in the state of the case.
+fn put_not_next(case: &mut Case, random: &mut Random) {
+    let next = case.lists[0].get(1).copied().unwrap_or(0);
+    put_type(case, 0x0F, if next == 2 { random.pick(&[1, 3]) } else { 2 });
+}
+
+/// Over 93 characters, with the same at the end as before.
+fn put_long_text(text: &mut Vec<u16>, random: &mut Random) {
+    let last = text.last().copied().unwrap_or(0x41);
+    text.resize(random.pick(&[94, 95, 96, 186]), last);
+}
+
+/// A character that isn't in the alphabet, elsewhere than at the end.
+fn put_foreign(text: &mut Vec<u16>, random: &mut Random) {
+    let point = random.pick(&FOREIGN);
+    match text.len() {
+        0 => text.push(point),
+        1 => text.insert(0, point),
+        length => text[random.below(length - 1)] = point,
+    }
+}
+
+fn put_cr(text: &mut Vec<u16>) {
+    text.pop();
+    text.push(0x0D);
+}
+
+fn put_begin_end(message: &mut [u8], random: &mut Random) {
+    let end = message.get(1).copied().unwrap_or(1) & 0x3F;
+    match random.below(4) {
+        0 => message[0] &= 0xC0,
+        1 => set(message, 1, random.pick(&[0, 0xC0])),
+        2 => set(message, 1, random.pick(&[49, 50, 63])),
+        _ => message[0] = message[0] & 0xC0 | (end + 1).min(63),
+    }
+}
+
+/// Sets a new bit past End, which is made less than 48 if need be.
+fn put_new_bit(message: &mut [u8], random: &mut Random) {
+    message[1] = message[1].min(SLOTS as u8 - 1);
+    let slot = random.within((message[1] as usize & 0x3F).min(47) + 1, SLOTS);
+    message[2 + (slot - 1) / 8] |= 0x80 >> ((slot - 1) % 8);
+}
+
+/// Fourteen octets received for eight descriptions of which seven take two.
+fn put_passing(case: &mut Case, list: usize, number: usize) {
+    let message = &mut case.lists[list];
+    message[1] = (message[1] & 0x3F).max(8);
+    for octet in &mut message[DESCRIPTIONS + 1..] {
+        *octet = 0x80;
+    }
+    case.numbers[number] = CONTENT as u64;
+}
+
+/// A repeat in place of the first description; one that took two octets leaves a 40 behind.
+fn put_false_repeat(message: &mut [u8], octet: u8) {
+    if message[DESCRIPTIONS] >= 0x80 {
+        message[DESCRIPTIONS + 1] = 0x40;
+    }
+    message[DESCRIPTIONS] = octet;
+}
+
+fn put_plan_length(file: &mut Vec<u8>, random: &mut Random) {
+    let count = file.get(5).copied().unwrap_or(0);
+    match random.below(4) {
+        0 => set(file, 5, random.within(49, 255) as u8),
+        1 => set(file, 5, (count + 1) % 49),
+        2 => file.push(0),
+        _ => {
+            file.resize(6 + 6 * 49, 0);
+            set(file, 5, 49);
+        }
+    }
+}
+
+fn put_plan_entry(file: &mut Vec<u8>, random: &mut Random) {
+    if file.get(5) == Some(&0) {
+        file[5] = 1;
+        file.extend([0; 6]);
+    }
+    let entries = (file.len() - 6) / 6;
+    let at = 6 + 6 * random.below(entries);
+    if random.once_in(2) {
+        file[at] = random.pick(&[3, 4, 128, 255]);
+    } else {
+        file[at] = random.pick(&[0, 1]);
+        file[at + random.within(1, 5)] = random.pick(&[1, 128, 255]);
+    }
+}
+
+/// A Begin that isn't 1 to the count of the current plan.
+fn put_begin(case: &mut Case, random: &mut Random) {
+    let count = case.lists[0].get(5).copied().unwrap_or(0) as u64;
+    case.numbers[0] = random.pick(&[0, count + 1, 49, 256 + 1, u64::MAX]);
+}
+
+/// One slot more in a plan file, or one less.
+fn put_other_count(file: &mut Vec<u8>) {
+    if file[5] < SLOTS as u8 {
+        file[5] += 1;
+        file.extend([0; 6]);
+    } else {
+        file[5] -= 1;
+        file.truncate(file.len() - 6);
+    }
+}
+
+/// Another kind for slot 1 of a plan file: a message that was true of it no longer is.
+fn put_untrue(file: &mut [u8]) {
+    let kind = if file[6] == 0 { 1 } else { 0 };
+    file[6..12].copy_from_slice(&[kind, 0, 0, 0, 0, 0]);
+}
+
+/// A plan whose descriptions need over 80 octets.
+fn many_pages(random: &mut Random) -> Plan {
+    let pages = random.within(41, 48);
+    let start = random.word();
+    let page =
+        |i: usize| plan::Entry::Page(Page { serial: start.wrapping_add(i as u16), identifier: 1, parameter: 0x11 });
+    Plan { entries: (0..pages).map(page).collect() }
+}
+
+/// A page out of few, so that pages meet again and near-equal ones stand beside each other.
+fn some_page(random: &mut Random) -> Page {
+    let other = random.word();
+    Page {
+        serial: random.pick(&[0x0010, 0x0010, 0x0011, other]),
+        identifier: random.pick(&[0x0001, 0x8001, 0x0002, 0x7FFF, 0xFFFF, other]),
+        parameter: random.pick(&[0x11, 0x11, 0x12, 0x00]),
+    }
+}
+
+fn some_entry(random: &mut Random, pages: &[Page]) -> plan::Entry {
+    match random.below(8) {
+        0 => plan::Entry::Optional,
+        1 => plan::Entry::Advised,
+        _ => plan::Entry::Page(random.pick(pages)),
+    }
+}
+
+fn some_plan(random: &mut Random, least: usize, most: usize) -> Plan {
+    if most == SLOTS && random.once_in(6) {
+        return full_plan(random);
+    }
+    let count = random.within(least, most);
+    let pool = random.within(1, most);
+    let pages: Vec<Page> = (0..pool).map(|_| some_page(random)).collect();
+    Plan { entries: (0..count).map(|_| some_entry(random, &pages)).collect() }
+}
+
+/// A plan whose descriptions need about 80 octets: different pages, with repeats of them put in between.
+fn full_plan(random: &mut Random) -> Plan {
+    let need = random.within(77, 83);
+    let count = random.within(need.div_ceil(2), SLOTS);
+    let pages: Vec<Page> = (0..need - count).map(|at| Page { serial: at as u16, ..some_page(random) }).collect();
+    let mut entries: Vec<plan::Entry> = pages.iter().map(|&page| plan::Entry::Page(page)).collect();
+    while entries.len() < count {
+        let entry = some_entry(random, &pages);
+        entries.insert(random.below(entries.len() + 1), entry);
+    }
+    Plan { entries }
+}
+
+/// A plan that shares pages with another.
+fn some_previous(random: &mut Random, current: &Plan, most: usize) -> Plan {
+    let mut previous = some_plan(random, 0, most.min(8));
+    for &entry in &current.entries {
+        if previous.count() < most && random.once_in(3) {
+            previous.entries.push(entry);
+        }
+    }
+    previous
+}
+
+/// What a truthful sender may tell of each slot of a plan. // 01 The plan
+fn some_truth(random: &mut Random, current: &Plan, previous: &Plan) -> Vec<Told> {
+    let mut told: Vec<Told> = Vec::new();
+    for (at, &entry) in current.entries.iter().enumerate() {
+        let slot = at + 1;
+        let (new, description) = match entry {
+            plan::Entry::Optional => (false, Description::Optional),
+            plan::Entry::Advised => (true, Description::Advised),
+            plan::Entry::Page(page) => page_truth(random, current, previous, page, slot, &told),
+        };
+        told.push(Told { slot, new, description });
+    }
+    told
+}
+
+fn page_truth(
+    random: &mut Random,
+    current: &Plan,
+    previous: &Plan,
+    page: Page,
+    slot: usize,
+    told: &[Told],
+) -> (bool, Description) {
+    let new = !previous.has(page);
+    let lowest = current.lowest(page).unwrap_or(slot);
+    if random.once_in(8) {
+        (true, Description::Advised)
+    } else if lowest == slot {
+        (new, Description::First(page.identifier & 0x7FFF))
+    } else if random.once_in(8) || told[lowest - 1].description == Description::Advised {
+        (false, Description::Optional)
+    } else {
+        (new, Description::Repeat(lowest as u8))
+    }
+}
+
+/// Untruth at a slot or two.
+fn lie(random: &mut Random, told: &mut [Told]) {
+    for _ in 0..random.within(1, 2) {
+        let at = random.below(told.len());
+        match random.below(4) {
+            0 | 1 => told[at].new = !told[at].new,
+            _ => told[at].description = some_description(random, &told[..at]),
+        }
+    }
+}
+
+/// Any description that a reader takes after these slots.
+fn some_description(random: &mut Random, before: &[Told]) -> Description {
+    let firsts: Vec<usize> = before.iter().filter(|told| told.description.width() == 2).map(|told| told.slot).collect();
+    let other = random.word() & 0x7FFF;
+    match random.below(6) {
+        0 => Description::Optional,
+        1 => Description::Advised,
+        2 | 3 if !firsts.is_empty() => Description::Repeat(random.pick(&firsts) as u8),
+        _ => Description::First(random.pick(&[0x0001, 0x0002, 0x7FFF, other])),
+    }
+}
+
+/// Any slots that a reader takes.
+fn some_telling(random: &mut Random, most: usize) -> Vec<Told> {
+    let end = random.within(1, most);
+    let often_new = random.within(1, 4);
+    let mut told: Vec<Told> = Vec::new();
+    for slot in 1..=end {
+        let description = some_description(random, &told);
+        told.push(Told { slot, new: random.once_in(often_new), description });
+    }
+    told
+}
+
+/// The message of a telling: reserved octets for some 40s, now and then spare bits and other octets after the
+/// descriptions; and octets received that hold it.
+fn sent(random: &mut Random, begin: usize, told: &[Told]) -> Option<(Vec<u8>, u64)> {
+    let mut message = lay(begin, told)?.to_vec();
+    let mut at = DESCRIPTIONS;
+    for _ in told {
+        if message[at] == 0x40 && random.once_in(3) {
+            message[at] = random.within(0x42, 0x7F) as u8;
+        }
+        at += if message[at] >= 0x80 { 2 } else { 1 };
+    }
+    if random.once_in(4) {
+        let rest = random.octets(MESSAGE - at);
+        message[at..].copy_from_slice(&rest);
+    }
+    if random.once_in(4) {
+        message[1] |= random.pick(&[0x40, 0x80, 0xC0]);
+    }
+    let blocks = random.within(at.div_ceil(CONTENT), 4);
+    Some((message, (CONTENT * blocks) as u64))
+}
+
+/// A message that a reader takes, and octets received.
+fn some_message(random: &mut Random, most: usize) -> (Vec<u8>, u64) {
+    loop {
+        let told = some_telling(random, most);
+        let begin = random.within(1, told.len());
+        if let Some(sent) = sent(random, begin, &told) {
+            return sent;
+        }
+    }
+}
+
+/// A page as the text writer writes it, or with any content.
+fn some_written_page(random: &mut Random) -> Vec<u8> {
+    let mut page = random.octets(MESSAGE);
+    page[4] &= 0x0F;
+    match random.below(3) {
+        0 => {
+            let text = some_septets(random);
+            crate::text::pack(&text, &mut page[6..]);
+        }
+        1 => page[82..].fill(0x1A),
+        _ => {}
+    }
+    page
+}
+
+/// Septets with CRs at the end, and now and then inside.
+fn some_septets(random: &mut Random) -> Vec<u8> {
+    let crs = random.below(CHARACTERS + 1);
+    let one = |at: usize, random: &mut Random| {
+        if at + crs >= CHARACTERS || random.once_in(8) {
+            0x0D
+        } else {
+            random.octet() & 0x7F
+        }
+    };
+    (0..CHARACTERS).map(|at| one(at, random)).collect()
+}
+
+/// A text that the writer takes.
+fn some_text(random: &mut Random) -> Vec<u16> {
+    let length = random.below(CHARACTERS + 1);
+    let mut text: Vec<u16> = (0..length).map(|_| ALPHABET[random.below(128)]).collect();
+    while text.last() == Some(&0x0D) {
+        text.pop();
+    }
+    text
+}
+
+fn some_parameter(random: &mut Random) -> u64 {
+    let total = random.within(1, 15);
+    let page = random.within(1, total);
+    (page << 4 | total) as u64
+}
+
+/// A state that is proper, with more octets behind its 90. // 01 Intake
+pub fn some_state(random: &mut Random) -> Vec<u8> {
+    let mut state = vec![FILL; STATE];
+    let kind = random.below(3) as u8;
+    let taken = if kind == 0 { 0 } else { random.within(1, 3) };
+    let content = random.octets(CONTENT * taken);
+    state[0] = kind;
+    state[1] = taken as u8;
+    state[2..2 + content.len()].copy_from_slice(&content);
+    state.resize(CARRIED, LENT);
+    state
+}
+
+/// A block with this code.
+pub fn some_block(random: &mut Random, code: u8, last: bool) -> Vec<u8> {
+    let spare = if random.once_in(4) { 0x80 } else { 0 };
+    let mut block = vec![spare | 0x20 | if last { 0x10 } else { 0 } | code];
+    block.extend(random.octets(CONTENT));
+    block
+}
+
+/// A block that a state takes, by the blocks taken so far.
+fn some_next(random: &mut Random, taken: u8) -> Vec<u8> {
+    let first = random.pick(&[0, 8]);
+    let code = if taken == 0 || random.once_in(8) { first } else { taken };
+    let last = random.once_in(5);
+    some_block(random, code, last)
+}
+
+/// One intake call that isn't refused.
+fn single_intake(random: &mut Random) -> Case {
+    let state = some_state(random);
+    let piece = some_next(random, state[1]);
+    let numbers = [1, STATE as u64, MESSAGE as u64];
+    Case::new(Entry::Intake, &numbers, &[&state, &[LENT; CARRIED], &piece], &[])
+}
+
+/// A sequence of calls: from a start, from a proper state or from anything, with faults in some pieces.
+pub fn sequence(random: &mut Random) -> Case {
+    let mut state = random.octets(CARRIED);
+    let mut case = Case::new(Entry::Intake, &[], &[&[], &[LENT; CARRIED]], &[]);
+    match random.below(8) {
+        0 => {}
+        1 => state = some_state(random),
+        2 => {
+            state = some_state(random);
+            put_improper(&mut state, random);
+        }
+        _ => push_call(&mut case, &[0, STATE as u64, MESSAGE as u64], vec![]),
+    }
+    let mut taken = if state[1] < 4 { state[1] } else { 0 };
+    case.lists[0] = state;
+    let (calls, calm) = (random.within(1, 12), random.within(2, 12));
+    for _ in 0..calls {
+        let (numbers, piece) = one_call(random, taken, calm);
+        taken = match piece.first() {
+            Some(octet) if octet & 0x10 != 0 => 0,
+            Some(octet) if octet & 0x07 < 3 => (octet & 0x07) + 1,
+            _ => 0,
+        };
+        push_call(&mut case, &numbers, piece);
+    }
+    case
+}
+
+fn push_call(case: &mut Case, numbers: &[u64; 3], piece: Vec<u8>) {
+    case.numbers.extend(numbers);
+    case.lists.push(piece);
+}
+
+/// The call that carries the sequence on, or once in `calm` another.
+fn one_call(random: &mut Random, taken: u8, calm: usize) -> ([u64; 3], Vec<u8>) {
+    let numbers = [1, STATE as u64, MESSAGE as u64];
+    if !random.once_in(calm) {
+        return (numbers, some_next(random, taken));
+    }
+    let state = [vec![1, taken], vec![FILL; CARRIED]].concat();
+    let piece = some_next(random, taken);
+    let mut call = Case::new(Entry::Intake, &numbers, &[&state, &[], &piece], &[]);
+    if random.once_in(8) {
+        call.numbers[0] = 0;
+    }
+    let all = faults(Entry::Intake);
+    put_one(&mut call, random.pick(&all).1, random);
+    ([call.numbers[0], call.numbers[1], call.numbers[2]], call.lists.remove(2))
+}
+
+/// A case that its entry doesn't refuse; its plans and schedules have `most` slots at most.
+pub fn sound(entry: Entry, random: &mut Random, most: usize) -> Case {
+    let received = random.pick(&[22, 44, 66, 88]);
+    match entry {
+        Entry::Start => Case::new(entry, &[], &[&random.octets(STATE)], &[]),
+        Entry::Intake => single_intake(random),
+        Entry::WriteBlocks => {
+            let numbers = [random.below(2) as u64, random.within(1, MESSAGE) as u64, 4 * BLOCK as u64];
+            Case::new(entry, &numbers, &[&random.octets(MESSAGE)], &[])
+        }
+        Entry::WriteText => {
+            let (serial, identifier, scheme) = (random.word() as u64, random.word() as u64, random.below(16) as u64);
+            let numbers = [serial, identifier, scheme, some_parameter(random), MESSAGE as u64];
+            Case::new(entry, &numbers, &[], &some_text(random))
+        }
+        Entry::ReadText => Case::new(entry, &[received, CHARACTERS as u64], &[&some_written_page(random)], &[]),
+        Entry::Content => Case::new(entry, &[received], &[&random.octets(MESSAGE)], &[]),
+        Entry::ReadSchedule => {
+            let (message, received) = some_message(random, most);
+            Case::new(entry, &[received], &[&message], &[])
+        }
+        Entry::Description => sound_description(random, most),
+        Entry::ReadPlan => Case::new(entry, &[], &[&some_plan(random, 0, most).file()], &[]),
+        Entry::WriteSchedule => sound_writing(random, most),
+        Entry::CheckSchedule => checked(random, most, false),
+        Entry::Decide => sound_decision(random, most),
+    }
+}
+
+fn sound_description(random: &mut Random, most: usize) -> Case {
+    let (message, received) = some_message(random, most);
+    let far = random.next();
+    let place = random.pick(&[0, 0, 1, 7, 40, 47, 48, 256, 1 << 32, far]);
+    let places = random.within(1, most + 2) as u64;
+    Case::new(Entry::Description, &[received, place, places], &[&message], &[])
+}
+
+fn sound_writing(random: &mut Random, most: usize) -> Case {
+    let current = some_plan(random, 1, most);
+    let previous = some_previous(random, &current, most);
+    let begin = random.within(1, current.count()) as u64;
+    Case::new(Entry::WriteSchedule, &[begin, MESSAGE as u64], &[&current.file(), &previous.file()], &[])
+}
+
+/// A truthful message beside its plans, or one that lies at a slot or two.
+fn checked(random: &mut Random, most: usize, lies: bool) -> Case {
+    loop {
+        let current = some_plan(random, 1, most);
+        let previous = some_previous(random, &current, most);
+        let mut told = some_truth(random, &current, &previous);
+        if lies {
+            lie(random, &mut told);
+        }
+        let begin = random.within(1, told.len());
+        if let Some((message, received)) = sent(random, begin, &told) {
+            let lists: [&[u8]; 3] = [&current.file(), &previous.file(), &message];
+            return Case::new(Entry::CheckSchedule, &[received], &lists, &[]);
+        }
+    }
+}
+
+fn sound_decision(random: &mut Random, most: usize) -> Case {
+    let (message, received) = some_message(random, most);
+    let known = !random.once_in(8) as u64;
+    let slot = random.within(1, (most + 1).min(SLOTS)) as u64;
+    let held = random.pick(&[0, u64::MAX, 0xFFFF_0000_0000_0000]) ^ random.pick(&[0, 1, 2, 3]) ^ random.next() >> 16;
+    let wanted: Vec<u16> = (0..random.pick(&[0, 1, 2, 3, 63, 64])).map(|_| some_wanted(random, &message)).collect();
+    let wanted = if most < SLOTS { wanted[..wanted.len().min(3)].to_vec() } else { wanted };
+    let mut case = Case::new(Entry::Decide, &[known, received, slot, held], &[&message], &wanted);
+    if random.once_in(8) {
+        let refused = random.pick(&reader_faults(0, 1)).1;
+        put_one(&mut case, refused, random);
+    }
+    case
+}
+
+/// An identifier that stands somewhere in a message, with bit 16 either way, or a frequent one, or any.
+fn some_wanted(random: &mut Random, message: &[u8]) -> u16 {
+    let at = DESCRIPTIONS + random.below(12);
+    let there = u16::from_be_bytes([message[at], message[at + 1]]);
+    let any = random.word();
+    random.pick(&[there, there & 0x7FFF, 0x0001, 0x8001, 0x0002, any])
+}
+
+/// A case that isn't refused but is close to an edge, where the entry has such.
+fn near(entry: Entry, random: &mut Random, most: usize) -> Case {
+    match entry {
+        Entry::CheckSchedule => checked(random, most, true),
+        _ => sound(entry, random, most),
+    }
+}
+
+/// Any case: sound, near an edge, with one fault or several, damaged, or wild.
+pub fn any(entry: Entry, random: &mut Random, most: usize) -> Case {
+    if entry == Entry::Intake && !random.once_in(4) {
+        return sequence(random);
+    }
+    let mut case = near(entry, random, most);
+    match random.below(16) {
+        0..=7 => {}
+        8..=10 => put(&mut case, &some_faults(entry, random, 1), random),
+        11 | 12 => put(&mut case, &some_faults(entry, random, 3), random),
+        13 | 14 => damage(&mut case, random),
+        _ => wild(&mut case, random),
+    }
+    clip(&mut case);
+    case
+}
+
+/// A few of an entry's faults, in their order.
+fn some_faults(entry: Entry, random: &mut Random, most: usize) -> Vec<Fault> {
+    let all = faults(entry);
+    let count = random.within(1, most);
+    let mut at: Vec<usize> = (0..count).map(|_| random.below(all.len())).collect();
+    at.sort_unstable();
+    at.dedup();
+    at.into_iter().map(|at| all[at].1).collect()
+}
+
+/// Changes a few octets, lengths, 16-bit numbers and numbers.
+fn damage(case: &mut Case, random: &mut Random) {
+    for _ in 0..random.within(1, 4) {
+        let lists = case.lists.len();
+        match random.below(8) {
+            0 if !case.numbers.is_empty() => {
+                let at = random.below(case.numbers.len());
+                case.numbers[at] = edge(random, case.numbers[at]);
+            }
+            1 if !case.words.is_empty() => {
+                let at = random.below(case.words.len());
+                let any = random.word();
+                case.words[at] = random.pick(&[any, case.words[at] ^ 0x8000, 0x0D, 0x1B]);
+            }
+            _ if lists > 0 => damage_list(&mut case.lists[random.below(lists)], random),
+            _ => {}
+        }
+    }
+}
+
+fn damage_list(list: &mut Vec<u8>, random: &mut Random) {
+    if list.is_empty() {
+        list.push(random.octet());
+        return;
+    }
+    let at = if random.once_in(2) { random.below(list.len().min(12)) } else { random.below(list.len()) };
+    match random.below(8) {
+        0 => list.truncate(at),
+        1 => list.insert(at, random.octet()),
+        2 => {
+            list.remove(at);
+        }
+        3 | 4 => list[at] ^= 1 << random.below(8),
+        5 => list[at] = random.pick(&[0x00, 0x01, 0x2B, 0x3F, 0x40, 0x41, 0x42, 0x7F, 0x80, 0xFF]),
+        _ => list[at] = random.octet(),
+    }
+}
+
+/// A number at some edge, or beside the one there was.
+fn edge(random: &mut Random, number: u64) -> u64 {
+    let any = random.next();
+    let near = number.wrapping_add(random.pick(&[1, u64::MAX, 22, 256, 1 << 32]));
+    random.pick(&[0, 1, 22, 44, 48, 66, 88, 92, 93, near, near, near, near, any])
+}
+
+const LONG: usize = 65536 + 88; // as long as a message in its two low octets
+
+/// Octets and numbers without sense.
+fn wild(case: &mut Case, random: &mut Random) {
+    for list in &mut case.lists {
+        let length = random.pick(&[0, 1, 6, 12, 23, 88, 88, 88, 90, 100, 256 + 88, LONG]);
+        *list = random.octets(length);
+    }
+    for number in &mut case.numbers {
+        *number = edge(random, *number);
+    }
+    let few = random.below(100);
+    let words = random.pick(&[few, few, few, 256 + 64, 65536 + 64]);
+    if !case.words.is_empty() {
+        case.words = (0..words).map(|_| random.word() & 0x3FF).collect();
+    }
+}
+
+/// Keeps numbers within the widths that C gives them, and lengths within reason.
+pub fn clip(case: &mut Case) {
+    let widths: &[u64] = match case.entry {
+        Entry::Intake => &[1, 511, 511],
+        Entry::WriteBlocks => &[1, u64::MAX, 511],
+        Entry::WriteText => &[0xFFFF, 0xFFFF, 0xFF, 0xFF, 511],
+        Entry::ReadText => &[u64::MAX, 511],
+        Entry::Description => &[u64::MAX, u64::MAX, 63],
+        Entry::WriteSchedule => &[u64::MAX, 511],
+        Entry::Decide => &[1, u64::MAX, u64::MAX, u64::MAX],
+        _ => &[],
+    };
+    for (number, &most) in case.numbers.iter_mut().zip(widths.iter().cycle()) {
+        if *number > most {
+            *number %= most.wrapping_add(1).max(1);
+        }
+    }
+}

@@ -1,0 +1,19 @@
+//! A second implementation of the base of document 01, written from the documents alone.
+
+pub mod blocks;
+pub mod case;
+pub mod checker;
+pub mod compare;
+pub mod decision;
+pub mod edges;
+pub mod intake;
+pub mod invent;
+pub mod plan;
+pub mod random;
+pub mod refusal;
+pub mod schedule;
+pub mod sender;
+pub mod shrink;
+pub mod side;
+pub mod stored;
+pub mod text;

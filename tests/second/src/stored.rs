@@ -1,0 +1,285 @@
+//! The stored results: cases with all that they give, as lines of text, the same on every run.
+
+use std::path::Path;
+use std::{fs, io};
+
+use crate::blocks::MESSAGE;
+use crate::case::{hex, hex_words, Case, Entry};
+use crate::edges;
+use crate::invent::{any, faults, put, sequence, sound, Fault};
+use crate::random::Random;
+use crate::schedule::read_schedule;
+use crate::side::{header, output_length, Ours, Side, LENT, LENT_WORD};
+use crate::text::content;
+
+const SEED: u64 = 0x0C50_B7A4_1700_0001;
+const SLOTS_MOST: usize = 6; // slots of most plans and schedules, to keep the files small
+const LONG: usize = 400; // longer lists are left to the comparison
+
+/// Writes one file per subject and says how many cases and octets each has.
+pub fn write(folder: &Path) -> io::Result<String> {
+    fs::create_dir_all(folder)?;
+    let mut report = String::new();
+    for (name, lines) in files() {
+        let text: String = lines.iter().map(|line| format!("{line}\n")).collect();
+        report += &format!("{name} {} cases {} octets\n", lines.len(), text.len());
+        fs::write(folder.join(name), text)?;
+    }
+    Ok(report.trim_end().to_string())
+}
+
+/// The files and their lines.
+pub fn files() -> Vec<(&'static str, Vec<String>)> {
+    let lines = lines_of;
+    vec![
+        ("blocks.txt", lines(Entry::WriteBlocks, 40)),
+        ("intake.txt", [lines(Entry::Start, 6), lines(Entry::Intake, 60), sequences(80)].concat()),
+        ("text.txt", [lines(Entry::WriteText, 100), lines(Entry::ReadText, 100)].concat()),
+        ("content.txt", lines(Entry::Content, 30)),
+        ("schedule.txt", [lines(Entry::ReadSchedule, 200), lines(Entry::Description, 60)].concat()),
+        ("plan.txt", lines(Entry::ReadPlan, 120)),
+        ("writer.txt", lines(Entry::WriteSchedule, 120)),
+        ("checker.txt", lines(Entry::CheckSchedule, 200)),
+        ("decision.txt", lines(Entry::Decide, 120)),
+    ]
+}
+
+/// The edges of an entry, each of its faults, each pair of them, and as many random cases.
+fn lines_of(entry: Entry, random_cases: usize) -> Vec<String> {
+    let mut random = Random::new(SEED ^ entry as u64);
+    let mut cases = edges::cases(entry);
+    for faults in fault_sets(entry) {
+        let mut case = sound(entry, &mut random, SLOTS_MOST);
+        put(&mut case, &faults, &mut random);
+        cases.push(case);
+    }
+    for round in 0..random_cases {
+        let most = if round % 10 == 0 { 48 } else { SLOTS_MOST };
+        cases.push(any_call(entry, &mut random, most));
+    }
+    cases.iter().map(line).collect()
+}
+
+/// Each fault three times, and each pair of faults once, in the order of refusals.
+pub fn fault_sets(entry: Entry) -> Vec<Vec<Fault>> {
+    let all: Vec<Fault> = faults(entry).into_iter().map(|(_, fault)| fault).collect();
+    let mut sets = Vec::new();
+    for (at, &fault) in all.iter().enumerate() {
+        sets.extend(vec![vec![fault]; 3]);
+        sets.extend(all[at + 1..].iter().map(|&later| vec![fault, later]));
+    }
+    sets
+}
+
+/// Any case that is one call and no longer than a line should be; sequences of intake have lines of their own.
+fn any_call(entry: Entry, random: &mut Random, most: usize) -> Case {
+    loop {
+        let mut case = any(entry, random, most);
+        if entry == Entry::Description {
+            case.numbers[2] = 1;
+        }
+        let single = entry != Entry::Intake || case.numbers.len() == 3 && case.numbers[0] == 1;
+        if single && case.words.len() < LONG && case.lists.iter().all(|list| list.len() < LONG) {
+            return case;
+        }
+    }
+}
+
+/// Sequences of intake calls, each from a start.
+fn sequences(count: usize) -> Vec<String> {
+    let mut random = Random::new(SEED);
+    (0..count).map(|_| sequence_line(&sequence(&mut random))).collect()
+}
+
+/// The pieces of a sequence as taken from a start: for each, the number, the octets received and the output, and
+/// at the end the state.
+fn sequence_line(case: &Case) -> String {
+    let mut state = [0; 90];
+    Ours.start(&mut state);
+    let mut fields = vec!["Q".to_string()];
+    for piece in &case.lists[2..] {
+        let mut output = [LENT; MESSAGE];
+        let returned = Ours.intake(&mut state, &mut piece.clone(), &mut output);
+        fields.extend([octets(piece), low(returned), high(returned), left(&output)]);
+    }
+    fields.push(octets(&state));
+    fields.join(" ")
+}
+
+/// A case and what it gives as a line.
+pub fn line(case: &Case) -> String {
+    let (letter, fields) = match case.entry {
+        Entry::Start => ("N", start_fields(case)),
+        Entry::Intake => ("I", intake_fields(case)),
+        Entry::WriteBlocks => ("B", blocks_fields(case)),
+        Entry::WriteText => ("T", writing_fields(case)),
+        Entry::ReadText => ("R", reading_fields(case)),
+        Entry::Content => ("C", content_fields(case)),
+        Entry::ReadSchedule => ("S", schedule_fields(case)),
+        Entry::Description => ("G", description_fields(case)),
+        Entry::ReadPlan => ("P", plan_fields(case)),
+        Entry::WriteSchedule => ("W", writer_fields(case)),
+        Entry::CheckSchedule => ("K", checker_fields(case)),
+        Entry::Decide => ("D", decide_fields(case)),
+    };
+    format!("{letter} {}", fields.join(" "))
+}
+
+fn start_fields(case: &Case) -> Vec<String> {
+    let mut state = given(case, 0);
+    let returned = Ours.start(&mut state);
+    vec![list(case, 0), low(returned), after(&case.lists[0], &state)]
+}
+
+/// One intake call: its state is as long as what is lent of it.
+fn intake_fields(case: &Case) -> Vec<String> {
+    let before = &case.lists[0][..case.number(1).min(case.lists[0].len())];
+    let mut state = before.to_vec();
+    let mut output = vec![LENT; case.number(2)];
+    let returned = Ours.intake(&mut state, &mut given(case, 2), &mut output);
+    let taken = vec![octets(before), list(case, 2), number(case, 2)];
+    [taken, vec![low(returned), high(returned), after(before, &state), left(&output)]].concat()
+}
+
+fn blocks_fields(case: &Case) -> Vec<String> {
+    let mut out = lent(case);
+    let returned = Ours.write_blocks(&mut given(case, 0), case.numbers[0] != 0, case.number(1), &mut out);
+    vec![number(case, 0), number(case, 1), list(case, 0), number(case, 2), low(returned), left(&out)]
+}
+
+fn writing_fields(case: &Case) -> Vec<String> {
+    let mut out = lent(case);
+    let returned = Ours.write_text(header(case), &mut case.words.clone(), &mut out);
+    let mut fields: Vec<String> = (0..4).map(|at| number(case, at)).collect();
+    fields.extend([words(&case.words), number(case, 4), low(returned), high(returned), left(&out)]);
+    fields
+}
+
+fn reading_fields(case: &Case) -> Vec<String> {
+    let mut text = vec![LENT_WORD; case.number(1)];
+    let returned = Ours.read_text(&mut given(case, 0), case.number(0), &mut text);
+    vec![list(case, 0), number(case, 0), number(case, 1), low(returned), high(returned), left_words(&text)]
+}
+
+fn content_fields(case: &Case) -> Vec<String> {
+    let returned = Ours.content(&mut given(case, 0), case.number(0));
+    let part = content(&case.lists[0], case.number(0)).unwrap_or(&[]);
+    vec![list(case, 0), number(case, 0), low(returned), octets(part)]
+}
+
+/// Begin, End and each description in the message's order.
+fn schedule_fields(case: &Case) -> Vec<String> {
+    let mut values: Vec<u64> = Vec::new();
+    match read_schedule(&case.lists[0], case.number(0)) {
+        Err(refusal) => values.extend([refusal.number() as u64, 0, 0]),
+        Ok(schedule) => {
+            values.extend([0, schedule.begin as u64, schedule.end as u64]);
+            for told in schedule.told {
+                values.extend([told.slot as u64, told.new as u64, told.description.code() as u64]);
+            }
+        }
+    }
+    let values = values.iter().map(|value| format!("{value:x}")).collect();
+    [vec![list(case, 0), number(case, 0)], values].concat()
+}
+
+fn description_fields(case: &Case) -> Vec<String> {
+    let returned = Ours.description(&mut given(case, 0), case.number(0), case.number(1));
+    let (slot, new, code) = (returned >> 8 & 0xFF, returned >> 16 & 1, returned >> 32);
+    let told = [slot, new, code].map(|value| format!("{value:x}"));
+    [vec![list(case, 0), number(case, 0), number(case, 1), low(returned)], told.to_vec()].concat()
+}
+
+fn plan_fields(case: &Case) -> Vec<String> {
+    let returned = Ours.read_plan(&mut given(case, 0));
+    vec![list(case, 0), low(returned), high(returned)]
+}
+
+fn writer_fields(case: &Case) -> Vec<String> {
+    let mut out = lent(case);
+    let returned = Ours.write_schedule(&mut given(case, 0), &mut given(case, 1), case.number(0), &mut out);
+    let plans = vec![list(case, 0), list(case, 1)];
+    [plans, vec![number(case, 0), number(case, 1), low(returned), high(returned), left(&out)]].concat()
+}
+
+fn checker_fields(case: &Case) -> Vec<String> {
+    let (mut current, mut previous, mut message) = (given(case, 0), given(case, 1), given(case, 2));
+    let returned = Ours.check_schedule(&mut current, &mut previous, &mut message, case.number(0));
+    let lists = vec![list(case, 0), list(case, 1), list(case, 2)];
+    [lists, vec![number(case, 0), low(returned), high(returned)]].concat()
+}
+
+fn decide_fields(case: &Case) -> Vec<String> {
+    let (known, received, slot, held) = (case.numbers[0] != 0, case.number(1), case.number(2), case.numbers[3]);
+    let returned = Ours.decide(known, &mut given(case, 0), received, slot, &mut case.words.clone(), held);
+    let schedule = vec![number(case, 0), list(case, 0), number(case, 1)];
+    let rest = vec![number(case, 2), words(&case.words), number(case, 3), low(returned), high(returned)];
+    [schedule, rest].concat()
+}
+
+/// A number of a case as a field.
+fn number(case: &Case, at: usize) -> String {
+    format!("{:x}", case.numbers[at])
+}
+
+/// A list of a case as a field.
+fn list(case: &Case, at: usize) -> String {
+    octets(&case.lists[at])
+}
+
+/// The number of what an entry returned.
+fn low(returned: u64) -> String {
+    format!("{:x}", returned & 0xFF)
+}
+
+/// The value beside the number.
+fn high(returned: u64) -> String {
+    format!("{:x}", returned >> 8)
+}
+
+fn given(case: &Case, list: usize) -> Vec<u8> {
+    case.lists[list].clone()
+}
+
+fn lent(case: &Case) -> Vec<u8> {
+    vec![LENT; output_length(case)]
+}
+
+/// A list of octets as a field; an empty one is a hyphen.
+fn octets(list: &[u8]) -> String {
+    if list.is_empty() {
+        "-".into()
+    } else {
+        hex(list)
+    }
+}
+
+fn words(list: &[u16]) -> String {
+    if list.is_empty() {
+        "-".into()
+    } else {
+        hex_words(list)
+    }
+}
+
+/// Memory after a call; `=` where it is as it was.
+fn after(before: &[u8], after: &[u8]) -> String {
+    if before == after {
+        "=".into()
+    } else {
+        octets(after)
+    }
+}
+
+/// Output after a call; `=` where it is as it was lent.
+fn left(out: &[u8]) -> String {
+    after(&vec![LENT; out.len()], out)
+}
+
+fn left_words(text: &[u16]) -> String {
+    if text.iter().all(|&point| point == LENT_WORD) {
+        "=".into()
+    } else {
+        words(text)
+    }
+}

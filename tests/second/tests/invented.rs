@@ -1,0 +1,172 @@
+//! The invented cases: faults are refused in their order, stored results cover every number, and the comparison
+//! finds a wrong side and makes its case small.
+
+use std::collections::BTreeSet;
+use std::time::Duration;
+
+use second::case::{Case, Entry, ENTRIES};
+use second::compare::{compare, differ};
+use second::invent::{faults, put, sound};
+use second::random::Random;
+use second::shrink::shrink;
+use second::side::{run, Ours, Side};
+use second::stored::files;
+use second::text::Header;
+
+fn number(case: &Case) -> u8 {
+    run(case, &Ours).returned[0] as u8
+}
+
+#[test]
+fn sound_cases_are_not_refused() {
+    let mut random = Random::new(1);
+    for entry in ENTRIES {
+        for _ in 0..500 {
+            let case = sound(entry, &mut random, 48);
+            let given = number(&case);
+            let fine = match entry {
+                Entry::Intake => [0, 1, 7].contains(&given),
+                Entry::WriteSchedule => [0, 34].contains(&given),
+                _ => given == 0,
+            };
+            assert!(fine, "{given}: {}", case.text());
+        }
+    }
+}
+
+#[test]
+fn the_first_fault_refuses() {
+    let mut random = Random::new(2);
+    for entry in ENTRIES {
+        let all = faults(entry);
+        for (at, &(expected, first)) in all.iter().enumerate() {
+            let pairs = all[at + 1..].iter().map(|&(_, later)| vec![first, later]);
+            for set in pairs.chain([vec![first]]) {
+                for _ in 0..20 {
+                    let mut case = sound(entry, &mut random, 6);
+                    put(&mut case, &set, &mut random);
+                    assert_eq!(number(&case), expected, "{set:?}: {}", case.text());
+                }
+            }
+        }
+    }
+}
+
+#[test]
+fn stored_results_cover_every_number() {
+    let files = files();
+    let numbers = |letter: &str, at: usize| -> BTreeSet<u8> {
+        let lines = files.iter().flat_map(|(_, lines)| lines).filter(|line| line.starts_with(letter));
+        lines.map(|line| u8::from_str_radix(line.split(' ').nth(at).unwrap(), 16).unwrap()).collect()
+    };
+    let plan = [0, 30, 31, 32, 33];
+    let reader = [0, 16, 18, 20, 21, 22, 23, 24];
+    assert_eq!(numbers("B ", 5), BTreeSet::from([0, 15, 16, 17]));
+    assert_eq!(numbers("N ", 2), BTreeSet::from([0, 8]));
+    assert_eq!(numbers("I ", 4), BTreeSet::from([0, 1, 2, 3, 4, 5, 6, 7, 8, 15]));
+    assert_eq!(numbers("T ", 7), BTreeSet::from([0, 10, 11, 12, 13, 14, 15]));
+    assert_eq!(numbers("R ", 4), BTreeSet::from([0, 13, 15, 16, 18]));
+    assert_eq!(numbers("C ", 3), BTreeSet::from([0, 16, 18]));
+    assert_eq!(numbers("S ", 3), BTreeSet::from(reader));
+    assert_eq!(numbers("G ", 4), BTreeSet::from(reader));
+    assert_eq!(numbers("P ", 2), BTreeSet::from(plan));
+    assert_eq!(numbers("W ", 5), plan.into_iter().chain([15, 21, 34, 35]).collect());
+    assert_eq!(numbers("K ", 5), plan.into_iter().chain(reader).chain([35, 40]).collect());
+    assert_eq!(numbers("D ", 7), BTreeSet::from([0, 41, 42]));
+}
+
+#[test]
+fn stored_results_are_the_same_each_time_and_small() {
+    let (one, other) = (files(), files());
+    assert_eq!(one, other);
+    let octets: usize = one.iter().flat_map(|(_, lines)| lines).map(|line| line.len() + 1).sum();
+    assert!(octets < 1_000_000, "{octets}");
+}
+
+#[test]
+fn a_case_is_read_back_from_its_text() {
+    let mut random = Random::new(3);
+    for entry in ENTRIES {
+        let case = sound(entry, &mut random, 48);
+        assert_eq!(Case::parse(&case.text()), Some(case));
+    }
+    assert_eq!(Case::parse("cb_content n:16 w:"), None);
+}
+
+/// This implementation, but for a decision that compares 16 bits and a writer that touches its guard.
+struct Wrong;
+
+impl Side for Wrong {
+    fn start(&self, state: &mut [u8]) -> u64 {
+        Ours.start(state)
+    }
+    fn intake(&self, state: &mut [u8], piece: &mut [u8], output: &mut [u8]) -> u64 {
+        Ours.intake(state, piece, output)
+    }
+    fn write_blocks(&self, message: &mut [u8], schedule: bool, used: usize, out: &mut [u8]) -> u64 {
+        Ours.write_blocks(message, schedule, used, out)
+    }
+    fn write_text(&self, header: Header, text: &mut [u16], page: &mut [u8]) -> u64 {
+        Ours.write_text(header, text, page)
+    }
+    fn read_text(&self, page: &mut [u8], received: usize, text: &mut [u16]) -> u64 {
+        let returned = Ours.read_text(page, received, text);
+        if returned == 13 {
+            text[92] = 0;
+        }
+        returned
+    }
+    fn content(&self, page: &mut [u8], received: usize) -> u64 {
+        Ours.content(page, received)
+    }
+    fn read_schedule(&self, message: &mut [u8], received: usize) -> u64 {
+        Ours.read_schedule(message, received)
+    }
+    fn description(&self, message: &mut [u8], received: usize, place: usize) -> u64 {
+        Ours.description(message, received, place)
+    }
+    fn read_plan(&self, file: &mut [u8]) -> u64 {
+        Ours.read_plan(file)
+    }
+    fn write_schedule(&self, current: &mut [u8], previous: &mut [u8], begin: usize, out: &mut [u8]) -> u64 {
+        Ours.write_schedule(current, previous, begin, out)
+    }
+    fn check_schedule(&self, current: &mut [u8], previous: &mut [u8], message: &mut [u8], received: usize) -> u64 {
+        Ours.check_schedule(current, previous, message, received)
+    }
+    fn decide(
+        &self,
+        known: bool,
+        message: &mut [u8],
+        received: usize,
+        slot: usize,
+        wanted: &mut [u16],
+        held: u64,
+    ) -> u64 {
+        let mut high: Vec<u16> = wanted.iter().copied().filter(|identifier| identifier >> 15 == 0).collect();
+        Ours.decide(known, message, received, slot, if wanted.len() > 64 { wanted } else { &mut high }, held)
+    }
+}
+
+#[test]
+fn a_wrong_decision_is_found_and_made_small() {
+    let compared = compare(&[Entry::Decide], 4, Duration::from_secs(20), &Ours, &Wrong);
+    let case = compared.difference.expect("a difference");
+    assert!(differ(&case, &Ours, &Wrong));
+    assert_eq!(case.words.len(), 1);
+    assert_eq!(case.numbers[2], 1);
+}
+
+#[test]
+fn memory_touched_on_a_refusal_is_found() {
+    let compared = compare(&[Entry::ReadText], 5, Duration::from_secs(20), &Ours, &Wrong);
+    let case = compared.difference.expect("a difference");
+    assert_eq!(number(&case), 13);
+}
+
+#[test]
+fn shrinking_ends_where_nothing_smaller_stays() {
+    let case = Case::new(Entry::ReadPlan, &[], &[&[7; 100]], &[]);
+    let least = shrink(&case, |case| case.lists[0].len() > 40);
+    assert_eq!(least.lists[0], vec![0; 41]);
+}

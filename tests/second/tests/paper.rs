@@ -1,0 +1,163 @@
+//! Document 01's edges: every case marked P, and the listing example.
+
+use second::blocks::{write_blocks, Kind, FILL};
+use second::case::{hex, octets};
+use second::checker::{check_schedule, Finding};
+use second::decision::decide;
+use second::edges::pages_in;
+use second::intake::STATE;
+use second::plan::{read_plan, Entry, Page, Plan};
+use second::refusal::Refusal;
+use second::schedule::read_schedule;
+use second::sender::write_schedule;
+use second::side::{Ours, Side};
+use second::text::{read_text, septet, write_text, Header, ALPHABET, CHARACTERS};
+
+const HEADER: Header = Header { serial: 0x0010, identifier: 0x8001, scheme: 0, parameter: 0x11 };
+
+fn types(kind: Kind, used: usize) -> Vec<u8> {
+    let mut out = [0; 92];
+    write_blocks(&[0; 88], kind, used, &mut out).unwrap();
+    out.chunks(23).map(|block| block[0]).collect()
+}
+
+fn page(text: &[u16]) -> (usize, [u8; 88]) {
+    let mut page = [0; 88];
+    let used = write_text(HEADER, text, &mut page).unwrap();
+    (used, page)
+}
+
+fn two_slots() -> Plan {
+    Plan { entries: vec![Entry::Page(Page { serial: 0x0010, identifier: 0x8001, parameter: 0x11 }); 2] }
+}
+
+fn message_of(current: &Plan, previous: &Plan, begin: usize) -> Result<(usize, [u8; 88]), Refusal> {
+    let mut out = [0; 88];
+    let used = write_schedule(Ok(current.clone()), Ok(previous.clone()), begin, &mut out)?;
+    Ok((used, out))
+}
+
+fn filled(digits: &str) -> Vec<u8> {
+    let mut message = octets(digits).unwrap();
+    message.resize(88, FILL);
+    message
+}
+
+#[test]
+fn types_of_blocks() {
+    assert_eq!(types(Kind::Page, 22), [0x30, 0x31, 0x32, 0x33]);
+    assert_eq!(types(Kind::Page, 23), [0x20, 0x31, 0x32, 0x33]);
+    assert_eq!(types(Kind::Page, 88), [0x20, 0x21, 0x22, 0x33]);
+    assert_eq!(types(Kind::Schedule, 44), [0x28, 0x31, 0x32, 0x33]);
+}
+
+#[test]
+fn used_octets_of_text() {
+    for (characters, content) in [(18, 16), (19, 17), (93, 82)] {
+        assert_eq!(page(&vec![0x41; characters]).0, 6 + content);
+    }
+}
+
+#[test]
+fn padding_of_text() {
+    let (used, empty) = page(&[]);
+    assert_eq!((used, hex(&empty[6..9]), empty[87]), (6, "8d46a3".into(), 0));
+    let (_, a) = page(&[0x41]);
+    assert_eq!((hex(&a[6..8]), a[87]), ("c146".into(), 0));
+}
+
+#[test]
+fn two_slots_written() {
+    let (used, message) = message_of(&two_slots(), &Plan::default(), 1).unwrap();
+    assert_eq!((used, message.to_vec()), (11, filled("0102c00000000000800101")));
+    let (_, again) = message_of(&two_slots(), &two_slots(), 1).unwrap();
+    assert_eq!(again.to_vec(), filled("0102000000000000800101"));
+}
+
+#[test]
+fn plans_that_fit() {
+    let none = Plan::default();
+    assert_eq!(message_of(&pages_in(32, 48), &none, 1).unwrap().0, 88);
+    assert_eq!(message_of(&pages_in(33, 48), &none, 1), Err(Refusal::DescriptionsTooLong));
+    assert_eq!(message_of(&pages_in(40, 40), &none, 1).unwrap().0, 88);
+    assert_eq!(message_of(&pages_in(41, 41), &none, 1), Err(Refusal::DescriptionsTooLong));
+}
+
+#[test]
+fn header_of_a_schedule() {
+    let read = |digits: &str| read_schedule(&filled(digits), 88);
+    assert_eq!(read("01c20000000000004040").unwrap().end, 2);
+    assert_eq!(read("013100000000000040").map(|_| ()), Err(Refusal::BeginEnd));
+    assert_eq!(read("410100000000000040").map(|_| ()), Err(Refusal::ScheduleType));
+    assert_eq!(read("010100000000000001").map(|_| ()), Err(Refusal::FalseRepeat));
+}
+
+#[test]
+fn fifteen_bits_are_wanted() {
+    let (_, message) = message_of(&two_slots(), &Plan::default(), 1).unwrap();
+    let schedule = read_schedule(&message, 22).ok();
+    assert_eq!(decide(schedule.clone(), 1, &[0x0001], 0), Ok(true));
+    assert_eq!(decide(schedule.clone(), 2, &[0x0001], 0), Ok(true));
+    assert_eq!(decide(schedule.clone(), 2, &[0x0001], 1), Ok(false));
+    assert_eq!(decide(schedule, 1, &[0x0002], 0), Ok(false));
+}
+
+/// What is listed of a log: block number, answer, octets received.
+fn listed(log: &[u8]) -> String {
+    let mut state = [0; STATE];
+    Ours.start(&mut state);
+    let mut lines = "block answer octets\n".to_string();
+    for (at, piece) in log.chunks(23).enumerate() {
+        let returned = Ours.intake(&mut state, &mut piece.to_vec(), &mut [0; 88]);
+        lines += &format!("{} {} {}\n", at + 1, returned & 0xFF, returned >> 8);
+    }
+    lines
+}
+
+#[test]
+fn listing_example() {
+    let block = |kind: u8| [vec![kind], vec![0; 22]].concat();
+    let log = [0x21, 0x20, 0x31, 0x2F, 0x24, 0x68].map(block).concat();
+    assert_eq!(listed(&log), "block answer octets\n1 6 0\n2 1 0\n3 0 44\n4 5 0\n5 4 0\n6 3 0\n");
+    assert_eq!(listed(&[]), "block answer octets\n");
+    assert_eq!(listed(&[0x20; 24]), "block answer octets\n1 1 0\n2 2 0\n");
+}
+
+#[test]
+fn the_alphabet_is_undone() {
+    for at in (0..128).filter(|&at| at != 0x1B) {
+        assert_eq!(septet(ALPHABET[at]), Some(at as u8));
+    }
+    assert_eq!((ALPHABET[0x09], ALPHABET[0x1B]), (0x00C7, 0x0020));
+    assert_eq!((0..=0xFFFF).filter(|&point| septet(point).is_some()).count(), 127);
+}
+
+#[test]
+fn text_comes_back() {
+    for length in 0..=CHARACTERS {
+        let points: Vec<u16> = (0..length).map(|at| ALPHABET[(at * 7 + length) % 128]).collect();
+        let Ok(used) = write_text(HEADER, &points, &mut [0; 88]) else {
+            continue;
+        };
+        let (_, page) = page(&points);
+        for received in [22 * used.div_ceil(22), 88] {
+            let mut text = [0xFFFF; CHARACTERS];
+            assert_eq!(read_text(&page, received, &mut text), Ok(length));
+            assert_eq!((&text[..length], text[length..].iter().all(|&point| point == 0)), (&points[..], true));
+        }
+    }
+}
+
+#[test]
+fn our_message_is_accepted() {
+    for (pages, slots) in [(1, 1), (1, 48), (32, 48), (40, 40), (7, 13)] {
+        let current = pages_in(pages, slots);
+        for previous in [Plan::default(), pages_in(5, 5)] {
+            let (used, message) = message_of(&current, &previous, slots).unwrap();
+            for received in [88, 22 * used.div_ceil(22)] {
+                let finding = check_schedule(read_plan(&current.file()), Ok(previous.clone()), &message, received);
+                assert_eq!(finding, Ok(Finding::True));
+            }
+        }
+    }
+}
