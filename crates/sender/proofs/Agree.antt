@@ -1,14 +1,13 @@
 -- A message depends only on what is told of its slots.
-use mathlib.Core.Path.{_≡_, refl, sym, ap, _∙_}
-use mathlib.Core.Bool.{Bool, true, false, cond, _&&_}
-use mathlib.Core.List.{List, [], _∷_, _++_}
+use mathlib.Core.Path.{_≡_, refl, sym, _∙_}
+use mathlib.Core.Bool.{Bool, true, false}
 use Prim.Native.Nat.{ℕ, zero, suc, _+_, _*_, _<_}
 use native.Mathlib.Omega.{arith}
 use lib.Dec.{ltb}
 use borrow.Author.Tests.{ltb-true}
 use Rattle.laws.specs.Upto.{each}
 use Rattle.schedule.specs.Paper.{Shown}
-use Rattle.sender.specs.Paper.{octetsOf, descriptions, newBit, newBits, bitmapOf, usedOctets, messageOf}
+use Rattle.sender.specs.Paper.{descriptions, newBit, newBits, bitmapOf, usedOctets, messageOf}
 use Rattle.sender.specs.Coded.{AllLow}
 use Rattle.sender.proofs.Groups.{told, told-none, told-suc, descriptions-groups}
 

@@ -1,5 +1,4 @@
 -- `sender::compose` meets its contract.
-use mathlib.Core.Path.{_≡_, refl, sym, ap, _∙_}
 use native.Mathlib.Omega.{arith}
 use Rattle.sender.specs.Coded.{shownIn}
 use Rattle.sender.proofs.Groups.{length-descriptions}
@@ -7,30 +6,22 @@ use Rattle.sender.proofs.Message.{message-put}
 use borrow.Author.Needs.{needs}
 use Rattle.sender.proofs.compose.Statement.{statement}
 use Rattle.sender.proofs.compose.Tie as tie
-use Rattle.sender.proofs.compose.Reads as reads
-use Rattle.sender.proofs.compose.Lts as lts
-use Rattle.sender.proofs.header.Reads as header-reads
-use Rattle.sender.proofs.put_group.Reads as put-group-reads
 
--- src/lib.rt:227:9
 header-requires : tie.Need-header-requires
 header-requires c κs = search needs
 
--- src/lib.rt:228:9
 put-group-requires : tie.Need-put-group-requires
 put-group-requires c κs =
     let a = c .before .args in
     let all = length-descriptions (shownIn (a .slots)) (a .count) in
     (c .before .pre .1, c .before .pre .2, omega arith)
 
--- src/lib.rt:230:9
 put-group-requires-2 : tie.Need-put-group-requires-2
 put-group-requires-2 c κs =
     let a = c .before .before .before .args in
     let all = length-descriptions (shownIn (a .slots)) (a .count) in
     (c .before .before .before .pre .1, c .before .before .before .pre .2, omega arith)
 
--- src/lib.rt:223:1
 returns : tie.Need-returns
 returns c =
     let a = c .before .before .before .before .before .args in

@@ -1,7 +1,7 @@
 -- `sender::header` meets its contract. The invariant: Begin, End and the octets of new bits so far are put over a message of 2B.
-use mathlib.Core.Path.{_≡_, refl, sym, ap, _∙_}
+use mathlib.Core.Path.{_≡_, refl}
 use mathlib.Core.List.{[], _∷_, _++_}
-use Prim.Native.Nat.{ℕ, _≤_, _-_, _+_}
+use Prim.Native.Nat.{ℕ, _≤_, _-_}
 use native.Mathlib.Omega.{arith}
 use borrow.Author.Needs.{needs}
 use lib.ListN.{replicate}
@@ -12,9 +12,6 @@ use Rattle.sender.specs.Coded.{shownIn}
 use Rattle.sender.proofs.Padded.{sets-turn}
 use Rattle.sender.proofs.header.Statement.{statement}
 use Rattle.sender.proofs.header.Tie as tie
-use Rattle.sender.proofs.header.Reads as reads
-use Rattle.sender.proofs.header.Lts as lts
-use Rattle.sender.proofs.new_octet.Reads as new-octet-reads
 
 abbrev Inv-loop : tie.InvT-loop
 Inv-loop slots count begin octets₀ j₀ octets j = (j ≤ 6) × (octets ≡ sets (replicate 88 43) 0 ((begin ∷ count ∷ []) ++ each (λ (k : ℕ). newBits (shownIn slots) count k 8) j))
@@ -22,55 +19,43 @@ Inv-loop slots count begin octets₀ j₀ octets j = (j ≤ 6) × (octets ≡ se
 abbrev μ-loop : tie.MeasureT-loop
 μ-loop slots count begin octets₀ j₀ octets j = 6 - j
 
--- src/lib.rt:153:17
 cast-octets : tie.Need-cast-octets Inv-loop μ-loop
 cast-octets c = search needs
 
--- src/lib.rt:153:5
 array-write-octets : tie.Need-array-write-octets Inv-loop μ-loop
 array-write-octets c = search needs
 
--- src/lib.rt:154:17
 cast-octets-2 : tie.Need-cast-octets-2 Inv-loop μ-loop
 cast-octets-2 c = search needs
 
--- src/lib.rt:154:5
 array-write-octets-2 : tie.Need-array-write-octets-2 Inv-loop μ-loop
 array-write-octets-2 c = search needs
 
--- src/lib.rt:156:5
 loop-holds : tie.Need-loop-holds Inv-loop μ-loop
 unfolding each
 loop-holds c = (omega arith, refl)
 
--- src/lib.rt:157:25
 new-octet-requires : tie.Need-new-octet-requires Inv-loop μ-loop
 new-octet-requires c κs = search needs
 
--- src/lib.rt:157:16
 add-octets : tie.Need-add-octets Inv-loop μ-loop
 add-octets c = search needs
 
--- src/lib.rt:157:9
 array-write-octets-3 : tie.Need-array-write-octets-3 Inv-loop μ-loop
 array-write-octets-3 c = search needs
 
--- src/lib.rt:158:9
 add-j : tie.Need-add-j Inv-loop μ-loop
 add-j c = search needs
 
--- src/lib.rt:156:5
 loop-less : tie.Need-loop-less Inv-loop μ-loop
 loop-less c = search needs
 
--- src/lib.rt:156:5
 loop-again : tie.Need-loop-again Inv-loop μ-loop
 loop-again c =
     let a = c .before .before .before .args in
     let l = c .before .before .loop in
     (omega arith, sets-turn (λ (k : ℕ). newBits (shownIn (a .slots)) (a .count) k 8) (replicate 88 43) (l .octets) (a .begin) (a .count) (l .j) (c .new-octet .result) (l .inv .1) (c .new-octet .ensures))
 
--- src/lib.rt:148:1
 returns : tie.Need-returns Inv-loop μ-loop
 returns c =
     let e : c .before .loop .j ≡ 6 = omega arith in

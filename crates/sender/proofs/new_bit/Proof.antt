@@ -6,26 +6,19 @@ use Rattle.sender.proofs.News.{newBit-past, newBit-own}
 use borrow.Author.Needs.{needs}
 use Rattle.sender.proofs.new_bit.Statement.{statement}
 use Rattle.sender.proofs.new_bit.Tie as tie
-use Rattle.sender.proofs.new_bit.Reads as reads
-use Rattle.sender.proofs.new_bit.Lts as lts
 
--- src/lib.rt:124:9
 returns : tie.Need-returns
 returns c = sym (newBit-past (shownIn (c .before .args .t1)) _ (c .before .args .i) (c .if1 .taken))
 
--- src/lib.rt:126:16
 mul-slot : tie.Need-mul-slot
 mul-slot c = search needs
 
--- src/lib.rt:126:16
 array-copy-out-slot : tie.Need-array-copy-out-slot
 array-copy-out-slot c = search needs
 
--- src/lib.rt:128:9
 returns-2 : tie.Need-returns-2
 returns-2 c = sym (newBit-own (shownIn (c .before .before .before .args .t1)) _ (c .before .before .before .args .i) (c .before .before .if1 .left) ∙ ap (λ (b : Bool). cond b 1 0) (c .if2 .taken))
 
--- src/lib.rt:119:1
 returns-3 : tie.Need-returns-3
 returns-3 c = sym (newBit-own (shownIn (c .before .before .before .args .t1)) _ (c .before .before .before .args .i) (c .before .before .if1 .left) ∙ ap (λ (b : Bool). cond b 1 0) (c .if2 .left))
 

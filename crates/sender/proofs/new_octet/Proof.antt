@@ -1,6 +1,6 @@
 -- `sender::new_octet` meets its contract. The invariant: the bits so far.
-use mathlib.Core.Path.{_≡_, refl, sym, ap, _∙_}
-use Prim.Native.Nat.{ℕ, _+_, _*_, _≤_, _-_}
+use mathlib.Core.Path.{_≡_, sym}
+use Prim.Native.Nat.{_+_, _*_, _≤_, _-_}
 use native.Mathlib.Omega.{arith}
 use borrow.Author.Needs.{needs}
 use Rattle.sender.specs.Paper.{newBit, newBits}
@@ -8,9 +8,6 @@ use Rattle.sender.specs.Coded.{shownIn}
 use Rattle.sender.proofs.News.{newBit-few, newBits-room, newBits-none, newBits-next}
 use Rattle.sender.proofs.new_octet.Statement.{statement}
 use Rattle.sender.proofs.new_octet.Tie as tie
-use Rattle.sender.proofs.new_octet.Reads as reads
-use Rattle.sender.proofs.new_octet.Lts as lts
-use Rattle.sender.proofs.new_bit.Reads as new-bit-reads
 
 abbrev Inv-loop : tie.InvT-loop
 Inv-loop slots count j bits₀ k₀ bits k = (k ≤ 8) × (bits ≡ newBits (shownIn slots) count j k)
@@ -18,43 +15,34 @@ Inv-loop slots count j bits₀ k₀ bits k = (k ≤ 8) × (bits ≡ newBits (sho
 abbrev μ-loop : tie.MeasureT-loop
 μ-loop slots count j bits₀ k₀ bits k = 8 - k
 
--- src/lib.rt:140:5
 loop-holds : tie.Need-loop-holds Inv-loop μ-loop
 loop-holds c = (omega arith, sym (newBits-none (shownIn (c .args .slots)) _ _))
 
--- src/lib.rt:141:16
 mul-bits : tie.Need-mul-bits Inv-loop μ-loop
 mul-bits c =
     let a = c .before .before .args in
     omega (arith, newBits-room (shownIn (a .slots)) (a .count) (a .j) (c .before .loop .k) (c .loop-test .taken))
 
--- src/lib.rt:141:49
 mul-new-bit : tie.Need-mul-new-bit Inv-loop μ-loop
 mul-new-bit c = search needs
 
--- src/lib.rt:141:49
 add-new-bit : tie.Need-add-new-bit Inv-loop μ-loop
 add-new-bit c = search needs
 
--- src/lib.rt:141:27
 new-bit-requires : tie.Need-new-bit-requires Inv-loop μ-loop
 new-bit-requires c κs = search needs
 
--- src/lib.rt:141:16
 add-bits : tie.Need-add-bits Inv-loop μ-loop
 add-bits c =
     let a = c .before .before .before .args in
     omega (arith, newBits-room (shownIn (a .slots)) (a .count) (a .j) (c .before .before .loop .k) (c .before .loop-test .taken), newBit-few (shownIn (a .slots)) (a .count) (a .j) (8 * a .j + c .before .before .loop .k))
 
--- src/lib.rt:142:9
 add-k : tie.Need-add-k Inv-loop μ-loop
 add-k c = search needs
 
--- src/lib.rt:140:5
 loop-less : tie.Need-loop-less Inv-loop μ-loop
 loop-less c = search needs
 
--- src/lib.rt:140:5
 loop-again : tie.Need-loop-again Inv-loop μ-loop
 loop-again c =
     let a = c .before .before .before .args in
@@ -62,7 +50,6 @@ loop-again c =
     let b : c .new-bit .result ≡ newBit (shownIn (a .slots)) (a .count) (8 * a .j + l .k) = c .new-bit .ensures in
     (omega arith, rw (b, l .inv .1) (sym (newBits-next (shownIn (a .slots)) (a .count) (a .j) (l .k))))
 
--- src/lib.rt:134:1
 returns : tie.Need-returns Inv-loop μ-loop
 returns c =
     let e : c .before .loop .k ≡ 8 = omega arith in

@@ -1,91 +1,70 @@
 -- `sender::put` meets its contract.
-use mathlib.Core.Path.{_≡_, refl, sym, ap, _∙_}
-use Prim.Native.Nat.{ℕ, _≤_, _<_, _+_}
+use mathlib.Core.Path.{refl, ap}
+use Prim.Native.Nat.{_≤_, _<_, _+_}
 use native.Mathlib.Numerals.{add-one}
 use native.Mathlib.Omega.{arith}
 use Rattle.schedule.specs.Coded.{toldOf}
 use borrow.Author.Needs.{needs}
 use Rattle.sender.proofs.put.Statement.{statement}
 use Rattle.sender.proofs.put.Tie as tie
-use Rattle.sender.proofs.put.Reads as reads
-use Rattle.sender.proofs.put.Lts as lts
-use Rattle.sender.proofs.put_octet.Reads as put-octet-reads
 
--- src/lib.rt:188:28
 enum-known-description : tie.Need-enum-known-description
 enum-known-description c = search needs
 
--- src/lib.rt:190:33
 cast-filled : tie.Need-cast-filled
 cast-filled c = search needs
 
--- src/lib.rt:190:26
 add-filled : tie.Need-add-filled
 add-filled c =
     let low : c .before .description .given .0 .0 < 32768 = rw (ap toldOf (c .before .description .given .1)) at (c .before .before .before .pre .0) in
     omega arith
 
--- src/lib.rt:190:13
 array-write-filled : tie.Need-array-write-filled
 array-write-filled c =
     let room : c .before .before .before .args .at + 2 ≤ 88 = rw (ap toldOf (c .before .description .given .1)) at (c .before .before .before .pre .1) in
     omega arith
 
--- src/lib.rt:191:30
 cast-filled-2 : tie.Need-cast-filled-2
 cast-filled-2 c = search needs
 
--- src/lib.rt:191:20
 add-filled-2 : tie.Need-add-filled-2
 add-filled-2 c = search needs
 
--- src/lib.rt:191:13
 array-write-filled-2 : tie.Need-array-write-filled-2
 array-write-filled-2 c =
     let room : c .before .before .before .args .at + 2 ≤ 88 = rw (ap toldOf (c .before .description .given .1)) at (c .before .before .before .pre .1) in
     omega arith
 
--- src/lib.rt:194:21
 add-t13 : tie.Need-add-t13
 add-t13 c = search needs
 
--- src/lib.rt:197:29
 enum-known-description-2 : tie.Need-enum-known-description-2
 enum-known-description-2 c = search needs
 
--- src/lib.rt:197:38
 put-octet-requires : tie.Need-put-octet-requires
 put-octet-requires c κs = let room : c .before .before .before .args .at + 1 ≤ 88 = rw (ap toldOf (c .before .description2 .given .1)) at (c .before .before .before .pre .1) in omega arith
 
--- src/lib.rt:198:34
 enum-told : tie.Need-enum-told
 enum-told c = search needs
 
--- src/lib.rt:198:34
 put-octet-requires-2 : tie.Need-put-octet-requires-2
 put-octet-requires-2 c κs = let room : c .before .before .args .at + 1 ≤ 88 = rw (ap toldOf (c .enum-told .given .1)) at (c .before .before .pre .1) in omega arith
 
--- src/lib.rt:199:33
 enum-told-2 : tie.Need-enum-told-2
 enum-told-2 c = search needs
 
--- src/lib.rt:199:33
 put-octet-requires-3 : tie.Need-put-octet-requires-3
 put-octet-requires-3 c κs = let room : c .before .before .args .at + 1 ≤ 88 = rw (ap toldOf (c .enum-told2 .given .1)) at (c .before .before .pre .1) in omega arith
 
--- src/lib.rt:183:1
 returns : tie.Need-returns
 returns c = rw (ap toldOf (c .before .description .given .1)) (rw add-one, refl)
 
--- src/lib.rt:183:1
 returns-2 : tie.Need-returns-2
 returns-2 c = rw (ap toldOf (c .before .before .description2 .given .1)) (c .put-octet .ensures)
 
--- src/lib.rt:183:1
 returns-3 : tie.Need-returns-3
 returns-3 c = rw (ap toldOf (c .before .enum-told .given .1)) (c .put-octet2 .ensures)
 
--- src/lib.rt:183:1
 returns-4 : tie.Need-returns-4
 returns-4 c = rw (ap toldOf (c .before .enum-told2 .given .1)) (c .put-octet3 .ensures)
 

@@ -1,18 +1,15 @@
 -- `sender::put_group` meets its contract. The invariant: the descriptions passed are put one after the other.
-use mathlib.Core.Path.{_≡_, refl, sym, ap, _∙_}
+use mathlib.Core.Path.{_≡_, refl}
 use mathlib.Core.Logic.{⊎-elim}
-use Prim.Native.Nat.{ℕ, _≤_, _-_, _+_}
+use Prim.Native.Nat.{_≤_, _-_, _+_}
 use native.Mathlib.Omega.{arith}
 use borrow.Author.Needs.{needs}
 use lib.ListN.{length}
 use lib.Seq.{sets}
 use Rattle.sender.specs.Coded.{shownIn}
-use Rattle.sender.proofs.Groups.{told, told-none, told-in, told-out, told-room, put-in}
+use Rattle.sender.proofs.Groups.{told, told-none, told-out, told-room, put-in}
 use Rattle.sender.proofs.put_group.Statement.{statement}
 use Rattle.sender.proofs.put_group.Tie as tie
-use Rattle.sender.proofs.put_group.Reads as reads
-use Rattle.sender.proofs.put_group.Lts as lts
-use Rattle.sender.proofs.put.Reads as put-reads
 
 abbrev Inv-loop : tie.InvT-loop
 Inv-loop at count new slots filled₀ i₀ filled i = (i ≤ count) × (filled .octets ≡ sets (filled₀ .octets) at (told (shownIn slots) new i)) × (filled .at ≡ at + length (told (shownIn slots) new i))
@@ -20,21 +17,17 @@ Inv-loop at count new slots filled₀ i₀ filled i = (i ≤ count) × (filled .
 abbrev μ-loop : tie.MeasureT-loop
 μ-loop at count new slots filled₀ i₀ filled i = count - i
 
--- src/lib.rt:210:5
 loop-holds : tie.Need-loop-holds Inv-loop μ-loop
 loop-holds c =
     let a = c .args in
     rw (told-none (shownIn (a .t3)) (a .new)) (omega arith, refl, omega arith)
 
--- src/lib.rt:211:20
 mul-slot : tie.Need-mul-slot Inv-loop μ-loop
 mul-slot c = search needs
 
--- src/lib.rt:211:20
 array-copy-out-slot : tie.Need-array-copy-out-slot Inv-loop μ-loop
 array-copy-out-slot c = search needs
 
--- src/lib.rt:215:13
 put-requires : tie.Need-put-requires Inv-loop μ-loop
 put-requires c κs =
     let a = c .before .before .before .before .before .before .args in
@@ -42,15 +35,12 @@ put-requires c κs =
     let p = c .before .before .before .before .before .before .pre in
     (p .1 (l .i) (omega arith), omega (arith, told-room (shownIn (a .t3)) (a .new) (a .count) (l .i) (c .before .before .before .before .loop-test .taken) (c .before .if1 .taken)))
 
--- src/lib.rt:217:9
 add-i : tie.Need-add-i Inv-loop μ-loop
 add-i c = search needs
 
--- src/lib.rt:210:5
 loop-less : tie.Need-loop-less Inv-loop μ-loop
 loop-less c = search needs
 
--- src/lib.rt:210:5
 loop-again : tie.Need-loop-again Inv-loop μ-loop
 loop-again c =
     let a = c .before .before .before .before .before .args in
@@ -63,7 +53,6 @@ loop-again c =
     (λ w. rw (w .1, told-out s (a .new) (l .i) (w .0 .left)) (omega arith, l .inv .1, l .inv .2))
     (c .if1 .came)
 
--- src/lib.rt:204:1
 returns : tie.Need-returns Inv-loop μ-loop
 returns c =
     let l = c .before .loop in

@@ -1,6 +1,5 @@
 -- `sender::tell` meets its contract: each return is a case of what is planned.
-use mathlib.Core.Path.{_≡_, refl, sym, ap, _∙_}
-use Prim.Native.Nat.{ℕ, _≤_, _<_, _+_}
+use mathlib.Core.Path.{_≡_, sym, _∙_}
 use native.Mathlib.Numerals.{add-one}
 use native.Mathlib.Omega.{arith}
 use lib.ListN.{getD, List·getD-map}
@@ -11,12 +10,7 @@ use Rattle.sender.proofs.Tells.{tells-advised, tells-optional, tells-fi
 use borrow.Author.Needs.{needs}
 use Rattle.sender.proofs.tell.Statement.{statement}
 use Rattle.sender.proofs.tell.Tie as tie
-use Rattle.sender.proofs.tell.Reads as reads
-use Rattle.sender.proofs.tell.Lts as lts
-use Rattle.plan.proofs.has_page.Reads as has-page-reads
-use Rattle.plan.proofs.lowest_slot.Reads as lowest-slot-reads
 
--- src/lib.rt:39:17
 -- the entry of the slot, as its numbers
 abbrev entry : tie.Start → Entry
 entry s = entryOf (getD (s .args .current .entries) (s .args .i) none)
@@ -24,51 +18,41 @@ entry s = entryOf (getD (s .args .current .entries) (s .args .i) none)
 entry-is : (s : tie.Start) → entryAt (planOf (s .args .current)) (s .args .i) ≡ entry s
 entry-is s = List·getD-map entryOf (s .args .current .entries) (s .args .i) none
 
--- src/lib.rt:39:17
 mul-entry : tie.Need-mul-entry
 mul-entry c = search needs
 
--- src/lib.rt:39:17
 array-copy-out-entry : tie.Need-array-copy-out-entry
 array-copy-out-entry c = search needs
 
--- src/lib.rt:41:9
 returns : tie.Need-returns
 returns c =
     let s = c .before .before .before .before in
     tells-advised (planOf (s .args .current)) (planOf (s .args .previous)) (s .args .i) (entry s) (entry-is s) (c .if1 .taken)
 
--- src/lib.rt:47:9
 returns-2 : tie.Need-returns-2
 returns-2 c =
     let s = c .before .before .before .before .before .before in
     tells-optional (planOf (s .args .current)) (planOf (s .args .previous)) (s .args .i) (entry s) (entry-is s) (c .before .before .if1 .left) (c .if2 .taken)
 
--- src/lib.rt:59:16
 has-page-requires : tie.Need-has-page-requires
 has-page-requires c κs = search needs
 
--- src/lib.rt:60:9
 lowest-slot-requires : tie.Need-lowest-slot-requires
 lowest-slot-requires c κs = search needs
 
--- src/lib.rt:61:18
 add-if3 : tie.Need-add-if3
 add-if3 c = search needs
 
--- src/lib.rt:62:9
 returns-3 : tie.Need-returns-3
 returns-3 c =
     let s = c .before .before .before .before .before .before .before .before .before .before .before .before in
     tells-first (planOf (s .args .current)) (planOf (s .args .previous)) (s .args .i) (entry s) (entry-is s) (c .before .before .before .before .before .before .if2 .left) _ _ (c .before .before .before .has-page .ensures) (c .before .before .lowest-slot .ensures) (c .before .if3 .taken ∙ add-one _)
 
--- src/lib.rt:69:42
 cast-t20 : tie.Need-cast-t20
 cast-t20 c =
     let s = c .before .before .before .before .before .before .before .before .before .before .before in
     omega (arith, c .before .lowest-slot .ensures, lowest-counted (planOf (s .args .current)) (record { serial = entry s .serial; id = entry s .id; parameter = entry s .parameter }))
 
--- src/lib.rt:34:1
 returns-4 : tie.Need-returns-4
 returns-4 c =
     let s = c .before .before .before .before .before .before .before .before .before .before .before in

@@ -1,5 +1,5 @@
 -- `sender::telling` meets its contract. The invariant: the slots passed are told as planned.
-use mathlib.Core.Path.{_≡_, refl, sym, ap, _∙_}
+use mathlib.Core.Path.{_≡_, refl, _∙_}
 use Prim.Native.Nat.{ℕ, _≤_, _<_, _-_}
 use native.Mathlib.Omega.{arith}
 use borrow.Author.Needs.{needs}
@@ -11,9 +11,6 @@ use Rattle.sender.specs.Coded.{shownIn}
 use Rattle.sender.proofs.Tells.{told-more}
 use Rattle.sender.proofs.telling.Statement.{statement}
 use Rattle.sender.proofs.telling.Tie as tie
-use Rattle.sender.proofs.telling.Reads as reads
-use Rattle.sender.proofs.telling.Lts as lts
-use Rattle.sender.proofs.tell.Reads as tell-reads
 
 abbrev Inv-loop : tie.InvT-loop
 Inv-loop current previous slots₀ count i₀ slots i = (i ≤ count) × (length slots ≡ 48) × ((k : ℕ) → k < i → shownIn slots k ≡ planned (planOf current) (planOf previous) k)
@@ -21,31 +18,24 @@ Inv-loop current previous slots₀ count i₀ slots i = (i ≤ count) × (length
 abbrev μ-loop : tie.MeasureT-loop
 μ-loop current previous slots₀ count i₀ slots i = count - i
 
--- src/lib.rt:84:5
 loop-holds : tie.Need-loop-holds Inv-loop μ-loop
 loop-holds c = (omega arith, refl, below-none _)
 
--- src/lib.rt:85:20
 tell-requires : tie.Need-tell-requires Inv-loop μ-loop
 tell-requires c κs = search needs
 
--- src/lib.rt:85:9
 mul-slots : tie.Need-mul-slots Inv-loop μ-loop
 mul-slots c = search needs
 
--- src/lib.rt:85:9
 array-set-from-slots : tie.Need-array-set-from-slots Inv-loop μ-loop
 array-set-from-slots c = search needs
 
--- src/lib.rt:86:9
 add-i : tie.Need-add-i Inv-loop μ-loop
 add-i c = search needs
 
--- src/lib.rt:84:5
 loop-less : tie.Need-loop-less Inv-loop μ-loop
 loop-less c = search needs
 
--- src/lib.rt:84:5
 loop-again : tie.Need-loop-again Inv-loop μ-loop
 loop-again c =
     let a = c .before .before .before .args in
@@ -55,7 +45,6 @@ loop-again c =
       told-more (planned (planOf (a .current)) (planOf (a .previous))) (l .slots) (l .i) (c .tell .result) (omega arith) (l .inv .2) (c .tell .ensures),
     )
 
--- src/lib.rt:74:1
 returns : tie.Need-returns Inv-loop μ-loop
 returns c =
     let e : c .before .loop .i ≡ c .before .before .args .current .count = omega arith in

@@ -1,6 +1,6 @@
 -- `sender::width_of_all` meets its contract. The invariant: the octets of the descriptions passed, at most two for each slot.
-use mathlib.Core.Path.{_≡_, refl, sym, ap, _∙_}
-use Prim.Native.Nat.{ℕ, _≤_, _-_, _+_, _*_}
+use mathlib.Core.Path.{_≡_, sym}
+use Prim.Native.Nat.{_≤_, _-_, _*_}
 use native.Mathlib.Omega.{arith}
 use borrow.Author.Needs.{needs}
 use lib.ListN.{length}
@@ -9,9 +9,6 @@ use Rattle.sender.specs.Coded.{shownIn}
 use Rattle.sender.proofs.Groups.{octetsOf-few, descriptions-none, descriptions-next}
 use Rattle.sender.proofs.width_of_all.Statement.{statement}
 use Rattle.sender.proofs.width_of_all.Tie as tie
-use Rattle.sender.proofs.width_of_all.Reads as reads
-use Rattle.sender.proofs.width_of_all.Lts as lts
-use Rattle.sender.proofs.width_of.Reads as width-of-reads
 
 abbrev Inv-loop : tie.InvT-loop
 Inv-loop count slots width₀ i₀ width i = (i ≤ count) × (width ≡ length (descriptions (shownIn slots) i)) × (width ≤ 2 * i)
@@ -19,37 +16,29 @@ Inv-loop count slots width₀ i₀ width i = (i ≤ count) × (width ≡ length 
 abbrev μ-loop : tie.MeasureT-loop
 μ-loop count slots width₀ i₀ width i = count - i
 
--- src/lib.rt:109:5
 loop-holds : tie.Need-loop-holds Inv-loop μ-loop
 loop-holds c = (omega arith, sym (descriptions-none (shownIn (c .args .t1))), omega arith)
 
--- src/lib.rt:110:20
 mul-slot : tie.Need-mul-slot Inv-loop μ-loop
 mul-slot c = search needs
 
--- src/lib.rt:110:20
 array-copy-out-slot : tie.Need-array-copy-out-slot Inv-loop μ-loop
 array-copy-out-slot c = search needs
 
--- src/lib.rt:112:18
 width-of-requires : tie.Need-width-of-requires Inv-loop μ-loop
 width-of-requires c κs = search needs
 
--- src/lib.rt:112:9
 add-width : tie.Need-add-width Inv-loop μ-loop
 add-width c =
     let t = shownIn (c .before .before .before .before .args .t1) (c .before .before .before .loop .i) .told in
     omega (arith, octetsOf-few t)
 
--- src/lib.rt:113:9
 add-i : tie.Need-add-i Inv-loop μ-loop
 add-i c = search needs
 
--- src/lib.rt:109:5
 loop-less : tie.Need-loop-less Inv-loop μ-loop
 loop-less c = search needs
 
--- src/lib.rt:109:5
 loop-again : tie.Need-loop-again Inv-loop μ-loop
 loop-again c =
     let a = c .before .before .before .before .args in
@@ -59,7 +48,6 @@ loop-again c =
     let w : c .width-of .result ≡ length (octetsOf t) = c .width-of .ensures in
     (omega arith, omega arith, omega (arith, octetsOf-few t))
 
--- src/lib.rt:103:1
 returns : tie.Need-returns Inv-loop μ-loop
 returns c =
     let e : c .before .loop .i ≡ c .before .before .args .count = omega arith in

@@ -1,9 +1,8 @@
 -- `sender::write_schedule` meets its contract: each return is the first test of the order that holds, and the last writes the message.
-use mathlib.Core.Path.{_≡_, refl, sym, ap, _∙_}
-use mathlib.Core.Bool.{Bool, false, _&&_, and-false}
+use mathlib.Core.Path.{_≡_, sym, ap, _∙_}
+use mathlib.Core.Bool.{false, and-false}
 use mathlib.Core.List.{List}
-use Prim.Native.Nat.{ℕ, _+_, _≤_, _<_}
-use native.Mathlib.Nat.{le-refl}
+use Prim.Native.Nat.{ℕ, _+_}
 use native.Mathlib.Omega.{arith}
 use denote.Ref.{now}
 use lib.ListN.{length}
@@ -14,7 +13,7 @@ use Rattle.answer.proofs.Inverse.{numberOf-positive}
 use Rattle.laws.proofs.Parts.{copy-whole}
 use Rattle.plan.specs.Paper.{Plan, planNumber}
 use Rattle.plan.specs.Coded.{planOf, verdictOf}
-use Rattle.sender.specs.Paper.{Writing, planned, descriptions, messageOf}
+use Rattle.sender.specs.Paper.{planned, descriptions, messageOf}
 use Rattle.sender.specs.Coded.{shownIn}
 use Rattle.sender.proofs.Agree.{low-agree, descriptions-agree, message-agree}
 use Rattle.sender.proofs.Cases.{write-15, write-current, write-previous, write-35, write-21, write-34, write-0}
@@ -22,13 +21,6 @@ use Rattle.sender.proofs.Tells.{good-counted, planned-low}
 use borrow.Author.Needs.{needs}
 use Rattle.sender.proofs.write_schedule.Statement.{statement}
 use Rattle.sender.proofs.write_schedule.Tie as tie
-use Rattle.sender.proofs.write_schedule.Reads as reads
-use Rattle.sender.proofs.write_schedule.Lts as lts
-use Rattle.bytes.proofs.copy.Reads as copy-reads
-use Rattle.plan.proofs.plan_answer.Reads as plan-answer-reads
-use Rattle.sender.proofs.compose.Reads as compose-reads
-use Rattle.sender.proofs.telling.Reads as telling-reads
-use Rattle.sender.proofs.width_of_all.Reads as width-of-all-reads
 
 abbrev current : tie.Start → Plan
 current s = planOf (s .args .current)
@@ -39,21 +31,17 @@ previous s = planOf (s .args .previous)
 abbrev out : tie.Start → List ℕ
 out s = now (s .args .out)
 
--- src/lib.rt:239:9
 returns : tie.Need-returns
 returns c =
     let s = c .before .before in
     sym (write-15 (current s) (previous s) (s .args .begin) (out s) (c .if1 .taken))
 
--- src/lib.rt:241:9
 plan-answer-requires : tie.Need-plan-answer-requires
 plan-answer-requires c κs = search needs
 
--- src/lib.rt:242:29
 enum-known-answer : tie.Need-enum-known-answer
 enum-known-answer c = search needs
 
--- src/lib.rt:243:9
 returns-2 : tie.Need-returns-2
 returns-2 c =
     let s = c .before .before .before .before .before .before in
@@ -65,11 +53,9 @@ returns-2 c =
 enum-told : tie.Need-enum-told
 enum-told c = search needs
 
--- src/lib.rt:245:9
 plan-answer-requires-2 : tie.Need-plan-answer-requires-2
 plan-answer-requires-2 c κs = search needs
 
--- src/lib.rt:246:29
 enum-known-answer-2 : tie.Need-enum-known-answer-2
 enum-known-answer-2 c = search needs
 
@@ -77,7 +63,6 @@ enum-known-answer-2 c = search needs
 current-good : (c : tie.After-enum-told) → planNumber (current (c .before .before .before .before .before)) ≡ 0
 current-good c = sym (c .before .before .plan-answer .ensures) ∙ ap verdictOf (c .enum-told .given .1)
 
--- src/lib.rt:247:9
 returns-3 : tie.Need-returns-3
 returns-3 c =
     let s = c .before .before .before .before .before .before .before .before .before in
@@ -93,7 +78,6 @@ enum-told-2 c = search needs
 previous-good : (c : tie.After-enum-told2) → planNumber (previous (c .before .before .before .before .before .before .before .before)) ≡ 0
 previous-good c = sym (c .before .before .plan-answer2 .ensures) ∙ ap verdictOf (c .enum-told2 .given .1)
 
--- src/lib.rt:251:9
 returns-4 : tie.Need-returns-4
 returns-4 c =
     let s = c .before .before .before .before .before .before .before .before .before in
@@ -101,7 +85,6 @@ returns-4 c =
     (write-35 (current s) (previous s) (s .args .begin) (out s) (c .before .before .before .before .before .before .before .if1 .left) (current-good (c .before .before .before .before)) (previous-good (c .before))
     (c .if2 .taken))
 
--- src/lib.rt:254:9
 returns-5 : tie.Need-returns-5
 returns-5 c =
     let s = c .before .before .before .before .before .before .before .before .before .before in
@@ -110,7 +93,6 @@ returns-5 c =
     (write-21 (current s) (previous s) (s .args .begin) (out s) (c .before .before .before .before .before .before .before .before .if1 .left) (current-good (c .before .before .before .before .before)) (previous-good (c .before .before))
     (c .before .if2 .left) (rw none))
 
--- src/lib.rt:257:9
 returns-6 : tie.Need-returns-6
 returns-6 c =
     let s = c .before .before .before .before .before .before .before .before .before .before .before in
@@ -119,15 +101,12 @@ returns-6 c =
     (write-21 (current s) (previous s) (s .args .begin) (out s) (c .before .before .before .before .before .before .before .before .before .if1 .left) (current-good (c .before .before .before .before .before .before)) (previous-good (c .before .before .before))
     (c .before .before .if2 .left) (rw past (and-false (leb 1 (s .args .begin)))))
 
--- src/lib.rt:259:9
 telling-requires : tie.Need-telling-requires
 telling-requires c κs = good-counted (current (c .before .before .before .before .before .before .before .before .before .before .before)) (current-good (c .before .before .before .before .before .before))
 
--- src/lib.rt:260:9
 width-of-all-requires : tie.Need-width-of-all-requires
 width-of-all-requires c κs = good-counted (current (c .before .before .before .before .before .before .before .before .before .before .before .before)) (current-good (c .before .before .before .before .before .before .before))
 
--- src/lib.rt:261:16
 sub-if5 : tie.Need-sub-if5
 sub-if5 c = search needs
 
@@ -137,7 +116,6 @@ width c =
     let s = c .before .before .before .before .before .before .before .before .before .before .before .before .before in
     c .width-of-all .ensures ∙ ap length (descriptions-agree (shownIn (c .before .telling .result)) (planned (current s) (previous s)) (current s .count) (c .before .telling .ensures))
 
--- src/lib.rt:262:9
 returns-7 : tie.Need-returns-7
 returns-7 c =
     let s = c .before .before .before .before .before .before .before .before .before .before .before .before .before .before in
@@ -146,7 +124,6 @@ returns-7 c =
     (write-34 (current s) (previous s) (s .args .begin) (out s) (c .before .before .before .before .before .before .before .before .before .before .before .before .if1 .left) (current-good (c .before .before .before .before .before .before .before .before .before)) (previous-good (c .before .before .before .before .before .before))
     (c .before .before .before .before .before .if2 .left) (omega arith) (c .before .before .before .if4 .left) (omega arith))
 
--- src/lib.rt:264:19
 compose-requires : tie.Need-compose-requires
 compose-requires c κs =
     let s = c .before .before .before .before .before .before .before .before .before .before .before .before .before .before in
@@ -157,23 +134,18 @@ compose-requires c κs =
       omega arith,
     )
 
--- src/lib.rt:265:17
 slice-aggregate-copy : tie.Need-slice-aggregate-copy
 slice-aggregate-copy c = search needs
 
--- src/lib.rt:265:5
 copy-requires : tie.Need-copy-requires
 copy-requires c κs = search needs
 
--- src/lib.rt:266:22
 add-t13 : tie.Need-add-t13
 add-t13 c = search needs
 
--- src/lib.rt:235:1
 same-length : tie.Need-same-length
 same-length c = search needs
 
--- src/lib.rt:235:1
 returns-8 : tie.Need-returns-8
 returns-8 c =
     let s = c .before .before .before .before .before .before .before .before .before .before .before .before .before .before .before .before .before .before .before .before in
