@@ -1,5 +1,5 @@
 -- Schedule messages as the writer makes them, in numbers and lists of octets. Slots are counted from 0 here: slot i is number i + 1.
-use mathlib.Core.Bool.{Bool, true, false, cond, not, _&&_, _||_, Bool·beq}
+use mathlib.Core.Bool.{Bool, true, false, cond, not, _&&_, Bool·beq}
 use mathlib.Core.List.{List, [], _∷_, _++_}
 use Prim.Native.Nat.{ℕ, zero, suc, _+_, _*_, _-_, _/_, _%_}
 use lib.ListN.{length, replicate}

@@ -1,0 +1,43 @@
+-- A message depends only on what is told of its slots.
+use mathlib.Core.Path.{_≡_, refl, sym, _∙_}
+use mathlib.Core.Bool.{Bool, true, false}
+use Prim.Native.Nat.{ℕ, zero, suc, _+_, _*_, _<_}
+use native.Mathlib.Omega.{arith}
+use lib.Dec.{ltb}
+use borrow.Author.Tests.{ltb-true}
+use Rattle.laws.specs.Upto.{each}
+use Rattle.schedule.specs.Paper.{Shown}
+use Rattle.sender.specs.Paper.{descriptions, newBit, newBits, bitmapOf, usedOctets, messageOf}
+use Rattle.sender.specs.Coded.{AllLow}
+use Rattle.sender.proofs.Groups.{told, told-none, told-suc, descriptions-groups}
+
+told-agree : (s t : ℕ → Shown) (b : Bool) (n : ℕ) → ((i : ℕ) → i < n → s i ≡ t i) → told s b n ≡ told t b n
+told-agree s t b zero h = told-none s b ∙ sym (told-none t b)
+told-agree s t b (suc n) h =
+    rw (told-suc s b n, told-suc t b n, told-agree s t b n (λ i l. h i (omega arith)), h n (omega arith))
+
+module _ (s t : ℕ → Shown) (n : ℕ) (h : (i : ℕ) → i < n → s i ≡ t i) where
+  pub low-agree : AllLow t n → AllLow s n
+  low-agree low i l = rw (h i l) (low i l)
+
+  pub descriptions-agree : descriptions s n ≡ descriptions t n
+  descriptions-agree = rw (descriptions-groups s n, descriptions-groups t n, told-agree s t true n h, told-agree s t false n h)
+
+  newBit-agree : (i : ℕ) → newBit s n i ≡ newBit t n i
+  newBit-agree i = go (ltb i n) refl
+    where
+      go : (b : Bool) → ltb i n ≡ b → newBit s n i ≡ newBit t n i
+      go true e = rw (h i (ltb-true i n e))
+      go false e = rw e
+
+  newBits-agree : (j k : ℕ) → newBits s n j k ≡ newBits t n j k
+  unfolding newBits
+  newBits-agree j zero = refl
+  newBits-agree j (suc k) = rw (newBits-agree j k, newBit-agree (8 * j + k))
+
+  pub bitmap-agree : bitmapOf s n ≡ bitmapOf t n
+  bitmap-agree = λ x. each (λ (j : ℕ). newBits-agree j 8 x) 6
+
+  pub message-agree : (b : ℕ) → messageOf b s n ≡ messageOf b t n
+  unfolding usedOctets
+  message-agree b = rw (bitmap-agree, descriptions-agree)

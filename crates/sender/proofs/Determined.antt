@@ -1,0 +1,23 @@
+-- Two answers that meet a public contract of this crate are equal, lent memory included.
+use mathlib.Core.Path.{_≡_, sym, ap, _∙_}
+use mathlib.Core.List.{List}
+use Prim.Native.Nat.{ℕ}
+use Rattle.answer.proofs.Inverse.{numberOf-injective, numberOf-positive}
+use Rattle.plan.specs.declared.Plan.{Plan}
+use Rattle.plan.specs.Coded.{planOf}
+use Rattle.sender.specs.Paper.{Writing, write}
+use Rattle.sender.specs.Coded.{writingOf}
+use Rattle.sender.specs.declared.Writing.{Writing as WritingCode}
+use Rattle.sender.specs.declared.Writing.the-variants.{Written, Refused}
+
+writing-injective : (r s : WritingCode) (o q : List ℕ) → writingOf r o ≡ writingOf s q → (r ≡ s) × (o ≡ q)
+writing-injective (Written u) (Written v) o q e = (ap (λ (w : Writing). Written (w .used)) e, ap (λ (w : Writing). w .output) e)
+writing-injective (Written u) (Refused b) o q e = absurd (numberOf-positive b (sym (ap (λ (w : Writing). w .number) e)))
+writing-injective (Refused a) (Written v) o q e = absurd (numberOf-positive a (ap (λ (w : Writing). w .number) e))
+writing-injective (Refused a) (Refused b) o q e =
+    (ap Refused (numberOf-injective a b (ap (λ (w : Writing). w .number) e)), ap (λ (w : Writing). w .output) e)
+
+pub determined-write-schedule : (current previous : Plan) (begin : ℕ) (out : List ℕ) (r s : WritingCode) (o q : List ℕ)
+    → writingOf r o ≡ write (planOf current) (planOf previous) begin out
+    → writingOf s q ≡ write (planOf current) (planOf previous) begin out → (r ≡ s) × (o ≡ q)
+determined-write-schedule current previous begin out r s o q d e = writing-injective r s o q (d ∙ sym e)

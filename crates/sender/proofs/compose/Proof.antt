@@ -1,0 +1,32 @@
+-- `sender::compose` meets its contract.
+use native.Mathlib.Omega.{arith}
+use Rattle.sender.specs.Coded.{shownIn}
+use Rattle.sender.proofs.Groups.{length-descriptions}
+use Rattle.sender.proofs.Message.{message-put}
+use borrow.Author.Needs.{needs}
+use Rattle.sender.proofs.compose.Statement.{statement}
+use Rattle.sender.proofs.compose.Tie as tie
+
+header-requires : tie.Need-header-requires
+header-requires c κs = search needs
+
+put-group-requires : tie.Need-put-group-requires
+put-group-requires c κs =
+    let a = c .before .args in
+    let all = length-descriptions (shownIn (a .slots)) (a .count) in
+    (c .before .pre .1, c .before .pre .2, omega arith)
+
+put-group-requires-2 : tie.Need-put-group-requires-2
+put-group-requires-2 c κs =
+    let a = c .before .before .before .args in
+    let all = length-descriptions (shownIn (a .slots)) (a .count) in
+    (c .before .before .before .pre .1, c .before .before .before .pre .2, omega arith)
+
+returns : tie.Need-returns
+returns c =
+    let a = c .before .before .before .before .before .args in
+    message-put (a .begin) (shownIn (a .slots)) (a .count) _ _ _ _ (c .before .before .before .before .before .pre .3) (c .before .before .before .before .header .ensures)
+    (c .before .before .before .put-group .ensures .0) (c .before .before .before .put-group .ensures .1) (c .before .put-group2 .ensures .0)
+
+pub compose-spec : {M : Type 1} → statement M
+compose-spec = tie.close (tie.spec header-requires put-group-requires put-group-requires-2 returns)

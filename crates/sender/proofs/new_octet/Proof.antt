@@ -1,0 +1,73 @@
+-- `sender::new_octet` meets its contract. The invariant: the bits so far.
+use mathlib.Core.Path.{_≡_, sym}
+use Prim.Native.Nat.{_+_, _*_, _≤_, _-_}
+use native.Mathlib.Omega.{arith}
+use borrow.Author.Needs.{needs}
+use Rattle.sender.specs.Paper.{newBit, newBits}
+use Rattle.sender.specs.Coded.{shownIn}
+use Rattle.sender.proofs.News.{newBit-few, newBits-room, newBits-none, newBits-next}
+use Rattle.sender.proofs.new_octet.Statement.{statement}
+use Rattle.sender.proofs.new_octet.Tie as tie
+
+abbrev Inv-loop : tie.InvT-loop
+Inv-loop slots count j bits₀ k₀ bits k = (k ≤ 8) × (bits ≡ newBits (shownIn slots) count j k)
+
+abbrev μ-loop : tie.MeasureT-loop
+μ-loop slots count j bits₀ k₀ bits k = 8 - k
+
+loop-holds : tie.Need-loop-holds Inv-loop μ-loop
+loop-holds c = (omega arith, sym (newBits-none (shownIn (c .args .slots)) _ _))
+
+mul-bits : tie.Need-mul-bits Inv-loop μ-loop
+mul-bits c =
+    let a = c .before .before .args in
+    omega (arith, newBits-room (shownIn (a .slots)) (a .count) (a .j) (c .before .loop .k) (c .loop-test .taken))
+
+mul-new-bit : tie.Need-mul-new-bit Inv-loop μ-loop
+mul-new-bit c = search needs
+
+add-new-bit : tie.Need-add-new-bit Inv-loop μ-loop
+add-new-bit c = search needs
+
+new-bit-requires : tie.Need-new-bit-requires Inv-loop μ-loop
+new-bit-requires c κs = search needs
+
+add-bits : tie.Need-add-bits Inv-loop μ-loop
+add-bits c =
+    let a = c .before .before .before .args in
+    omega (arith, newBits-room (shownIn (a .slots)) (a .count) (a .j) (c .before .before .loop .k) (c .before .loop-test .taken), newBit-few (shownIn (a .slots)) (a .count) (a .j) (8 * a .j + c .before .before .loop .k))
+
+add-k : tie.Need-add-k Inv-loop μ-loop
+add-k c = search needs
+
+loop-less : tie.Need-loop-less Inv-loop μ-loop
+loop-less c = search needs
+
+loop-again : tie.Need-loop-again Inv-loop μ-loop
+loop-again c =
+    let a = c .before .before .before .args in
+    let l = c .before .before .loop in
+    let b : c .new-bit .result ≡ newBit (shownIn (a .slots)) (a .count) (8 * a .j + l .k) = c .new-bit .ensures in
+    (omega arith, rw (b, l .inv .1) (sym (newBits-next (shownIn (a .slots)) (a .count) (a .j) (l .k))))
+
+returns : tie.Need-returns Inv-loop μ-loop
+returns c =
+    let e : c .before .loop .k ≡ 8 = omega arith in
+    rw e at (c .before .loop .inv .1)
+
+pub new-octet-spec : {M : Type 1} → statement M
+new-octet-spec =
+    tie.close
+    (tie.spec
+    Inv-loop
+    μ-loop
+    loop-holds
+    mul-bits
+    mul-new-bit
+    add-new-bit
+    new-bit-requires
+    add-bits
+    add-k
+    loop-less
+    loop-again
+    returns)

@@ -1,0 +1,70 @@
+-- `sender::width_of_all` meets its contract. The invariant: the octets of the descriptions passed, at most two for each slot.
+use mathlib.Core.Path.{_≡_, sym}
+use Prim.Native.Nat.{_≤_, _-_, _*_}
+use native.Mathlib.Omega.{arith}
+use borrow.Author.Needs.{needs}
+use lib.ListN.{length}
+use Rattle.sender.specs.Paper.{octetsOf, descriptions}
+use Rattle.sender.specs.Coded.{shownIn}
+use Rattle.sender.proofs.Groups.{octetsOf-few, descriptions-none, descriptions-next}
+use Rattle.sender.proofs.width_of_all.Statement.{statement}
+use Rattle.sender.proofs.width_of_all.Tie as tie
+
+abbrev Inv-loop : tie.InvT-loop
+Inv-loop count slots width₀ i₀ width i = (i ≤ count) × (width ≡ length (descriptions (shownIn slots) i)) × (width ≤ 2 * i)
+
+abbrev μ-loop : tie.MeasureT-loop
+μ-loop count slots width₀ i₀ width i = count - i
+
+loop-holds : tie.Need-loop-holds Inv-loop μ-loop
+loop-holds c = (omega arith, sym (descriptions-none (shownIn (c .args .t1))), omega arith)
+
+mul-slot : tie.Need-mul-slot Inv-loop μ-loop
+mul-slot c = search needs
+
+array-copy-out-slot : tie.Need-array-copy-out-slot Inv-loop μ-loop
+array-copy-out-slot c = search needs
+
+width-of-requires : tie.Need-width-of-requires Inv-loop μ-loop
+width-of-requires c κs = search needs
+
+add-width : tie.Need-add-width Inv-loop μ-loop
+add-width c =
+    let t = shownIn (c .before .before .before .before .args .t1) (c .before .before .before .loop .i) .told in
+    omega (arith, octetsOf-few t)
+
+add-i : tie.Need-add-i Inv-loop μ-loop
+add-i c = search needs
+
+loop-less : tie.Need-loop-less Inv-loop μ-loop
+loop-less c = search needs
+
+loop-again : tie.Need-loop-again Inv-loop μ-loop
+loop-again c =
+    let a = c .before .before .before .before .args in
+    let l = c .before .before .before .loop in
+    let t = shownIn (a .t1) (l .i) .told in
+    let next = descriptions-next (shownIn (a .t1)) (l .i) in
+    let w : c .width-of .result ≡ length (octetsOf t) = c .width-of .ensures in
+    (omega arith, omega arith, omega (arith, octetsOf-few t))
+
+returns : tie.Need-returns Inv-loop μ-loop
+returns c =
+    let e : c .before .loop .i ≡ c .before .before .args .count = omega arith in
+    rw e at (c .before .loop .inv .1)
+
+pub width-of-all-spec : {M : Type 1} → statement M
+width-of-all-spec =
+    tie.close
+    (tie.spec
+    Inv-loop
+    μ-loop
+    loop-holds
+    mul-slot
+    array-copy-out-slot
+    width-of-requires
+    add-width
+    add-i
+    loop-less
+    loop-again
+    returns)
