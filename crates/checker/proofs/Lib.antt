@@ -1,0 +1,2 @@
+-- What `checker` proves.
+pub mod Telling
