@@ -1,10 +1,13 @@
 -- What the inner functions give: what the plans say of one slot, and what may be told of it by that.
 use mathlib.Core.Bool.{Bool, true, false, cond, not, _&&_, _||_, Bool·beq}
+use mathlib.Core.List.{List, [], _∷_}
 use Prim.Native.Nat.{ℕ, suc}
 use lib.Dec.{eqb}
-use Rattle.schedule.specs.Paper.{Told, first, again, optional, advised, Shown}
+use Rattle.laws.specs.Ruled.{ruled, unless0}
+use Rattle.schedule.specs.Paper.{Told, first, again, optional, advised, Shown, read}
 use Rattle.plan.specs.Paper.{Plan, hasPage, entryAt, pageAt, lowestAt, low15At}
 use Rattle.checker.specs.declared.Planned.{Planned as PlannedCode}
+use Rattle.checker.specs.Paper.{Checked, unchecked, verdict}
 
 -- a slot's kind; of its page the low 15 bits of the identifier, the lowest slot with it, and whether the previous plan lacks it
 pub record Planned : Type 0 where
@@ -51,3 +54,7 @@ newBy v advised = true
 -- as `isTrue`, by what the plans say
 unfoldable pub trueBy : Planned → ℕ → Shown → Bool
 trueBy v i s = mayTellBy v i (s .told) && Bool·beq (s .new) (newBy v (s .told))
+
+-- what is answered beside good plans of which the current one has slots
+unfoldable pub compared : Plan → Plan → List ℕ → ℕ → Checked
+compared c p m received = ruled unchecked (unless0 (read m received .number) ∷ []) (verdict c p m)

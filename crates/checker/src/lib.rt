@@ -6,7 +6,7 @@ ghost use Rattle.schedule.specs.Coded.{toldOf, shownOf};
 ghost use Rattle.plan.specs.Coded.{planOf};
 ghost use Rattle.checker.specs.Paper.{check};
 ghost use Rattle.checker.specs.Coded.{untrueIn, checkedOf};
-ghost use Rattle.checker.specs.Parts.{plannedOf, plannedAt, leadsBy, repeatsBy, mayTellBy, newBy, trueBy};
+ghost use Rattle.checker.specs.Parts.{plannedOf, plannedAt, leadsBy, repeatsBy, mayTellBy, newBy, trueBy, compared};
 use answer::Refusal;
 use page::PageName;
 use plan::Plan;
@@ -158,21 +158,10 @@ fn first_untrue(current: Plan, previous: Plan, slots: [Slot; 48], count: usize) 
     0
 }
 
-// Checks a message, of which some octets are received, beside the current plan and the previous one.
-pub fn check_schedule(current: Plan, previous: Plan, message: &[u8], received: usize) -> Checking
-    ensures { λ r. ⌜ checkedOf r ≡ check (planOf current) (planOf previous) (now (message .entry)) received ⌝ }
+// Holds a message, of which some octets are received, beside good plans.
+fn compare(current: Plan, previous: Plan, message: &[u8], received: usize) -> Checking
+    ensures { λ r. ⌜ checkedOf r ≡ compared (planOf current) (planOf previous) (now (message .entry)) received ⌝ }
 {
-    let verdict = plan::plan_answer(current);
-    if let Verdict::Refused(why) = verdict {
-        return Checking::Refused(why, 0);
-    }
-    let verdict = plan::plan_answer(previous);
-    if let Verdict::Refused(why) = verdict {
-        return Checking::Refused(why, 0);
-    }
-    if current.count == 0 {
-        return Checking::Refused(Refusal::PlanEmpty, 0);
-    }
     let table = schedule::read_slots(message, received);
     let answer = table.answer;
     match answer {
@@ -189,4 +178,22 @@ pub fn check_schedule(current: Plan, previous: Plan, message: &[u8], received: u
             Checking::Refused(Refusal::Untrue, slot)
         }
     }
+}
+
+// Checks a message, of which some octets are received, beside the current plan and the previous one.
+pub fn check_schedule(current: Plan, previous: Plan, message: &[u8], received: usize) -> Checking
+    ensures { λ r. ⌜ checkedOf r ≡ check (planOf current) (planOf previous) (now (message .entry)) received ⌝ }
+{
+    let verdict = plan::plan_answer(current);
+    if let Verdict::Refused(why) = verdict {
+        return Checking::Refused(why, 0);
+    }
+    let verdict = plan::plan_answer(previous);
+    if let Verdict::Refused(why) = verdict {
+        return Checking::Refused(why, 0);
+    }
+    if current.count == 0 {
+        return Checking::Refused(Refusal::PlanEmpty, 0);
+    }
+    compare(current, previous, message, received)
 }

@@ -1,77 +1,70 @@
+-- `checker::check_schedule` meets its contract: each answer is that of the first test that holds.
+use mathlib.Core.Path.{sym, ap, _∙_}
+use Rattle.answer.proofs.Inverse.{numberOf-positive}
+use Rattle.plan.specs.Coded.{planOf, verdictOf}
+use Rattle.checker.proofs.Answers.{current-refused, previous-refused, empty-refused, good-compared}
 use borrow.Author.Needs.{needs}
 use Rattle.checker.proofs.check_schedule.Statement.{statement}
 use Rattle.checker.proofs.check_schedule.Tie as tie
-use Rattle.checker.proofs.check_schedule.Reads as reads
-use Rattle.checker.proofs.check_schedule.Lts as lts
-use Rattle.checker.proofs.first_untrue.Reads as first-untrue-reads
-use Rattle.plan.proofs.plan_answer.Reads as plan-answer-reads
-use Rattle.schedule.proofs.read_slots.Reads as read-slots-reads
 
--- src/lib.rt:165:9
 plan-answer-requires : tie.Need-plan-answer-requires
 plan-answer-requires c κs = search needs
 
--- src/lib.rt:166:29
 enum-known-verdict : tie.Need-enum-known-verdict
 enum-known-verdict c = search needs
 
--- src/lib.rt:167:9
 returns : tie.Need-returns
-returns c = ?
+returns c =
+    let v = c .before .before .before in
+    let a = v .before .before .args in
+    let why = c .before .verdict .given in
+    current-refused (planOf (a .current)) (planOf (a .previous)) (a .message .now) (a .received) _ (numberOf-positive (why .0 .0)) (sym (ap verdictOf (why .1)) ∙ v .plan-answer .ensures)
 
 enum-told : tie.Need-enum-told
 enum-told c = search needs
 
--- src/lib.rt:169:9
 plan-answer-requires-2 : tie.Need-plan-answer-requires-2
 plan-answer-requires-2 c κs = search needs
 
--- src/lib.rt:170:29
 enum-known-verdict-2 : tie.Need-enum-known-verdict-2
 enum-known-verdict-2 c = search needs
 
--- src/lib.rt:171:9
 returns-2 : tie.Need-returns-2
-returns-2 c = ?
+returns-2 c =
+    let v = c .before .before .before in
+    let u = v .before .before .before in
+    let a = u .before .before .args in
+    let why = c .before .verdict2 .given in
+    previous-refused (planOf (a .current)) (planOf (a .previous)) (a .message .now) (a .received)
+    (sym (u .plan-answer .ensures) ∙ ap verdictOf (v .before .enum-told .given .1))
+    _ (numberOf-positive (why .0 .0)) (sym (ap verdictOf (why .1)) ∙ v .plan-answer2 .ensures)
 
 enum-told-2 : tie.Need-enum-told-2
 enum-told-2 c = search needs
 
--- src/lib.rt:174:9
 returns-3 : tie.Need-returns-3
-returns-3 c = ?
+returns-3 c =
+    let v = c .before .before .before .before in
+    let u = v .before .before .before in
+    let a = u .before .before .args in
+    empty-refused (planOf (a .current)) (planOf (a .previous)) (a .message .now) (a .received)
+    (sym (u .plan-answer .ensures) ∙ ap verdictOf (v .before .enum-told .given .1))
+    (sym (v .plan-answer2 .ensures) ∙ ap verdictOf (c .before .before .enum-told2 .given .1))
+    (c .if1 .taken)
 
--- src/lib.rt:176:9
-read-slots-requires : tie.Need-read-slots-requires
-read-slots-requires c κs = search needs
+compare-requires : tie.Need-compare-requires
+compare-requires c κs = search needs
 
--- src/lib.rt:179:26
-enum-known-answer : tie.Need-enum-known-answer
-enum-known-answer c = search needs
-
--- src/lib.rt:180:26
-enum-known-answer-2 : tie.Need-enum-known-answer-2
-enum-known-answer-2 c = search needs
-
--- src/lib.rt:182:17
 returns-4 : tie.Need-returns-4
-returns-4 c = ?
-
--- src/lib.rt:185:17
-first-untrue-requires : tie.Need-first-untrue-requires
-first-untrue-requires c κs = ?
-
--- src/lib.rt:187:17
-returns-5 : tie.Need-returns-5
-returns-5 c = ?
-
--- src/lib.rt:162:1
-returns-6 : tie.Need-returns-6
-returns-6 c = ?
-
--- src/lib.rt:162:1
-returns-7 : tie.Need-returns-7
-returns-7 c = ?
+returns-4 c =
+    let v = c .before .before .before .before .before in
+    let u = v .before .before .before in
+    let a = u .before .before .args in
+    c .compare .ensures
+    ∙ good-compared (planOf (a .current)) (planOf (a .previous)) (a .message .now) (a .received)
+    (sym (u .plan-answer .ensures) ∙ ap verdictOf (v .before .enum-told .given .1))
+    (sym (v .plan-answer2 .ensures) ∙ ap verdictOf (c .before .before .before .enum-told2 .given .1))
+    (c .before .if1 .left)
 
 pub check-schedule-spec : {M : Type 1} → statement M
 check-schedule-spec =
@@ -86,11 +79,5 @@ check-schedule-spec =
     returns-2
     enum-told-2
     returns-3
-    read-slots-requires
-    enum-known-answer
-    enum-known-answer-2
-    returns-4
-    first-untrue-requires
-    returns-5
-    returns-6
-    returns-7)
+    compare-requires
+    returns-4)
