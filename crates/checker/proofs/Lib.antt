@@ -1,0 +1,4 @@
+-- What `checker` proves.
+pub mod Answers
+pub mod Comparing
+pub mod Telling
