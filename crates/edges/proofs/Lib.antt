@@ -1,0 +1,2 @@
+-- What `edges` proves.
+pub mod ReadsBack

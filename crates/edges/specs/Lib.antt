@@ -1,0 +1,2 @@
+-- What `edges` states.
+pub mod ReadsBack
