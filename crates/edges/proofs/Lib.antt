@@ -1,2 +1,4 @@
 -- What `edges` proves.
+pub mod Accepted
+pub mod Planned
 pub mod ReadsBack

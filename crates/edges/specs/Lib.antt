@@ -1,2 +1,3 @@
 -- What `edges` states.
+pub mod Accepted
 pub mod ReadsBack
