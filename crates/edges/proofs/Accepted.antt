@@ -75,10 +75,9 @@ module _ (c p : Plan) (b : ℕ) (m : List ℕ) (current : planNumber c ≡ 0) (p
       (λ i l.
       let low : i < c .count = omega (arith, r .ends) in
       ap (falseIn (tells m) i) (r .told i low) ∙ planned-repeats c current i low (tells m) (r .told)) in
-      ruled-none unread (schedule.faults m received) (good m)
-      (
+      ruled-none unread (schedule.faults m received) (good m) (
         rw (eq-eqb (length m) 88 (r .whole)),
-        (rw whole-blocks, (rw (eq-eqb (schedule.type m) 0 (r .typed)), (rw within, (bits, (le-ltb received (schedule.place m (end m)) room, (first-told, tt))))))
+        (rw whole-blocks, (rw (eq-eqb (schedule.type m) 0 (r .typed)), (rw within, (bits, (le-ltb received (schedule.place m (end m)) room, (first-told, tt)))))),
       )
     where
       past-none : (i : ℕ) (t : Bool) → leb (end m) i ≡ t → newPast m i ≡ false

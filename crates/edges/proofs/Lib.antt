@@ -1,4 +1,5 @@
 -- What `edges` proves.
 pub mod Accepted
+pub mod Cases
 pub mod Planned
 pub mod ReadsBack

@@ -1,3 +1,4 @@
 -- What `edges` states.
 pub mod Accepted
+pub mod Cases
 pub mod ReadsBack
