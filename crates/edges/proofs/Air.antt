@@ -15,8 +15,14 @@ use Rattle.block.specs.Paper.{Kind, page, schedule, kindNumber, completes, last
 use Rattle.block.specs.History.{after, piece, pieces, expected}
 use Rattle.block.proofs.Taken.{blocks-taken}
 use Rattle.text.specs.Paper as text
-use Rattle.text.proofs.Back.{written-length, used-bounds, text-back-blocks}
-use Rattle.edges.specs.Air.{blockOf, takenAt, Carried, OverTheAir}
+use Rattle.text.proofs.Back.{written-length, text-back-blocks}
+use Rattle.text.proofs.Back as back
+use Rattle.sender.specs.Paper.{usedOctets, padded, planned, Writing, write}
+use Rattle.checker.specs.Paper.{check}
+use Rattle.edges.specs.Air.{blockOf, takenAt, Carried, OverTheAir, OursDelivered}
+use Rattle.edges.proofs.ReadsBack.{reads-back, used-length}
+use Rattle.edges.proofs.Accepted.{used-bounds, ours-accepted}
+use Rattle.edges.proofs.Accepted as ours
 
 pieces-each : (k : Kind) (used : ℕ) (m : List ℕ) (n : ℕ) → pieces k used m n ≡ each (blockOf (blocks k used m 4)) n
 unfolding pieces each
@@ -73,7 +79,7 @@ pub over-the-air : OverTheAir
 over-the-air heading t p o u h z room size good =
     let w = text.written heading t p in
     let whole = written-length heading t p z in
-    let bounds = used-bounds heading t p z in
+    let bounds = back.used-bounds heading t p z in
     let c : Carried page (w .page) (w .used) o h = carries page (w .page) (w .used) o h whole (omega arith) (bounds .1) room good in
     let q = filled (take (22 * lastUsed (w .used)) (w .page)) in
     record {
@@ -83,4 +89,42 @@ over-the-air heading t p o u h z room size good =
           ∙ text-back-blocks heading t p q u z
           (handed-length page (w .page) (w .used) o h whole (omega arith) (bounds .1) room good) size
           (handed-agrees page (w .page) (w .used) o h whole (omega arith) (bounds .1) room good);
+    }
+
+-- 2B that is cut off a padded message is put back
+pub filled-padded : (x : List ℕ) (n : ℕ) → length x ≤ n → n ≤ 88 → filled (take n (padded x)) ≡ padded x
+unfolding padded
+filled-padded x n l h =
+    let a = n - length x in
+    let here : length x + a ≡ n = omega arith in
+    let least : min a (88 - length x) ≡ a = omega arith in
+    let cut : take n (padded x) ≡ x ++ replicate a 43 =
+    ap (λ (k : ℕ). take k (padded x)) (sym here)
+    ∙ take-append-add x (replicate (88 - length x) 43) a
+    ∙ ap (λ (y : List ℕ). x ++ y) (take-replicate a (88 - length x) 43 ∙ ap (λ (k : ℕ). replicate k 43) least) in
+    let size : length (x ++ replicate a 43) ≡ n = length-append x (replicate a 43) ∙ rw length-replicate here in
+    let rest : a + (88 - n) ≡ 88 - length x = omega arith in
+    ap filled cut
+    ∙ rw (size, append-assoc x (replicate a 43) (replicate (88 - n) 43), replicate-append-replicate a (88 - n), rest)
+
+pub ours-delivered : OursDelivered
+ours-delivered c p b m o h z room good =
+    let w = write c p b m in
+    let v = ours.written c p b m z in
+    let bounds = used-bounds c p b m z in
+    let k = 22 * lastUsed (w .used) in
+    let x = usedOctets b (planned c p) (c .count) in
+    let output : w .output ≡ padded x = ap (λ (y : Writing). y .output) (v .result) in
+    let used : w .used ≡ length x = ap (λ (y : Writing). y .used) (v .result) ∙ sym (used-length b (planned c p) (c .count) (v .fits)) in
+    let whole : length (w .output) ≡ 88 = ap length output ∙ reads-back b (planned c p) (c .count) (v .fits) .whole in
+    let sent : Carried schedule (w .output) (w .used) o h = carries schedule (w .output) (w .used) o h whole (bounds .0) (bounds .1) room good in
+    let kept : filled (take k (w .output)) ≡ w .output =
+    ap (λ (y : List ℕ). filled (take k y)) output ∙ filled-padded x k (omega arith) (omega arith) ∙ sym output in
+    record {
+      carried = sent;
+      same = ap (λ (g : Given). g .octets) (sent .handed) ∙ kept;
+      accepted =
+          ap (λ (g : Given). check c p (g .octets) (g .received)) (sent .handed)
+          ∙ ap (λ (y : List ℕ). check c p y k) kept
+          ∙ ours-accepted c p b m z .used;
     }

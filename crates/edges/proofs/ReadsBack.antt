@@ -207,7 +207,7 @@ module _ (b : ℕ) (s : ℕ → Shown) (n : ℕ) (f : Fits b s n) where
       ∙ placed s front pad slots front-eight slots-tellable n (omega (arith, slots-length))
       ∙ rw (take-all n slots (omega (arith, slots-length)), length-append front (octetsOfAll s slots), front-eight)
 
-  used-length : length (usedOctets b s n) ≡ 8 + length (descriptions s n)
+  pub used-length : length (usedOctets b s n) ≡ 8 + length (descriptions s n)
   unfolding usedOctets
   used-length = omega (arith, length-append (bitmapOf s n) (descriptions s n), bits-length)
 
