@@ -4,7 +4,9 @@ use mathlib.Core.Bool.{Bool, true, false, cond}
 use mathlib.Core.List.{List, [], _∷_}
 use mathlib.Core.Logic.{_⊎_, inl, inr}
 use Prim.Native.Nat.{ℕ}
-use Rattle.laws.specs.Ruled.{ruled}
+use lib.Dec.{eqb}
+use borrow.Author.Tests.{eqb-false, not-true}
+use Rattle.laws.specs.Ruled.{ruled, unless0}
 
 module _ {A B : Type 0} (f : A → B) where
   cond-map : (t : Bool) (a b : A) → f (cond t a b) ≡ cond t (f a) (f b)
@@ -39,3 +41,26 @@ ruling {A} by (t ∷ ts) x = go (t .0) refl (ruling by ts x)
     go true e r = refuses (t .1) (inl refl) (rw e)
     go false e (refuses n a q) = refuses n (inr a) (rw e q)
     go false e (passes h q) = passes (e, h) (rw e q)
+
+-- each test that holds has a number other than 0
+abbrev pub Numbered : List (Bool × ℕ) → Type 0
+Numbered [] = Unit {0}
+Numbered (t ∷ ts) = (t .0 ≡ true → t .1 ≡ 0 → ⊥) × Numbered ts
+
+-- an answer by 0 then says that none holds
+pub none-holds : (ts : List (Bool × ℕ)) (x : ℕ) → Numbered ts → ruled (λ (n : ℕ). n) ts x ≡ 0 → NoneHolds ts
+none-holds [] x g e = tt
+none-holds (t ∷ ts) x g e = go (t .0) refl (λ r. none-holds ts x (g .1) r)
+  where
+    go : (b : Bool) → t .0 ≡ b → (ruled (λ (n : ℕ). n) ts x ≡ 0 → NoneHolds ts) → NoneHolds (t ∷ ts)
+    go true q f = absurd (g .0 q (rw q at e))
+    go false q f = (q, f (rw q at e))
+
+-- where none holds, the answer is the one past the tests
+pub ruled-none : {A : Type 0} (by : ℕ → A) (ts : List (Bool × ℕ)) (x : A) → NoneHolds ts → ruled by ts x ≡ x
+ruled-none by [] x h = refl
+ruled-none by (t ∷ ts) x h = rw (h .0) (ruled-none by ts x (h .1))
+
+-- the answer of another call, as a test, has the number 0 only where it doesn't hold
+pub unless0-numbered : (n : ℕ) → unless0 n .0 ≡ true → unless0 n .1 ≡ 0 → ⊥
+unless0-numbered n h e = eqb-false n 0 (not-true (eqb n 0) h) e

@@ -86,6 +86,12 @@ module _ (p : ℕ → Bool) where
       go true e h = rw (e, length-append) (omega arith)
       go false e h = rw (e, length-append) (omega arith)
 
+  -- tests that agree below n pick the same numbers
+  pub picked-agree : (q : ℕ → Bool) (n : ℕ) → ((i : ℕ) → i < n → p i ≡ q i) → picked p n ≡ picked q n
+  unfolding picked
+  picked-agree q zero h = refl
+  picked-agree q (suc n) h = rw (picked-agree q n (λ i l. h i (omega arith)), h n (omega arith))
+
   pub picked-at : (n i : ℕ) → i < n → p i ≡ true → getD (picked p n) (count p i) 0 ≡ i
   unfolding picked
   picked-at zero i l e = absurd (not-suc-le-zero l)

@@ -1,0 +1,19 @@
+-- The cases that document 01 marks P, all computed.
+use mathlib.Core.Path.{refl}
+use Rattle.laws.specs.Radix.{value, digits}
+use Rattle.laws.specs.Search as search
+use Rattle.laws.specs.Upto.{some, count, picked, each}
+use Rattle.alphabet.specs.Paper.{alphabet, septetOf}
+use Rattle.page.specs.Paper.{headerOctets, samePage}
+use Rattle.text.specs.Paper.{septets, packed, pageOf, badParameter, foreign, endsInCr, written}
+use Rattle.block.specs.Paper.{block, blocks}
+use Rattle.block.specs.Paper as cut
+use Rattle.plan.specs.Paper.{bad, planNumber, holds, lowestSlot, hasPage}
+use Rattle.schedule.specs.Paper.{new, place, order, tells, read}
+use Rattle.sender.specs.Paper.{plannedAt, newAt, octetsOfAll, descriptions, newBits, usedOctets, padded, write}
+use Rattle.board.specs.Paper.{isWanted, isHeld, tellsOf, reads, decide}
+use Rattle.edges.specs.Cases.{Edges}
+
+pub edges : Edges
+unfolding value digits search.some search.firstFrom some count picked each alphabet septetOf headerOctets samePage septets packed pageOf badParameter foreign endsInCr written block blocks cut.written bad planNumber holds lowestSlot hasPage new place order tells read plannedAt newAt octetsOfAll descriptions newBits usedOctets padded write isWanted isHeld tellsOf reads decide
+edges = refl

@@ -1,0 +1,96 @@
+-- What is planned for the slots of a good plan: it fits its description, is true, and names no false repeat.
+use mathlib.Core.Path.{_≡_, refl, sym, ap, _∙_}
+use mathlib.Core.Bool.{Bool, true, false, cond, not, Bool·beq, false≢true}
+use mathlib.Core.List.{[], _∷_}
+use Prim.Native.Nat.{ℕ, suc, _-_, _%_, _≤_, _<_}
+use native.Mathlib.Nat.{mod-lt}
+use native.Mathlib.Omega.{arith, by-contra}
+use lib.ListN.{length, List·getD-eq-default}
+use lib.Dec.{eqb, leb, ltb}
+use borrow.Author.Tests.{ltb-true, ltb-false, eqb-true, eqb-false, eq-eqb, ne-eqb, lt-leb}
+use Rattle.laws.specs.Search.{some}
+use Rattle.laws.proofs.Ruled.{none-holds}
+use Rattle.laws.proofs.Search.{some-found}
+use Rattle.plan.specs.Paper.{Entry, Plan, free, within, bad, planNumber, hasPage, entryAt, pageAt, lowestAt, low15At}
+use Rattle.plan.proofs.Lowest.{Leading, leading}
+use Rattle.schedule.specs.Paper.{Told, first, again, optional, advised, isFirst, falseIn}
+use Rattle.sender.specs.Paper.{plannedAt, newAt, planned}
+use Rattle.checker.specs.Paper.{isTrue}
+use Rattle.edges.specs.ReadsBack.{Tellable}
+
+module _ (c : Plan) (good : planNumber c ≡ 0) where
+  none : (ltb 48 (c .count) ≡ false) × (some bad (within c) ≡ false)
+  unfolding planNumber
+  none =
+      let h = none-holds ((ltb 48 (c .count), 32) ∷ (some bad (within c), 33) ∷ []) 0 ((λ t e. omega arith), ((λ t e. omega arith), tt)) good in
+      (h .0, h .1 .0)
+
+  pub few : c .count ≤ 48
+  few = ltb-false 48 (c .count) (none .0)
+
+  pub kind-small : (i : ℕ) → i < c .count → entryAt c i .kind ≤ 2
+  unfolding bad
+  kind-small i l = go (ltb 2 (entryAt c i .kind)) refl
+    where
+      go : (b : Bool) → ltb 2 (entryAt c i .kind) ≡ b → entryAt c i .kind ≤ 2
+      go false e = ltb-false 2 (entryAt c i .kind) e
+      go true e =
+          let high = ltb-true 2 (entryAt c i .kind) e in
+          let inside : i < length (c .entries) =
+          by-contra (suc i) (length (c .entries))
+          (λ far. let free-kind : entryAt c i .kind ≡ 0 = ap (λ (x : Entry). x .kind) (List·getD-eq-default (c .entries) free (omega arith)) in omega arith) in
+          absurd (false≢true (sym (none .1) ∙ some-found bad free (c .count) (c .entries) i l inside (rw e)))
+
+  module _ (i : ℕ) (l : i < c .count) where
+    abbrev kind : ℕ
+    kind = entryAt c i .kind
+
+    pub planned-tellable : Tellable (plannedAt c i)
+    unfolding plannedAt
+    planned-tellable = go (eqb kind 2) (eqb (lowestAt c i) (suc i)) (eqb kind 1) refl
+      where
+        go : (a b d : Bool) → eqb kind 2 ≡ a → Tellable (cond a (cond b (first (low15At c i)) (again (lowestAt c i))) (cond d advised optional))
+        go true true d e = mod-lt (entryAt c i .id) (omega arith)
+        go true false d e = let h = leading c i l (eqb-true kind 2 e) in omega (arith, few)
+        go false b true e = tt
+        go false b false e = tt
+
+    beq-own : (b : Bool) → Bool·beq b b ≡ true
+    beq-own true = refl
+    beq-own false = refl
+
+    pub planned-true : (p : Plan) → isTrue c p i (planned c p i) ≡ true
+    unfolding isTrue plannedAt newAt
+    planned-true p = go (eqb kind 2) (eqb (lowestAt c i) (suc i)) (eqb kind 1) refl refl refl
+      where
+        go : (a b d : Bool) → eqb kind 2 ≡ a → eqb (lowestAt c i) (suc i) ≡ b → eqb kind 1 ≡ d → isTrue c p i (planned c p i) ≡ true
+        go true true d e f g = simp (e, f, eq-eqb (low15At c i) (low15At c i) refl) (beq-own (not (hasPage p (pageAt c i))))
+        go true false d e f g = simp (e, f, eq-eqb (lowestAt c i) (lowestAt c i) refl) (beq-own (not (hasPage p (pageAt c i))))
+        go false b true e f g = rw (e, g, eqb-true kind 1 g)
+        go false b false e f g =
+            let zero-kind : kind ≡ 0 = omega (arith, kind-small i l, eqb-false kind 2 e, eqb-false kind 1 g) in
+            rw (e, g, zero-kind)
+
+    -- the lowest slot of a page is told as a first transmission
+    first-planned : (k : ℕ) → Leading c i k → isFirst (plannedAt c (k - 1)) ≡ true
+    unfolding plannedAt
+    first-planned k h =
+        let own : lowestAt c (k - 1) ≡ suc (k - 1) = h .own ∙ omega arith in
+        rw (eq-eqb (entryAt c (k - 1) .kind) 2 (h .page), eq-eqb (lowestAt c (k - 1)) (suc (k - 1)) own)
+
+    -- so what is planned is no false repeat, in any telling that is as planned below the count
+    pub planned-repeats : (t : ℕ → Told) → ((j : ℕ) → j < c .count → t j ≡ plannedAt c j) → falseIn t i (plannedAt c i) ≡ false
+    unfolding plannedAt
+    planned-repeats t as-planned = go (eqb kind 2) (eqb (lowestAt c i) (suc i)) (eqb kind 1) refl refl
+      where
+        go : (a b d : Bool) → eqb kind 2 ≡ a → eqb (lowestAt c i) (suc i) ≡ b
+            → falseIn t i (cond a (cond b (first (low15At c i)) (again (lowestAt c i))) (cond d advised optional)) ≡ false
+        go true true d e f = refl
+        go true false d e f =
+            let k = lowestAt c i in
+            let h = leading c i l (eqb-true kind 2 e) in
+            let other = eqb-false k (suc i) f in
+            let told-first : isFirst (t (k - 1)) ≡ true = ap isFirst (as-planned (k - 1) (omega arith)) ∙ first-planned k h in
+            rw (ne-eqb k 0 (omega arith), lt-leb (suc i) k (omega arith), told-first)
+        go false b true e f = refl
+        go false b false e f = refl

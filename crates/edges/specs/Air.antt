@@ -1,0 +1,70 @@
+-- Messages that go out in four blocks and are taken in order by a board: pages with text, and our schedule messages.
+use mathlib.Core.Path.{_≡_}
+use mathlib.Core.Bool.{true}
+use mathlib.Core.List.{List, _++_}
+use Prim.Native.Nat.{ℕ, suc, _*_, _-_, _≤_, _<_}
+use lib.ListN.{length, take, drop, replicate}
+use Rattle.laws.specs.Upto.{each}
+use Rattle.page.specs.Paper.{Heading}
+use Rattle.text.specs.Paper as text
+use Rattle.block.specs.Paper.{Kind, page, schedule, completes, lastUsed, Held, Given, filled, start, proper, step, written}
+use Rattle.block.specs.History.{after}
+use Rattle.plan.specs.Paper.{Plan}
+use Rattle.sender.specs.Paper.{write}
+use Rattle.checker.specs.Paper.{check, unchecked}
+
+-- 01 Blocks: block i, counted from 0, of the 92 octets that the block writer leaves
+abbrev pub blockOf : List ℕ → ℕ → List ℕ
+blockOf o i = take 23 (drop (23 * i) o)
+
+-- 01 Blocks, Intake: a message m of kind k is cut into blocks by way of the output o: the answer to block i, after the blocks before it, of a board in state h
+abbrev pub takenAt : Kind → List ℕ → ℕ → List ℕ → Held → ℕ → Given
+takenAt k m used o h i = step (after h (each (blockOf (written m k used o .output)) i)) (blockOf (written m k used o .output) i)
+
+-- 01 Blocks, Intake: the answer to the last used block
+abbrev pub handedOut : Kind → List ℕ → ℕ → List ℕ → Held → Given
+handedOut k m used o h = takenAt k m used o h (lastUsed used - 1)
+
+-- 01 Blocks, Intake: what a board in state h answers to the four blocks
+pub record Carried (k : Kind) (m : List ℕ) (used : ℕ) (o : List ℕ) (h : Held) : Type 0 where
+  -- all four are written
+  pub done : written m k used o .number ≡ 0
+  -- those before the last used one are only taken
+  pub taken : (i : ℕ) → suc i < lastUsed used → takenAt k m used o h i .number ≡ 1
+  -- that one hands the message out, as far as its blocks go and then 2B
+  pub handed : handedOut k m used o h
+      ≡ record { number = completes k; received = 22 * lastUsed used; octets = filled (take (22 * lastUsed used) m); next = start }
+  -- those after it are not next
+  pub ignored : (i : ℕ) → lastUsed used ≤ i → i < 4 → takenAt k m used o h i .number ≡ 6
+
+-- 01 Page and text: what a board in state h is handed of a text t that is written to a page p
+abbrev pub textHanded : Heading → List ℕ → List ℕ → List ℕ → Held → Given
+textHanded heading t p o h = handedOut page (text.written heading t p .page) (text.written heading t p .used) o h
+
+pub record Heard (heading : Heading) (t p o u : List ℕ) (h : Held) : Type 0 where
+  pub carried : Carried page (text.written heading t p .page) (text.written heading t p .used) o h
+  -- read into u, it is the text that was written
+  pub reads : text.reading (textHanded heading t p o h .octets) (textHanded heading t p o h .received) u
+      ≡ record { number = 0; characters = length t; text = t ++ replicate (93 - length t) 0 }
+
+-- 00 demand 2: text written, cut into blocks and taken in order gives the same text, from any proper state, a started one among them
+abbrev pub OverTheAir : Type 0
+OverTheAir =
+    (heading : Heading) (t p o u : List ℕ) (h : Held) → text.written heading t p .number ≡ 0 → length o ≡ 92 → length u ≡ 93 → proper h ≡ true
+    → Heard heading t p o u h
+
+-- 01 The plan, our writer: what a board in state h is handed of the schedule message of c and p with Begin b, written to m
+abbrev pub scheduleHanded : Plan → Plan → ℕ → List ℕ → List ℕ → Held → Given
+scheduleHanded c p b m o h = handedOut schedule (write c p b m .output) (write c p b m .used) o h
+
+pub record Delivered (c p : Plan) (b : ℕ) (m o : List ℕ) (h : Held) : Type 0 where
+  pub carried : Carried schedule (write c p b m .output) (write c p b m .used) o h
+  -- it is the message that was written, with the 2B after its used part
+  pub same : scheduleHanded c p b m o h .octets ≡ write c p b m .output
+  -- and it is accepted with the octets received
+  pub accepted : check c p (scheduleHanded c p b m o h .octets) (scheduleHanded c p b m o h .received) ≡ unchecked 0
+
+-- 00 demand 3: what our sender writes is accepted after blocks and intake too, from any proper state
+abbrev pub OursDelivered : Type 0
+OursDelivered =
+    (c p : Plan) (b : ℕ) (m o : List ℕ) (h : Held) → write c p b m .number ≡ 0 → length o ≡ 92 → proper h ≡ true → Delivered c p b m o h
