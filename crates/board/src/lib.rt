@@ -1,1 +1,236 @@
 // What a board does at a slot: read or skip, and the slots whose pages it holds.
+ghost use mathlib.Core.Path.{_≡_};
+ghost use mathlib.Core.Bool.{_&&_, false};
+ghost use Prim.Native.Nat.{_≤_, _<_};
+ghost use lib.Dec.{eqb, leb};
+ghost use lib.ListN.{take};
+ghost use Rattle.laws.specs.Search.{some};
+ghost use Rattle.schedule.specs.Paper.{falseRepeat};
+ghost use Rattle.schedule.specs.Coded.{toldOf, readOf};
+ghost use Rattle.schedule.specs.Parts.{tellsOf};
+ghost use Rattle.board.specs.Paper.{matches15, isWanted, isHeld, enter, firstMatches, readsFor, entryFor, decide as decideOf, enteredUnder};
+ghost use Rattle.board.specs.Coded.{idsOf, wantedOf, scheduleOf, lentSchedule, decidedOf};
+use answer::Refusal;
+use page::MessageId;
+use schedule::Description;
+use schedule::Reading;
+use schedule::Slot;
+
+// 000 3.5.1: the slots of a period.
+const SLOTS: usize = 48;
+
+// 01 Numbers given, 42: the most identifiers that are wanted at a time.
+const WANTED: usize = 64;
+
+// The identifiers that are wanted; those past the count mean nothing.
+pub struct Wanted {
+    pub count: usize,
+    pub ids: [MessageId; 64],
+}
+
+// The slots whose pages are held: slot n in bit n - 1, and the bits from 48 on mean nothing.
+pub struct Held(pub u64);
+
+// A schedule message and the octets received of it, where there is one.
+pub struct Schedule {
+    pub known: bool,
+    pub message: [u8; 88],
+    pub received: usize,
+}
+
+pub enum Decision {
+    Read,
+    Skip,
+    Refused(Refusal),
+}
+
+// Whether one of the first identifiers matches in 15 bits.
+fn any_matches(ids: [MessageId; 64], count: usize, id: u16) -> bool
+    requires { ⌜ count ≤ 64 ⌝ }
+    ensures { λ r. ⌜ r ≡ some (matches15 id) (take count (idsOf ids)) ⌝ }
+{
+    let mut i = 0;
+    while i < count {
+        let one = ids[i];
+        if one.0 % 0x8000 == id % 0x8000 {
+            return true;
+        }
+        i += 1;
+    }
+    false
+}
+
+fn is_wanted(wanted: Wanted, id: u16) -> bool
+    requires { ⌜ wanted .count ≤ 64 ⌝ }
+    ensures { λ r. ⌜ r ≡ isWanted (wantedOf wanted) id ⌝ }
+{
+    let ids = wanted.ids;
+    any_matches(ids, wanted.count, id)
+}
+
+fn is_held(held: Held, slot: usize) -> bool
+    ensures { λ r. ⌜ r ≡ isHeld (held .0) slot ⌝ }
+{
+    if slot < 1 {
+        return false;
+    }
+    if slot > SLOTS {
+        return false;
+    }
+    (held.0 >> (slot - 1)) % 2 == 1
+}
+
+impl Held {
+    // The set with a slot entered.
+    pub fn with(self, slot: usize) -> Held
+        ensures { λ r. ⌜ r .0 ≡ enter (self .0) slot ⌝ }
+    {
+        if slot < 1 {
+            return self;
+        }
+        if slot > SLOTS {
+            return self;
+        }
+        if is_held(self, slot) {
+            return self;
+        }
+        Held(self.0 + (1u64 << (slot - 1)))
+    }
+}
+
+// Whether a schedule that the reader answered so tells of a slot.
+fn tells_of(answer: Reading, slot: usize) -> bool
+    ensures { λ r. ⌜ r ≡ (eqb (readOf answer .number) 0 && (leb 1 slot && leb slot (readOf answer .end))) ⌝ }
+{
+    let Reading::Read(_, end) = answer else {
+        return false;
+    };
+    if slot < 1 {
+        return false;
+    }
+    slot <= end
+}
+
+// Whether a description is a first transmission that matches.
+fn first_matches(description: Description, wanted: Wanted) -> bool
+    requires { ⌜ wanted .count ≤ 64 ⌝ }
+    ensures { λ r. ⌜ r ≡ firstMatches (wantedOf wanted) (toldOf description) ⌝ }
+{
+    match description {
+        Description::First(id) => is_wanted(wanted, id),
+        Description::Repeat(_) => false,
+        Description::Optional => false,
+        Description::Advised => false,
+    }
+}
+
+// Whether slot i, counted from 0, is read by what is told of it.
+fn reads_for(slots: [Slot; 48], i: usize, wanted: Wanted, held: Held) -> bool
+    requires { ⌜ (i < 48) × (falseRepeat (tellsOf slots) i ≡ false) × (wanted .count ≤ 64) ⌝ }
+    ensures { λ r. ⌜ r ≡ readsFor (tellsOf slots) (wantedOf wanted) (held .0) (tellsOf slots i) ⌝ }
+{
+    let slot = slots[i];
+    let description = slot.description;
+    match description {
+        Description::First(id) => is_wanted(wanted, id),
+        Description::Repeat(octet) => {
+            let n = octet as usize;
+            if is_held(held, n) {
+                return false;
+            }
+            let named = slots[n - 1];
+            let first = named.description;
+            first_matches(first, wanted)
+        }
+        Description::Optional => false,
+        Description::Advised => true,
+    }
+}
+
+// Reads or skips a slot by a lent message, of which there may be none.
+pub fn decide_on(
+    known: bool,
+    message: &[u8],
+    received: usize,
+    slot: usize,
+    wanted: Wanted,
+    held: Held,
+) -> Decision
+    ensures { λ r. ⌜ decidedOf r ≡ decideOf (lentSchedule known (now (message .entry)) received) slot (wantedOf wanted) (held .0) ⌝ }
+{
+    if slot < 1 {
+        return Decision::Refused(Refusal::SlotNumber);
+    }
+    if slot > SLOTS {
+        return Decision::Refused(Refusal::SlotNumber);
+    }
+    if wanted.count > WANTED {
+        return Decision::Refused(Refusal::WantedCount);
+    }
+    if !known {
+        return Decision::Read;
+    }
+    let table = schedule::read_slots(message, received);
+    let answer = table.answer;
+    if !tells_of(answer, slot) {
+        return Decision::Read;
+    }
+    let slots = table.slots;
+    if reads_for(slots, slot - 1, wanted, held) {
+        return Decision::Read;
+    }
+    Decision::Skip
+}
+
+// Reads or skips a slot by a schedule held by value.
+pub fn decide(schedule: Schedule, slot: usize, wanted: Wanted, held: Held) -> Decision
+    ensures { λ r. ⌜ decidedOf r ≡ decideOf (scheduleOf schedule) slot (wantedOf wanted) (held .0) ⌝ }
+{
+    let message = schedule.message;
+    decide_on(
+        schedule.known,
+        &message,
+        schedule.received,
+        slot,
+        wanted,
+        held,
+    )
+}
+
+// The slot that a page got at a slot is entered under, by what is told of the slot.
+fn entry_for(slot: usize, description: Description) -> usize
+    ensures { λ r. ⌜ r ≡ entryFor slot (toldOf description) ⌝ }
+{
+    match description {
+        Description::First(_) => slot,
+        Description::Repeat(first) => first as usize,
+        Description::Optional => slot,
+        Description::Advised => slot,
+    }
+}
+
+// The slot that a page got at a slot is entered under, by a lent message, of which there may be none.
+pub fn entered_under_on(known: bool, message: &[u8], received: usize, slot: usize) -> usize
+    ensures { λ r. ⌜ r ≡ enteredUnder (lentSchedule known (now (message .entry)) received) slot ⌝ }
+{
+    if !known {
+        return slot;
+    }
+    let table = schedule::read_slots(message, received);
+    let answer = table.answer;
+    if !tells_of(answer, slot) {
+        return slot;
+    }
+    let slots = table.slots;
+    let told = slots[slot - 1];
+    let description = told.description;
+    entry_for(slot, description)
+}
+
+// The slot that a page got at a slot is entered under, by a schedule held by value.
+pub fn entered_under(schedule: Schedule, slot: usize) -> usize
+    ensures { λ r. ⌜ r ≡ enteredUnder (scheduleOf schedule) slot ⌝ }
+{
+    let message = schedule.message;
+    entered_under_on(schedule.known, &message, schedule.received, slot)
+}

@@ -1,0 +1,62 @@
+-- The decision case by case, on plain facts.
+use mathlib.Core.Path.{_≡_, refl, sym, ap, _∙_}
+use mathlib.Core.Bool.{Bool, true, false, and-false, and-true}
+use Prim.Native.Nat.{ℕ, suc, _-_, _≤_, _<_}
+use native.Mathlib.Omega.{arith}
+use borrow.Author.Tests.{le-leb, lt-leb, lt-ltb, le-ltb}
+use Rattle.schedule.specs.Paper.{Told, first, again, optional, advised, tells}
+use Rattle.board.specs.Paper.{Wanted, Schedule, isWanted, isHeld, firstMatches, readsFor, tellsOf, reads, decide, undecided, entryFor, enteredUnder}
+use Rattle.board.proofs.Sets.{Slot}
+
+module _ (s : Schedule) (n : ℕ) (w : Wanted) (h : ℕ) where
+  pub decide-low : n < 1 → decide s n w h ≡ undecided 41
+  unfolding decide
+  decide-low l = rw (lt-leb 1 n l)
+
+  pub decide-high : 48 < n → decide s n w h ≡ undecided 41
+  unfolding decide
+  decide-high l =
+      let some : 1 ≤ n = omega arith in
+      rw (le-leb 1 n some, lt-leb n 48 l)
+
+  module _ (i : Slot n) where
+    pub decide-many : 64 < w .count → decide s n w h ≡ undecided 42
+    unfolding decide
+    decide-many m = rw (le-leb 1 n (i .some), le-leb n 48 (i .low), lt-ltb 64 (w .count) m)
+
+    pub decide-reads : w .count ≤ 64 → decide s n w h ≡ record { number = 0; read = reads s n w h }
+    unfolding decide
+    decide-reads m = rw (le-leb 1 n (i .some), le-leb n 48 (i .low), le-ltb 64 (w .count) m)
+
+    -- where the board reads, or skips
+    pub decided-as : (b : Bool) → w .count ≤ 64 → reads s n w h ≡ b → record { number = 0; read = b } ≡ decide s n w h
+    decided-as b m e = sym (decide-reads m ∙ (λ j. record { number = 0; read = e j }))
+
+  pub reads-untold : tellsOf s n ≡ false → reads s n w h ≡ true
+  unfolding reads
+  reads-untold e = rw e
+
+  pub reads-told : tellsOf s n ≡ true → reads s n w h ≡ readsFor (tells (s .message)) w h (tells (s .message) (n - 1))
+  unfolding reads
+  reads-told e = rw e
+
+module _ (s : Schedule) (n : ℕ) where
+  pub entered-untold : tellsOf s n ≡ false → enteredUnder s n ≡ n
+  unfolding enteredUnder
+  entered-untold e = rw e
+
+  pub entered-told : tellsOf s n ≡ true → enteredUnder s n ≡ entryFor n (tells (s .message) (n - 1))
+  unfolding enteredUnder
+  entered-told e = rw e
+
+  pub tells-unknown : s .known ≡ false → tellsOf s n ≡ false
+  unfolding tellsOf
+  tells-unknown e = rw e
+
+-- a repeat, by the held set
+module _ (t : ℕ → Told) (w : Wanted) (h n : ℕ) where
+  pub repeat-held : isHeld h n ≡ true → readsFor t w h (again n) ≡ false
+  repeat-held e = rw e (and-false (firstMatches w (t (n - 1))))
+
+  pub repeat-new : isHeld h n ≡ false → readsFor t w h (again n) ≡ firstMatches w (t (n - 1))
+  repeat-new e = rw e (and-true (firstMatches w (t (n - 1))))

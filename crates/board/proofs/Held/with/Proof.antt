@@ -1,0 +1,38 @@
+-- `board::Held::with` meets its contract: a power of two is added where its bit is clear.
+use mathlib.Core.Path.{_≡_, sym, _∙_}
+use Prim.Native.Nat.{_≤_, _<_, _-_}
+use borrow.Author.Needs.{needs}
+use Rattle.board.proofs.Sets.{Slot, enter-low, enter-high, enter-held, enter-shifted, enter-fits}
+use Rattle.board.proofs.Held.with.Statement.{statement}
+use Rattle.board.proofs.Held.with.Tie as tie
+
+returns : tie.Need-returns
+returns c = sym (enter-low _ _ (c .if1 .taken))
+
+returns-2 : tie.Need-returns-2
+returns-2 c = sym (enter-high _ _ (c .if2 .taken))
+
+is-held-requires : tie.Need-is-held-requires
+is-held-requires c κs = search needs
+
+returns-3 : tie.Need-returns-3
+returns-3 c =
+    let a = c .before .before .before .before .args in
+    sym (enter-held (a .self .0) (a .slot) (record { some = search needs; low = search needs }) (sym (c .before .is-held .ensures) ∙ c .if3 .taken))
+
+shl-t7 : tie.Need-shl-t7
+shl-t7 c = search needs
+
+add-t8 : tie.Need-add-t8
+add-t8 c =
+    let a = c .before .before .before .before .before .args in
+    record { fits = enter-fits (a .self .0) (a .slot) (record { some = search needs; low = search needs }) (sym (c .before .before .is-held .ensures) ∙ c .before .if3 .left) (search needs) }
+
+returns-4 : tie.Need-returns-4
+returns-4 c =
+    let a = c .before .before .before .before .before .args in
+    sym (enter-shifted (a .self .0) (a .slot) (record { some = search needs; low = search needs }) (sym (c .before .before .is-held .ensures) ∙ c .before .if3 .left))
+
+pub with-spec : {M : Type 1} → statement M
+with-spec =
+    tie.close (tie.spec returns returns-2 is-held-requires returns-3 shl-t7 add-t8 returns-4)

@@ -1,0 +1,38 @@
+-- Laws of wanted lists: the loop that looks through one, and which identifiers match.
+use mathlib.Core.Path.{_≡_, refl, sym, ap, _∙_}
+use mathlib.Core.Bool.{true, false}
+use mathlib.Core.List.{List}
+use Prim.Native.Nat.{ℕ, _+_, _%_, _<_}
+use native.Mathlib.Nat.{mod-mod}
+use lib.ListN.{length, getD, take, length-map, List·getD-map}
+use lib.Dec.{eqb}
+use borrow.Author.Tests.{eq-eqb, ne-eqb}
+use Rattle.laws.specs.Search.{some}
+use Rattle.laws.proofs.Search.{some-turn, some-found, some-agree}
+use Rattle.page.specs.declared.MessageId.{MessageId}
+use Rattle.board.specs.Paper.{Wanted, matches15, isWanted}
+use Rattle.board.specs.Coded.{idOf, idsOf}
+
+-- the identifier that stands for one past the end of an array
+abbrev pub none : MessageId
+none = record { 0 = 0 }
+
+module _ (x : ℕ) (ids : List MessageId) (i : ℕ) (inside : i < length ids) where
+  near : i < length (idsOf ids)
+  near = rw length-map inside
+
+  own : getD (idsOf ids) i 0 ≡ getD ids i none .0
+  own = List·getD-map idOf ids i none
+
+  -- one of the first n matches
+  pub matches-found : (n : ℕ) → i < n → getD ids i none .0 % 32768 ≡ x % 32768 → some (matches15 x) (take n (idsOf ids)) ≡ true
+  matches-found n l e = some-found (matches15 x) 0 n (idsOf ids) i l near (rw own (eq-eqb _ _ e))
+
+  -- none of the first so far, and not the next
+  pub matches-turn : (getD ids i none .0 % 32768 ≡ x % 32768 → ⊥) → some (matches15 x) (take i (idsOf ids)) ≡ false → some (matches15 x) (take (i + 1) (idsOf ids)) ≡ false
+  matches-turn e before = some-turn (matches15 x) 0 (idsOf ids) i near before (rw own (ne-eqb _ _ e))
+
+-- the low 15 bits of an identifier match what it matches
+pub low15-wanted : (w : Wanted) (x : ℕ) → isWanted w (x % 32768) ≡ isWanted w x
+unfolding isWanted
+low15-wanted w x = some-agree (matches15 (x % 32768)) (matches15 x) (λ y. ap (eqb (y % 32768)) (mod-mod x 32768)) (take (w .count) (w .ids))

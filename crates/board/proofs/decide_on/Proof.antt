@@ -1,0 +1,79 @@
+-- `board::decide_on` meets its contract: each answer is told from the table of slots.
+use mathlib.Core.Path.{sym, _∙_}
+use mathlib.Core.Bool.{true, false}
+use native.Mathlib.Omega.{arith}
+use borrow.Author.Needs.{needs}
+use borrow.Author.Tests.{not-true, not-false}
+use Rattle.board.specs.Coded.{wantedOf, lentSchedule}
+use Rattle.board.proofs.Cases.{decide-low, decide-high, decide-many, decided-as, reads-untold, tells-unknown}
+use Rattle.board.proofs.Telling.{telling, tells-by, decided-slots}
+use Rattle.board.proofs.decide_on.Statement.{statement}
+use Rattle.board.proofs.decide_on.Tie as tie
+
+returns : tie.Need-returns
+returns c = sym (decide-low _ _ _ _ (c .if1 .taken))
+
+returns-2 : tie.Need-returns-2
+returns-2 c = sym (decide-high _ _ _ _ (c .if2 .taken))
+
+returns-3 : tie.Need-returns-3
+returns-3 c = sym (decide-many _ _ _ _ (record { some = search needs; low = search needs }) (c .if3 .taken))
+
+returns-4 : tie.Need-returns-4
+returns-4 c =
+    let a = c .before .before .before .before .before .before .args in
+    let s = lentSchedule (a .known) (a .message .now) (a .received) in
+    decided-as s (a .slot) (wantedOf (a .wanted)) (a .held .0) (record { some = search needs; low = search needs }) true (search needs)
+    (reads-untold s (a .slot) (wantedOf (a .wanted)) (a .held .0) (tells-unknown s (a .slot) (not-true _ (c .if4 .taken))))
+
+read-slots-requires : tie.Need-read-slots-requires
+read-slots-requires c κs = search needs
+
+tells-of-requires : tie.Need-tells-of-requires
+tells-of-requires c κs = search needs
+
+returns-5 : tie.Need-returns-5
+returns-5 c =
+    let a = c .before .before .before .before .before .before .before .before .before .args in
+    let t = c .before .before .read-slots in
+    let s = lentSchedule (a .known) (a .message .now) (a .received) in
+    decided-as s (a .slot) (wantedOf (a .wanted)) (a .held .0) (record { some = search needs; low = search needs }) true (search needs)
+    (reads-untold s (a .slot) (wantedOf (a .wanted)) (a .held .0)
+    (tells-by (a .known) (a .message .now) (a .received) (a .slot) (t .result) (t .ensures) (not-false _ (c .before .before .before .if4 .left)) false
+    (sym (c .before .tells-of .ensures) ∙ not-true _ (c .if5 .taken))))
+
+reads-for-requires : tie.Need-reads-for-requires
+reads-for-requires c κs =
+    let a = c .before .before .before .before .before .before .before .before .before .before .args in
+    let t = c .before .before .before .read-slots in
+    let g = telling (a .message .now) (a .received) (a .slot) (t .result) (t .ensures) (sym (c .before .before .tells-of .ensures) ∙ not-false _ (c .before .if5 .left)) in
+    (omega (arith, g .some, g .low), g .repeats, search needs)
+
+returns-6 : tie.Need-returns-6
+returns-6 c =
+    let a = c .before .before .before .before .before .before .before .before .before .before .before .before .args in
+    let t = c .before .before .before .before .before .read-slots in
+    decided-slots (a .known) (a .message .now) (a .received) (a .slot) (t .result) (t .ensures) (not-false _ (c .before .before .before .before .before .before .if4 .left)) (sym (c .before .before .before .before .tells-of .ensures) ∙ not-false _ (c .before .before .before .if5 .left))
+    (wantedOf (a .wanted)) (a .held .0) (c .before .reads-for .result) true (record { some = search needs; low = search needs }) (search needs) (c .before .reads-for .ensures) (c .if6 .taken)
+
+returns-7 : tie.Need-returns-7
+returns-7 c =
+    let a = c .before .before .before .before .before .before .before .before .before .before .before .before .args in
+    let t = c .before .before .before .before .before .read-slots in
+    decided-slots (a .known) (a .message .now) (a .received) (a .slot) (t .result) (t .ensures) (not-false _ (c .before .before .before .before .before .before .if4 .left)) (sym (c .before .before .before .before .tells-of .ensures) ∙ not-false _ (c .before .before .before .if5 .left))
+    (wantedOf (a .wanted)) (a .held .0) (c .before .reads-for .result) false (record { some = search needs; low = search needs }) (search needs) (c .before .reads-for .ensures) (c .if6 .left)
+
+pub decide-on-spec : {M : Type 1} → statement M
+decide-on-spec =
+    tie.close
+    (tie.spec
+    returns
+    returns-2
+    returns-3
+    returns-4
+    read-slots-requires
+    tells-of-requires
+    returns-5
+    reads-for-requires
+    returns-6
+    returns-7)
