@@ -22,7 +22,7 @@ use Rattle.schedule.proofs.Once.{rank-onto}
 use Rattle.capi.specs.Paper.{bitOf, codeOf, packedRead, scheduleCall, packedGiven, descriptionCall}
 
 -- a bool as a number
-bit-byte : (b : Bool) → boolByte b ≡ bitOf b
+pub bit-byte : (b : Bool) → boolByte b ≡ bitOf b
 bit-byte true = refl
 bit-byte false = refl
 
@@ -31,7 +31,7 @@ bit-small true = omega arith
 bit-small false = omega arith
 
 -- the slot that is given; 0 for none
-abbrev slotNumber : Given → ℕ
+abbrev pub slotNumber : Given → ℕ
 slotNumber (next i s) = i
 slotNumber noMore = 0
 slotNumber (refusal n) = 0
@@ -47,7 +47,7 @@ module _ (m : List ℕ) (received : ℕ) where
       go (passes h e) = rw e (omega arith, omega arith)
 
   -- a slot that is given is not past End, which has six bits
-  slot-below : (k : ℕ) → k < end m → slotOf m k < end m
+  pub slot-below : (k : ℕ) → k < end m → slotOf m k < end m
   slot-below k l =
       let w = rank-onto m k l in
       let here : slotOf m k ≡ w .slot = ap (slotOf m) (sym (w .ranks)) ∙ order-rank m (w .slot) (w .below) in

@@ -5,7 +5,7 @@ use Prim.Native.Nat.{ℕ, _+_, _*_}
 use Rattle.block.specs.Paper.{Kind, page, schedule, written as writtenBlocks}
 use Rattle.page.specs.Paper.{Heading, handedNumber}
 use Rattle.plan.specs.Paper.{readPlan}
-use Rattle.schedule.specs.Paper.{Told, first, again, optional, advised, Shown, Read, read, Given, next, noMore, refusal, given}
+use Rattle.schedule.specs.Paper.{Told, first, again, optional, advised, Read, read, Given, next, noMore, refusal, given}
 use Rattle.text.specs.Paper.{written, reading}
 
 -- what a call leaves: the number returned, and the memory that it was lent to write
@@ -25,7 +25,7 @@ writeCall h t p = packed (written h t p .number) (written h t p .used) (written 
 abbrev pub readCall : List ℕ → ℕ → List ℕ → Left
 readCall p n t = packed (reading p n t .number) (reading p n t .characters) (reading p n t .text)
 
--- three numbers in one: number + 2^8 × Begin + 2^16 × End
+-- 01 Schedule message: reading a schedule gives Begin and End: number + 2^8 × Begin + 2^16 × End
 abbrev pub packedRead : Read → ℕ
 packedRead r = r .number + 0x100 * r .begin + 0x10000 * r .end
 
@@ -40,11 +40,11 @@ codeOf (again n) = n
 codeOf optional = 0x40
 codeOf advised = 0x41
 
--- a new bit as a number
+-- 01 Schedule message: a new bit as a number
 abbrev pub bitOf : Bool → ℕ
 bitOf new = cond new 1 0
 
--- four numbers in one: number + 2^8 × slot + 2^16 × new bit + 2^32 × code; all are 0 for no more, and all but the number with a refusal
+-- 01 Schedule message, Order: number + 2^8 × slot + 2^16 × new bit + 2^32 × code; all are 0 for no more, and all but the number with a refusal
 abbrev pub packedGiven : Given → ℕ
 packedGiven (next n s) = 0x100 * n + 0x10000 * bitOf (s .new) + 0x100000000 * codeOf (s .told)
 packedGiven noMore = 0

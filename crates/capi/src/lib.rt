@@ -106,6 +106,7 @@ pub extern "C" fn cb_content(page: &[u8], received: usize) -> u32
     }
 }
 
+// The kind that a caller tells.
 fn kind_of(schedule: bool) -> Kind
     ensures { λ r. ⌜ kindOf r ≡ kindIf schedule ⌝ }
 {

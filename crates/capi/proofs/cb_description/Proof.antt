@@ -1,7 +1,6 @@
 -- `capi::cb_description` meets its contract: the schedule room's answer, packed.
-use Prim.Native.Nat.{_<_, _≤_}
+use Prim.Native.Nat.{_<_}
 use native.Mathlib.Omega.{arith}
-use mir.Val.{boolByte}
 use borrow.Author.Needs.{needs}
 use Rattle.capi.proofs.Scheduled.{bit-small, given-small, gives-next, gives-none, gives-refused}
 use Rattle.capi.proofs.cb_description.Statement.{statement}

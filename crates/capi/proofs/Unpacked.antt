@@ -1,0 +1,116 @@
+-- What a call packs into one number is taken out of it again as the header's macros do it: nothing runs into its neighbour.
+use mathlib.Core.Path.{_≡_, refl, ap}
+use mathlib.Core.Bool.{Bool, true, false, _&&_}
+use mathlib.Core.List.{List, [], _∷_}
+use mathlib.Core.Logic.{inl, inr}
+use Prim.Native.Nat.{ℕ, _+_, _*_, _/_, _%_, _≤_, _<_}
+use native.Mathlib.Omega.{arith}
+use lib.Dec.{lit<, ltb}
+use borrow.Author.Tests.{ltb-true}
+use Rattle.laws.specs.Ruled.{ruled}
+use Rattle.laws.proofs.Ruled.{Among, Ruling, refuses, passes, ruling}
+use Rattle.laws.proofs.Tests.{both}
+use Rattle.page.specs.Paper.{Heading}
+use Rattle.plan.specs.Paper.{Read as PlanRead, held, listed, faults as planFaults, refusal as planRefusal, readPlan}
+use Rattle.schedule.specs.Paper.{end, faults, Read, unread, good, read, Shown, Given, next, noMore, refusal, givenAt, given}
+use Rattle.text.specs.Paper.{Writing, written, writerTests, usedOctets, pageOf, Reading, reading, readerTests, shown, trimmed, received}
+use Rattle.capi.specs.Paper.{bitOf, codeOf, packedGiven, writeCall, readCall, scheduleCall, descriptionCall, planCall}
+use Rattle.capi.proofs.Scheduled.{bit-byte, bit-small, ends-small, slot-small, slotNumber}
+
+-- the numbers of some tests fit eight bits
+abbrev fitting : List (Bool × ℕ) → Bool
+fitting [] = true
+fitting (t ∷ ts) = ltb (t .1) 256 && fitting ts
+
+among-fitting : (n : ℕ) (ts : List (Bool × ℕ)) → fitting ts ≡ true → Among n ts → n < 256
+among-fitting n [] f a = absurd a
+among-fitting n (t ∷ ts) f (inl e) = rw e (ltb-true (t .1) 256 (both (ltb (t .1) 256) (fitting ts) f .0))
+among-fitting n (t ∷ ts) f (inr a) = among-fitting n ts (both (ltb (t .1) 256) (fitting ts) f .1) a
+
+-- so does the number that they answer with
+ruled-fitting : {A : Type 0} (number : A → ℕ) (by : ℕ → A) (ts : List (Bool × ℕ)) (x : A)
+    → ((n : ℕ) → n < 256 → number (by n) < 256) → fitting ts ≡ true → number x < 256 → number (ruled by ts x) < 256
+ruled-fitting {A} number by ts x back f small = go (ruling by ts x)
+  where
+    go : {r : A} → Ruling by ts x r → number r < 256
+    go (refuses n a e) = rw e (back n (among-fitting n ts f a))
+    go (passes h e) = rw e small
+
+-- two numbers in one taken apart, and the four of a description
+apart : (n c : ℕ) → n < 256 → ((n + 256 * c) % 256 ≡ n) × ((n + 256 * c) / 256 ≡ c)
+apart n c l = (omega arith, omega arith)
+
+apart-four : (i b c : ℕ) → i < 64 → b ≤ 1
+    → ((0x100 * i + 0x10000 * b + 0x100000000 * c) % 256 ≡ 0)
+    × ((0x100 * i + 0x10000 * b + 0x100000000 * c) / 0x100 % 256 ≡ i)
+    × ((0x100 * i + 0x10000 * b + 0x100000000 * c) / 0x10000 % 256 ≡ b)
+    × ((0x100 * i + 0x10000 * b + 0x100000000 * c) / 0x100000000 ≡ c)
+apart-four i b c h l = (omega arith, omega arith, omega arith, omega arith)
+
+-- the number of a refusal that is given; 0 for none
+abbrev refusalNumber : Given → ℕ
+refusalNumber (next i s) = 0
+refusalNumber noMore = 0
+refusalNumber (refusal n) = n
+
+written-fits : (h : Heading) (t p : List ℕ) → written h t p .number < 256
+unfolding written
+written-fits h t p =
+    ruled-fitting (λ (w : Writing). w .number) (λ (n : ℕ). record { number = n; used = 0; page = p }) (writerTests h t p)
+    (record { number = 0; used = usedOctets t; page = pageOf h t }) (λ n l. l)
+    refl (lit< tt)
+
+reading-fits : (p : List ℕ) (n : ℕ) (t : List ℕ) → reading p n t .number < 256
+unfolding reading shown
+reading-fits p n t =
+    ruled-fitting (λ (w : Reading). w .number) (λ (m : ℕ). record { number = m; characters = 0; text = t }) (readerTests p n t)
+    (shown (trimmed (received p n))) (λ n l. l) refl (lit< tt)
+
+plan-fits : (f : List ℕ) → readPlan f .number < 256
+unfolding readPlan
+plan-fits f =
+    ruled-fitting (λ (r : PlanRead). r .number) planRefusal (planFaults f) (record { number = 0; plan = held (listed f) }) (λ n l. l)
+    refl (lit< tt)
+
+read-fits : (m : List ℕ) (n : ℕ) → read m n .number < 256
+unfolding read
+read-fits m n = ruled-fitting (λ (r : Read). r .number) unread (faults m n) (good m) (λ n l. l) refl (lit< tt)
+
+given-fits : (m : List ℕ) (n k : ℕ) → refusalNumber (given m n k) < 256
+unfolding given
+given-fits m n k = ruled-fitting refusalNumber refusal (faults m n) (givenAt m k) (λ n l. l) refl (none (ltb k (end m)) refl)
+  where
+    none : (b : Bool) → ltb k (end m) ≡ b → refusalNumber (givenAt m k) < 256
+    none true e = rw e (lit< tt)
+    none false e = rw e (lit< tt)
+
+pub unpacked-write-text : (h : Heading) (t p : List ℕ)
+    → (writeCall h t p .returned % 256 ≡ written h t p .number) × (writeCall h t p .returned / 256 ≡ written h t p .used)
+unpacked-write-text h t p = apart (written h t p .number) (written h t p .used) (written-fits h t p)
+
+pub unpacked-read-text : (p : List ℕ) (n : ℕ) (t : List ℕ)
+    → (readCall p n t .returned % 256 ≡ reading p n t .number) × (readCall p n t .returned / 256 ≡ reading p n t .characters)
+unpacked-read-text p n t = apart (reading p n t .number) (reading p n t .characters) (reading-fits p n t)
+
+pub unpacked-read-plan : (f : List ℕ) → (planCall f % 256 ≡ readPlan f .number) × (planCall f / 256 ≡ readPlan f .plan .count)
+unpacked-read-plan f = apart (readPlan f .number) (readPlan f .plan .count) (plan-fits f)
+
+module _ (m : List ℕ) (n : ℕ) where
+  pub unpacked-read-schedule : (scheduleCall m n % 256 ≡ read m n .number) × (scheduleCall m n / 256 % 256 ≡ read m n .begin) × (scheduleCall m n / 0x10000 ≡ read m n .end)
+  unpacked-read-schedule =
+      let number = read-fits m n in
+      let ends = ends-small m n in
+      (omega (arith, number, ends .0, ends .1), omega (arith, number, ends .0, ends .1), omega (arith, number, ends .0, ends .1))
+
+  -- a description that is given
+  pub unpacked-next : (k i : ℕ) (s : Shown) → given m n k ≡ next i s
+      → (descriptionCall m n k % 256 ≡ 0) × (descriptionCall m n k / 0x100 % 256 ≡ i) × (descriptionCall m n k / 0x10000 % 256 ≡ bitOf (s .new)) × (descriptionCall m n k / 0x100000000 ≡ codeOf (s .told))
+  unpacked-next k i s g =
+      let few : i < 64 = omega (arith, slot-small m n k, ap slotNumber g) in
+      rw (ap packedGiven g) (apart-four i (bitOf (s .new)) (codeOf (s .told)) few (omega (arith, bit-byte (s .new), bit-small (s .new))))
+
+  -- a refusal
+  pub unpacked-refusal : (k r : ℕ) → given m n k ≡ refusal r → (descriptionCall m n k % 256 ≡ r) × (descriptionCall m n k / 0x100 ≡ 0)
+  unpacked-refusal k r g =
+      let few : r < 256 = omega (arith, given-fits m n k, ap refusalNumber g) in
+      rw (ap packedGiven g) (omega arith, omega arith)
