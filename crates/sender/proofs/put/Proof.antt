@@ -19,10 +19,12 @@ add-filled c =
     let low : c .before .description .given .0 .0 < 32768 = rw (ap toldOf (c .before .description .given .1)) at (c .before .before .before .pre .0) in
     omega arith
 
+-- a first transmission has room for its two octets
+room-for-two : (c : tie.After-known-told) → c .before .before .before .args .at + 2 ≤ 88
+room-for-two c = rw (ap toldOf (c .before .description .given .1)) at (c .before .before .before .pre .1)
+
 array-write-filled : tie.Need-array-write-filled
-array-write-filled c =
-    let room : c .before .before .before .args .at + 2 ≤ 88 = rw (ap toldOf (c .before .description .given .1)) at (c .before .before .before .pre .1) in
-    omega arith
+array-write-filled c = omega (arith, room-for-two c)
 
 cast-filled-2 : tie.Need-cast-filled-2
 cast-filled-2 c = search needs
@@ -31,9 +33,7 @@ add-filled-2 : tie.Need-add-filled-2
 add-filled-2 c = search needs
 
 array-write-filled-2 : tie.Need-array-write-filled-2
-array-write-filled-2 c =
-    let room : c .before .before .before .args .at + 2 ≤ 88 = rw (ap toldOf (c .before .description .given .1)) at (c .before .before .before .pre .1) in
-    omega arith
+array-write-filled-2 c = omega (arith, room-for-two c)
 
 add-t13 : tie.Need-add-t13
 add-t13 c = search needs
