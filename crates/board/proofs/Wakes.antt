@@ -1,0 +1,107 @@
+-- A board that obeys an accepted schedule reads what it must, and reads nothing else.
+use mathlib.Core.Path.{_≡_, refl, sym, ap, _∙_}
+use mathlib.Core.Bool.{Bool, true, false, not, _&&_, false≢true}
+use mathlib.Core.List.{List, [], _∷_}
+use mathlib.Core.Logic.{_⊎_, inl, inr, ⊎-elim}
+use Prim.Native.Nat.{ℕ, suc, _-_, _%_, _≤_, _<_}
+use native.Mathlib.Omega.{arith}
+use lib.Dec.{eqb, leb}
+use lib.ListN.{take}
+use borrow.Author.Tests.{eq-eqb, eqb-true, le-leb, not-true}
+use Rattle.laws.specs.Search.{some}
+use Rattle.laws.proofs.Tests.{both}
+use Rattle.schedule.specs.Paper.{Told, first, again, optional, advised, tells, end, read}
+use Rattle.plan.specs.Paper.{Plan, entryAt, lowestAt, low15At}
+use Rattle.plan.proofs.Lowest.{leading}
+use Rattle.checker.specs.Truthful.{Truthful}
+use Rattle.board.specs.Paper.{Wanted, isWanted, isHeld, firstMatches, readsFor, tellsOf, decide, enteredUnder, entryFor}
+use Rattle.board.specs.Claims.{obeyed, WantedPage, Wakes, Why, marked, led, repeated, WakesOnly}
+use Rattle.board.proofs.Cases.{decide-reads, reads-told, entered-told}
+use Rattle.board.proofs.Matching.{low15-wanted, wanted-matches}
+use Rattle.board.proofs.Planned.{Planned, free-slot, advised-slot, lowest-slot, later-slot, planned, low-count}
+use Rattle.board.proofs.Sets.{Slot}
+
+module _ (c p : Plan) (m : List ℕ) (received : ℕ) (t : Truthful c p m received) where
+  -- the schedule tells of every slot of the plan
+  tells-slot : (i : ℕ) → i < c .count → tellsOf (obeyed m received) (suc i) ≡ true
+  unfolding tellsOf
+  tells-slot i l =
+      let some : 1 ≤ suc i = omega arith in
+      let near : suc i ≤ end m = omega (arith, t .ends) in
+      simp (eq-eqb (read m received .number) 0 (t .reads), le-leb 1 (suc i) some, le-leb (suc i) (end m) near)
+
+  pub slot-number : (i : ℕ) → i < c .count → Slot (suc i)
+  slot-number i l = record { some = omega arith; low = omega (arith, low-count c p m received t i l) }
+
+  own : (i : ℕ) → suc i - 1 ≡ i
+  own i = omega arith
+
+  -- a page of the lowest slot with it is entered under that slot
+  pub entered-own : (i : ℕ) → i < c .count → entryAt c i .kind ≡ 2 → lowestAt c i ≡ suc i → enteredUnder (obeyed m received) (suc i) ≡ suc i
+  entered-own i l k o =
+      entered-told (obeyed m received) (suc i) (tells-slot i l)
+      ∙ ap (λ (j : ℕ). entryFor (suc i) (tells m j)) (own i)
+      ∙ ⊎-elim (λ e. ap (entryFor (suc i)) e) (λ e. ap (entryFor (suc i)) e) (t .slots i l .lowest-slot k o)
+
+  module _ (w : Wanted) (few : w .count ≤ 64) where
+    reads-for : (h i : ℕ) → i < c .count → decide (obeyed m received) (suc i) w h ≡ record { number = 0; read = readsFor (tells m) w h (tells m i) }
+    reads-for h i l =
+        let e = reads-told (obeyed m received) (suc i) w h (tells-slot i l) ∙ ap (λ (j : ℕ). readsFor (tells m) w h (tells m j)) (own i) in
+        decide-reads (obeyed m received) (suc i) w h (slot-number i l) few ∙ (λ j. record { number = 0; read = e j })
+
+    pub wakes-truthful : Wakes c m received w
+    wakes-truthful h i q o =
+        let told = t .slots i (q .below) .lowest-slot (q .page) o in
+        let wanted : isWanted w (low15At c i) ≡ true = low15-wanted w (entryAt c i .id) ∙ wanted-matches w (entryAt c i .id) (q .wanted) in
+        let e : readsFor (tells m) w h (tells m i) ≡ true =
+        ⊎-elim (λ f. ap (readsFor (tells m) w h) f ∙ wanted) (λ a. ap (readsFor (tells m) w h) a) told in
+        reads-for h i (q .below) ∙ (λ j. record { number = 0; read = e j })
+
+    -- why a repeat is read
+    module _ (h i : ℕ) (l : i < c .count) (k : entryAt c i .kind ≡ 2) where
+      lead : ℕ
+      lead = lowestAt c i - 1
+
+      -- the lowest slot, where it is told as a first transmission that matches
+      record Matches : Type 0 where
+        told : tells m lead ≡ first (low15At c i)
+        wanted : isWanted w (entryAt c i .id) ≡ true
+
+      matches : firstMatches w (tells m lead) ≡ true → Matches
+      unfolding lead
+      matches e =
+          let a = leading c i l k in
+          let same : lead ≡ lowestAt c i - 1 = refl in
+          let below : lead < c .count = omega (arith, a .some, a .reaches) in
+          let number : lowestAt c lead ≡ suc lead = a .own ∙ (omega (arith, a .some)) in
+          ⊎-elim
+          (λ f.
+          let alike : low15At c lead ≡ low15At c i = ap (λ (x : ℕ). x % 32768) (a .id) in
+          record {
+            told = f ∙ ap first alike;
+            wanted = sym (low15-wanted w (entryAt c i .id)) ∙ ap (isWanted w) (sym alike) ∙ sym (ap (firstMatches w) f) ∙ e;
+          })
+          (λ s. absurd (false≢true (sym (ap (firstMatches w) s) ∙ e)))
+          (t .slots lead below .lowest-slot (a .page) number)
+
+    pub wakes-only-truthful : WakesOnly c m received w
+    unfolding lead
+    wakes-only-truthful h i l r = go (planned c p m received t i l)
+      where
+        reads : readsFor (tells m) w h (tells m i) ≡ true
+        reads = sym (ap (λ d. d .read) (reads-for h i l)) ∙ r
+
+        skipped : tells m i ≡ optional → ⊥
+        skipped e = false≢true (sym (ap (readsFor (tells m) w h) e) ∙ reads)
+
+        go : Planned c m i → Why c m w h i
+        go (free-slot e) = absurd (skipped e)
+        go (advised-slot e) = marked e
+        go (lowest-slot k o (inl e)) = led e k o (sym (low15-wanted w (entryAt c i .id)) ∙ sym (ap (readsFor (tells m) w h) e) ∙ reads)
+        go (lowest-slot k o (inr e)) = marked e
+        go (later-slot k o (inl e)) =
+            let q = both (firstMatches w (tells m (lowestAt c i - 1))) (not (isHeld h (lowestAt c i))) (sym (ap (readsFor (tells m) w h) e) ∙ reads) in
+            let f = matches h i l k (q .0) in
+            repeated e k o (f .told) (f .wanted) (not-true (isHeld h (lowestAt c i)) (q .1))
+        go (later-slot k o (inr (inl e))) = marked e
+        go (later-slot k o (inr (inr e))) = absurd (skipped e)
