@@ -1,28 +1,27 @@
 -- What our writer writes is accepted.
 use mathlib.Core.Path.{_≡_, refl, sym, ap, _∙_}
-use mathlib.Core.Bool.{Bool, true, false, cond, not, _&&_}
+use mathlib.Core.Bool.{Bool, true, false, not}
 use mathlib.Core.List.{List}
-use Prim.Native.Nat.{ℕ, zero, suc, _+_, _*_, _/_, _≤_, _<_}
+use Prim.Native.Nat.{ℕ, zero, suc, _+_, _*_, _≤_, _<_}
 use native.Mathlib.Omega.{arith}
 use lib.ListN.{length}
-use lib.Dec.{eqb, leb, ltb}
+use lib.Dec.{leb}
 use borrow.Author.Tests.{ltb-false, leb-true, eqb-true, eqb-false, eq-eqb, ne-eqb, le-leb, le-ltb, not-false}
-use Rattle.laws.specs.Ruled.{ruled}
 use Rattle.laws.specs.Upto.{some, lowest}
 use Rattle.laws.proofs.Lowest.{lowest-none}
 use Rattle.laws.proofs.Ruled.{ruled-map, none-holds, ruled-none, unless0-numbered}
 use Rattle.laws.proofs.Tests.{both}
 use Rattle.laws.proofs.Upto.{some-none}
 use Rattle.plan.specs.Paper.{Plan, planNumber}
-use Rattle.schedule.specs.Paper.{Told, Shown, shown, blocks, end, tells, new, falseIn, falseRepeat, newPast, Read, unread, good, read}
+use Rattle.schedule.specs.Paper.{Shown, shown, blocks, end, tells, new, falseIn, falseRepeat, newPast, Read, unread, good, read}
 use Rattle.schedule.specs.Paper as schedule
-use Rattle.sender.specs.Paper.{planned, plannedAt, descriptions, messageOf, Writing, unwritten, message, write}
+use Rattle.sender.specs.Paper.{planned, descriptions, messageOf, Writing, unwritten, message, write}
 use Rattle.sender.specs.Paper as sender
-use Rattle.checker.specs.Paper.{isTrue, untrue, Checked, unchecked, verdict, check}
+use Rattle.checker.specs.Paper.{isTrue, untrue, unchecked, verdict, check}
 use Rattle.checker.specs.Paper as checker
 use Rattle.block.specs.Paper.{lastUsed}
 use Rattle.edges.specs.ReadsBack.{Fits, Reads}
-use Rattle.edges.specs.Accepted.{Accepted, OursAccepted}
+use Rattle.edges.specs.Accepted.{OursAccepted}
 use Rattle.edges.proofs.ReadsBack.{reads-back}
 use Rattle.edges.proofs.Planned.{few, planned-tellable, planned-true, planned-repeats}
 

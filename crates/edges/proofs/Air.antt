@@ -1,16 +1,15 @@
 -- Messages that go out in four blocks and are taken in order by a board.
 use mathlib.Core.Path.{_≡_, refl, sym, ap, _∙_}
 use mathlib.Core.Bool.{true, cond}
-use mathlib.Core.List.{List, [], _∷_, _++_, append-assoc}
-use Prim.Native.Nat.{ℕ, zero, suc, _+_, _*_, _-_, _/_, _≤_, _<_, min}
+use mathlib.Core.List.{List, _++_, append-assoc}
+use Prim.Native.Nat.{ℕ, zero, suc, _+_, _*_, _-_, _≤_, _<_, min}
 use native.Mathlib.Omega.{arith}
-use lib.ListN.{length, take, drop, replicate, length-append, length-take, length-replicate, replicate-append-replicate}
+use lib.ListN.{length, take, replicate, length-append, length-replicate, replicate-append-replicate}
 use lib.Seq.{length-take-le, take-at, take-append-add}
 use lib.Dec.{eqb}
 use borrow.Author.Tests.{eq-eqb, ne-eqb, lt-ltb, le-ltb}
 use Rattle.laws.specs.Upto.{each}
 use Rattle.laws.proofs.Parts.{take-replicate}
-use Rattle.laws.proofs.Ruled.{ruled-none}
 use Rattle.block.specs.Paper.{Kind, page, schedule, kindNumber, completes, lastUsed, blocks, Held, Given, Left, filled, start, proper, step, written}
 use Rattle.block.specs.History.{after, piece, pieces, expected}
 use Rattle.block.proofs.Taken.{blocks-taken}

@@ -1,6 +1,6 @@
 -- The cases that document 01 marks P: for each, what the definitions give and what the document says, as lists of numbers.
 use mathlib.Core.Path.{_≡_}
-use mathlib.Core.Bool.{Bool, true, cond}
+use mathlib.Core.Bool.{true, cond}
 use mathlib.Core.List.{List, [], _∷_, _++_, map}
 use Prim.Native.Nat.{ℕ, _+_, _*_, _-_, _%_}
 use lib.ListN.{getD, take, drop, replicate}
@@ -11,7 +11,7 @@ use Rattle.block.specs.Paper as block
 use Rattle.plan.specs.Paper.{Entry, Plan, held, empty}
 use Rattle.schedule.specs.Paper as schedule
 use Rattle.sender.specs.Paper as sender
-use Rattle.board.specs.Paper.{Wanted, Schedule, Decided, decide}
+use Rattle.board.specs.Paper.{Decided, decide}
 
 -- 01 Blocks: the type octets of the four blocks of a page with some used octets
 abbrev pub types : ℕ → List ℕ
