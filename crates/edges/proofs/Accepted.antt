@@ -91,7 +91,7 @@ module _ (c p : Plan) (b : ℕ) (m : List ℕ) (current : planNumber c ≡ 0) (p
       let same : shown m i ≡ planned c p i = λ x. record { new = r .marks i l x; told = r .told i l x } in
       ap (λ (s : Shown). not (isTrue c p i s)) same ∙ ap not (planned-true c current i l p))
 
-  pub accepts : (c .count ≡ 0 → ⊥) → (received : ℕ) → blocks received ≡ true → 8 + length (descriptions (planned c p) (c .count)) ≤ received
+  accepts : (c .count ≡ 0 → ⊥) → (received : ℕ) → blocks received ≡ true → 8 + length (descriptions (planned c p) (c .count)) ≤ received
       → check c p m received ≡ unchecked 0
   unfolding check
   accepts slots received whole-blocks enough =
@@ -113,7 +113,7 @@ used-blocks used some most = (go (lastUsed used) (omega arith) (omega arith), om
     go (suc (suc (suc (suc (suc j))))) l h = absurd (omega arith)
 
 module _ (c p : Plan) (b : ℕ) (o : List ℕ) (z : write c p b o .number ≡ 0) where
-  -- what is known of the used octets and the output
+  -- some octets are used, and at most the message
   pub used-bounds : (1 ≤ write c p b o .used) × (write c p b o .used ≤ 88)
   used-bounds =
       let w = written c p b o z in
@@ -121,7 +121,7 @@ module _ (c p : Plan) (b : ℕ) (o : List ℕ) (z : write c p b o .number ≡ 0)
       (omega arith, omega (arith, w .fits .short))
 
   -- the message is accepted wherever its used octets are received
-  pub accepted-received : (received : ℕ) → blocks received ≡ true → write c p b o .used ≤ received → check c p (write c p b o .output) received ≡ unchecked 0
+  accepted-received : (received : ℕ) → blocks received ≡ true → write c p b o .used ≤ received → check c p (write c p b o .output) received ≡ unchecked 0
   accepted-received received whole-blocks enough =
       let w = written c p b o z in
       let e : write c p b o .used ≡ 8 + length (descriptions (planned c p) (c .count)) = ap (λ (x : Writing). x .used) (w .result) in

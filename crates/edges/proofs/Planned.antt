@@ -18,6 +18,7 @@ use Rattle.sender.specs.Paper.{plannedAt, newAt, planned}
 use Rattle.checker.specs.Paper.{isTrue}
 use Rattle.edges.specs.ReadsBack.{Tellable}
 
+-- a good plan has at most 48 slots, of no kind but 0, 1 and 2
 module _ (c : Plan) (good : planNumber c ≡ 0) where
   none : (ltb 48 (c .count) ≡ false) × (some bad (within c) ≡ false)
   unfolding planNumber
@@ -28,7 +29,7 @@ module _ (c : Plan) (good : planNumber c ≡ 0) where
   pub few : c .count ≤ 48
   few = ltb-false 48 (c .count) (none .0)
 
-  pub kind-small : (i : ℕ) → i < c .count → entryAt c i .kind ≤ 2
+  kind-small : (i : ℕ) → i < c .count → entryAt c i .kind ≤ 2
   unfolding bad
   kind-small i l = go (ltb 2 (entryAt c i .kind)) refl
     where
