@@ -1,28 +1,27 @@
 -- What our writer writes is accepted.
 use mathlib.Core.Path.{_≡_, refl, sym, ap, _∙_}
-use mathlib.Core.Bool.{Bool, true, false, cond, not, _&&_}
+use mathlib.Core.Bool.{Bool, true, false, not}
 use mathlib.Core.List.{List}
-use Prim.Native.Nat.{ℕ, zero, suc, _+_, _*_, _/_, _≤_, _<_}
+use Prim.Native.Nat.{ℕ, zero, suc, _+_, _*_, _≤_, _<_}
 use native.Mathlib.Omega.{arith}
 use lib.ListN.{length}
-use lib.Dec.{eqb, leb, ltb}
+use lib.Dec.{leb}
 use borrow.Author.Tests.{ltb-false, leb-true, eqb-true, eqb-false, eq-eqb, ne-eqb, le-leb, le-ltb, not-false}
-use Rattle.laws.specs.Ruled.{ruled}
 use Rattle.laws.specs.Upto.{some, lowest}
 use Rattle.laws.proofs.Lowest.{lowest-none}
 use Rattle.laws.proofs.Ruled.{ruled-map, none-holds, ruled-none, unless0-numbered}
 use Rattle.laws.proofs.Tests.{both}
 use Rattle.laws.proofs.Upto.{some-none}
 use Rattle.plan.specs.Paper.{Plan, planNumber}
-use Rattle.schedule.specs.Paper.{Told, Shown, shown, blocks, end, tells, new, falseIn, falseRepeat, newPast, Read, unread, good, read}
+use Rattle.schedule.specs.Paper.{Shown, shown, blocks, end, tells, new, falseIn, falseRepeat, newPast, Read, unread, good, read}
 use Rattle.schedule.specs.Paper as schedule
-use Rattle.sender.specs.Paper.{planned, plannedAt, descriptions, messageOf, Writing, unwritten, message, write}
+use Rattle.sender.specs.Paper.{planned, descriptions, messageOf, Writing, unwritten, message, write}
 use Rattle.sender.specs.Paper as sender
-use Rattle.checker.specs.Paper.{isTrue, untrue, Checked, unchecked, verdict, check}
+use Rattle.checker.specs.Paper.{isTrue, untrue, unchecked, verdict, check}
 use Rattle.checker.specs.Paper as checker
 use Rattle.block.specs.Paper.{lastUsed}
 use Rattle.edges.specs.ReadsBack.{Fits, Reads}
-use Rattle.edges.specs.Accepted.{Accepted, OursAccepted}
+use Rattle.edges.specs.Accepted.{OursAccepted}
 use Rattle.edges.proofs.ReadsBack.{reads-back}
 use Rattle.edges.proofs.Planned.{few, planned-tellable, planned-true, planned-repeats}
 
@@ -92,7 +91,7 @@ module _ (c p : Plan) (b : ℕ) (m : List ℕ) (current : planNumber c ≡ 0) (p
       let same : shown m i ≡ planned c p i = λ x. record { new = r .marks i l x; told = r .told i l x } in
       ap (λ (s : Shown). not (isTrue c p i s)) same ∙ ap not (planned-true c current i l p))
 
-  pub accepts : (c .count ≡ 0 → ⊥) → (received : ℕ) → blocks received ≡ true → 8 + length (descriptions (planned c p) (c .count)) ≤ received
+  accepts : (c .count ≡ 0 → ⊥) → (received : ℕ) → blocks received ≡ true → 8 + length (descriptions (planned c p) (c .count)) ≤ received
       → check c p m received ≡ unchecked 0
   unfolding check
   accepts slots received whole-blocks enough =
@@ -114,7 +113,7 @@ used-blocks used some most = (go (lastUsed used) (omega arith) (omega arith), om
     go (suc (suc (suc (suc (suc j))))) l h = absurd (omega arith)
 
 module _ (c p : Plan) (b : ℕ) (o : List ℕ) (z : write c p b o .number ≡ 0) where
-  -- what is known of the used octets and the output
+  -- some octets are used, and at most the message
   pub used-bounds : (1 ≤ write c p b o .used) × (write c p b o .used ≤ 88)
   used-bounds =
       let w = written c p b o z in
@@ -122,7 +121,7 @@ module _ (c p : Plan) (b : ℕ) (o : List ℕ) (z : write c p b o .number ≡ 0)
       (omega arith, omega (arith, w .fits .short))
 
   -- the message is accepted wherever its used octets are received
-  pub accepted-received : (received : ℕ) → blocks received ≡ true → write c p b o .used ≤ received → check c p (write c p b o .output) received ≡ unchecked 0
+  accepted-received : (received : ℕ) → blocks received ≡ true → write c p b o .used ≤ received → check c p (write c p b o .output) received ≡ unchecked 0
   accepted-received received whole-blocks enough =
       let w = written c p b o z in
       let e : write c p b o .used ≡ 8 + length (descriptions (planned c p) (c .count)) = ap (λ (x : Writing). x .used) (w .result) in

@@ -1,33 +1,45 @@
 -- Messages that go out in four blocks and are taken in order by a board.
 use mathlib.Core.Path.{_≡_, refl, sym, ap, _∙_}
 use mathlib.Core.Bool.{true, cond}
-use mathlib.Core.List.{List, [], _∷_, _++_, append-assoc}
-use Prim.Native.Nat.{ℕ, zero, suc, _+_, _*_, _-_, _/_, _≤_, _<_, min}
+use mathlib.Core.List.{List, _++_, append-assoc}
+use Prim.Native.Nat.{ℕ, zero, suc, _+_, _*_, _-_, _≤_, _<_, min}
 use native.Mathlib.Omega.{arith}
-use lib.ListN.{length, take, drop, replicate, length-append, length-take, length-replicate, replicate-append-replicate}
+use lib.ListN.{length, take, replicate, length-append, length-replicate, replicate-append-replicate}
 use lib.Seq.{length-take-le, take-at, take-append-add}
 use lib.Dec.{eqb}
 use borrow.Author.Tests.{eq-eqb, ne-eqb, lt-ltb, le-ltb}
 use Rattle.laws.specs.Upto.{each}
 use Rattle.laws.proofs.Parts.{take-replicate}
-use Rattle.laws.proofs.Ruled.{ruled-none}
 use Rattle.block.specs.Paper.{Kind, page, schedule, kindNumber, completes, lastUsed, blocks, Held, Given, Left, filled, start, proper, step, written}
 use Rattle.block.specs.History.{after, piece, pieces, expected}
+use Rattle.block.proofs.History.{standing, standing-proper}
 use Rattle.block.proofs.Taken.{blocks-taken}
 use Rattle.text.specs.Paper as text
-use Rattle.text.proofs.Back.{written-length, text-back-blocks}
-use Rattle.text.proofs.Back as back
+use Rattle.text.proofs.Back.{written-length, used-bounds as text-used, text-back-blocks}
 use Rattle.sender.specs.Paper.{usedOctets, padded, planned, Writing, write}
 use Rattle.checker.specs.Paper.{check}
-use Rattle.edges.specs.Air.{blockOf, takenAt, Carried, OverTheAir, OursDelivered}
+use Rattle.edges.specs.Air.{blockOf, takenAt, StartedProper, Carried, OverTheAir, OursDelivered}
 use Rattle.edges.proofs.ReadsBack.{reads-back, used-length}
-use Rattle.edges.proofs.Accepted.{used-bounds, ours-accepted}
-use Rattle.edges.proofs.Accepted as ours
+use Rattle.edges.proofs.Accepted.{written as ours-written, used-bounds, ours-accepted}
+
+pub started-proper : StartedProper
+started-proper ps = standing-proper (standing ps)
 
 pieces-each : (k : Kind) (used : ℕ) (m : List ℕ) (n : ℕ) → pieces k used m n ≡ each (blockOf (blocks k used m 4)) n
 unfolding pieces each
 pieces-each k used m zero = refl
 pieces-each k used m (suc n) = rw (pieces-each k used m n)
+
+module _ (m : List ℕ) (used : ℕ) (whole : length m ≡ 88) (most : used ≤ 88) where
+  -- what is handed out is a page or message, and agrees with the one that was written as far as its blocks go
+  handed-length : length (filled (take (22 * lastUsed used) m)) ≡ 88
+  handed-length =
+      let n : length (take (22 * lastUsed used) m) ≡ 22 * lastUsed used = length-take-le (22 * lastUsed used) m (omega arith) in
+      rw length-append (rw length-replicate (omega arith))
+
+  handed-agrees : take (22 * lastUsed used) (filled (take (22 * lastUsed used) m)) ≡ take (22 * lastUsed used) m
+  handed-agrees =
+      take-at (take (22 * lastUsed used) m) _ (22 * lastUsed used) (length-take-le (22 * lastUsed used) m (omega arith))
 
 module _ (k : Kind) (m : List ℕ) (used : ℕ) (o : List ℕ) (h : Held) (whole : length m ≡ 88) (some : 1 ≤ used) (most : used ≤ 88) (room : length o ≡ 92) (good : proper h ≡ true) where
   blocks-written : written m k used o ≡ record { number = 0; output = blocks k used m 4 }
@@ -47,7 +59,7 @@ module _ (k : Kind) (m : List ℕ) (used : ℕ) (o : List ℕ) (h : Held) (whole
       let up : suc (j - 1) ≡ j = omega arith in
       rw (le-ltb (suc (j - 1)) j (omega arith), eq-eqb (suc (j - 1)) j up, up)
 
-  pub carries : Carried k m used o h
+  carries : Carried k m used o h
   carries =
       let j = lastUsed used in
       record {
@@ -65,21 +77,11 @@ module _ (k : Kind) (m : List ℕ) (used : ℕ) (o : List ℕ) (h : Held) (whole
       completing page = refl
       completing schedule = refl
 
-  -- what is handed out is a page or message, and agrees with the one that was written as far as its blocks go
-  pub handed-length : length (filled (take (22 * lastUsed used) m)) ≡ 88
-  handed-length =
-      let n : length (take (22 * lastUsed used) m) ≡ 22 * lastUsed used = length-take-le (22 * lastUsed used) m (omega arith) in
-      rw length-append (rw length-replicate (omega arith))
-
-  pub handed-agrees : take (22 * lastUsed used) (filled (take (22 * lastUsed used) m)) ≡ take (22 * lastUsed used) m
-  handed-agrees =
-      take-at (take (22 * lastUsed used) m) _ (22 * lastUsed used) (length-take-le (22 * lastUsed used) m (omega arith))
-
 pub over-the-air : OverTheAir
 over-the-air heading t p o u h z room size good =
     let w = text.written heading t p in
     let whole = written-length heading t p z in
-    let bounds = back.used-bounds heading t p z in
+    let bounds = text-used heading t p z in
     let c : Carried page (w .page) (w .used) o h = carries page (w .page) (w .used) o h whole (omega arith) (bounds .1) room good in
     let q = filled (take (22 * lastUsed (w .used)) (w .page)) in
     record {
@@ -87,12 +89,12 @@ over-the-air heading t p o u h z room size good =
       reads =
           ap (λ (g : Given). text.reading (g .octets) (g .received) u) (c .handed)
           ∙ text-back-blocks heading t p q u z
-          (handed-length page (w .page) (w .used) o h whole (omega arith) (bounds .1) room good) size
-          (handed-agrees page (w .page) (w .used) o h whole (omega arith) (bounds .1) room good);
+          (handed-length (w .page) (w .used) whole (bounds .1)) size
+          (handed-agrees (w .page) (w .used) whole (bounds .1));
     }
 
 -- 2B that is cut off a padded message is put back
-pub filled-padded : (x : List ℕ) (n : ℕ) → length x ≤ n → n ≤ 88 → filled (take n (padded x)) ≡ padded x
+filled-padded : (x : List ℕ) (n : ℕ) → length x ≤ n → n ≤ 88 → filled (take n (padded x)) ≡ padded x
 unfolding padded
 filled-padded x n l h =
     let a = n - length x in
@@ -110,7 +112,7 @@ filled-padded x n l h =
 pub ours-delivered : OursDelivered
 ours-delivered c p b m o h z room good =
     let w = write c p b m in
-    let v = ours.written c p b m z in
+    let v = ours-written c p b m z in
     let bounds = used-bounds c p b m z in
     let k = 22 * lastUsed (w .used) in
     let x = usedOctets b (planned c p) (c .count) in

@@ -2,11 +2,11 @@
 use mathlib.Core.Path.{_≡_, refl, sym, ap, _∙_}
 use mathlib.Core.Bool.{Bool, true, false, cond, not, Bool·beq, false≢true}
 use mathlib.Core.List.{[], _∷_}
-use Prim.Native.Nat.{ℕ, suc, _-_, _%_, _≤_, _<_}
+use Prim.Native.Nat.{ℕ, suc, _-_, _≤_, _<_}
 use native.Mathlib.Nat.{mod-lt}
 use native.Mathlib.Omega.{arith, by-contra}
 use lib.ListN.{length, List·getD-eq-default}
-use lib.Dec.{eqb, leb, ltb}
+use lib.Dec.{eqb, ltb}
 use borrow.Author.Tests.{ltb-true, ltb-false, eqb-true, eqb-false, eq-eqb, ne-eqb, lt-leb}
 use Rattle.laws.specs.Search.{some}
 use Rattle.laws.proofs.Ruled.{none-holds}
@@ -18,6 +18,7 @@ use Rattle.sender.specs.Paper.{plannedAt, newAt, planned}
 use Rattle.checker.specs.Paper.{isTrue}
 use Rattle.edges.specs.ReadsBack.{Tellable}
 
+-- a good plan has at most 48 slots, of no kind but 0, 1 and 2
 module _ (c : Plan) (good : planNumber c ≡ 0) where
   none : (ltb 48 (c .count) ≡ false) × (some bad (within c) ≡ false)
   unfolding planNumber
@@ -28,7 +29,7 @@ module _ (c : Plan) (good : planNumber c ≡ 0) where
   pub few : c .count ≤ 48
   few = ltb-false 48 (c .count) (none .0)
 
-  pub kind-small : (i : ℕ) → i < c .count → entryAt c i .kind ≤ 2
+  kind-small : (i : ℕ) → i < c .count → entryAt c i .kind ≤ 2
   unfolding bad
   kind-small i l = go (ltb 2 (entryAt c i .kind)) refl
     where

@@ -1,21 +1,23 @@
 -- A message written from any telling of slots reads back as that telling.
 use mathlib.Core.Path.{_≡_, refl, sym, ap, _∙_}
-use mathlib.Core.Bool.{Bool, true, false, cond, _&&_, Bool·beq, and-false}
+use mathlib.Core.Bool.{Bool, true, false, cond, _&&_, Bool·beq}
 use mathlib.Core.List.{List, [], _∷_, _++_, append-assoc}
 use Prim.Native.Nat.{ℕ, zero, suc, _+_, _*_, _-_, _/_, _%_, _^_, _≤_, _<_}
-use native.Mathlib.Nat.{zero-div, zero-mod, pow-zero, pow-succ', div-one, div-div-eq-div-mul, add-suc, add-zero}
+use native.Mathlib.Nat.{zero-div, pow-zero, pow-succ', div-one, div-div-eq-div-mul, add-suc, add-zero}
 use native.Mathlib.Omega.{arith}
 use lib.ListN.{length, getD, take, drop, replicate, length-append, length-replicate, List·getD-eq-default}
 use lib.Seq.{take-at, take-suc, split-at, getD-append-seam, getD-append-add, take-all}
-use lib.Dec.{eqb, leb, ltb}
+use lib.Dec.{eqb, ltb}
 use borrow.Author.Tests.{ltb-true, ltb-false, lt-ltb, le-ltb, le-leb, lt-leb}
-use Rattle.laws.specs.Upto.{picked, each}
+use Rattle.laws.specs.Radix.{Below}
+use Rattle.laws.specs.Upto.{picked}
+use Rattle.laws.proofs.Radix.{below-nil, below-cons, below-append, below-replicate}
 use Rattle.laws.proofs.Upto.{picked-agree, picked-length, each-length, each-at}
 use Rattle.schedule.specs.Paper.{Told, first, again, optional, advised, Shown, octet, bitmap, end, new, width, told, place, order, rank, tells, grouped}
 use Rattle.schedule.proofs.Order.{groups-whole, order-rank}
 use Rattle.schedule.proofs.Once.{rank-below, rank-onto}
 use Rattle.sender.specs.Paper.{octetsOf, octetsOfAll, groupedIn, group, descriptions, newBit, newBits, bitmapOf, usedOctets, padded, messageOf}
-use Rattle.edges.specs.ReadsBack.{Tellable, Fits, Reads, ReadsBack}
+use Rattle.edges.specs.ReadsBack.{Tellable, Fits, ReadsBack}
 
 -- the description that stands after some octets
 module _ (front rest : List ℕ) where
@@ -41,7 +43,20 @@ module _ (front rest : List ℕ) where
   told-at optional h = rw (at-front 64 rest)
   told-at advised h = rw (at-front 65 rest)
 
+octets-below : (t : Told) → Tellable t → Below 256 (octetsOf t)
+octets-below (first x) h = below-cons 256 (128 + x / 256) (x % 256 ∷ []) (omega arith) (below-cons 256 (x % 256) [] (omega arith) (below-nil 256 (omega arith)))
+octets-below (again k) h = below-cons 256 k [] (omega arith) (below-nil 256 (omega arith))
+octets-below optional h = below-cons 256 64 [] (omega arith) (below-nil 256 (omega arith))
+octets-below advised h = below-cons 256 65 [] (omega arith) (below-nil 256 (omega arith))
+
 module _ (s : ℕ → Shown) where
+  all-below : (is : List ℕ) → ((k : ℕ) → k < length is → Tellable (s (getD is k 0) .told)) → Below 256 (octetsOfAll s is)
+  unfolding octetsOfAll
+  all-below [] h = below-nil 256 (omega arith)
+  all-below (i ∷ is) h =
+      below-append 256 (octetsOf (s i .told)) (octetsOfAll s is) (octets-below (s i .told) (h 0 (omega arith)))
+      (all-below is (λ k l. h (suc k) (omega arith)))
+
   octets-append : (is js : List ℕ) → octetsOfAll s (is ++ js) ≡ octetsOfAll s is ++ octetsOfAll s js
   unfolding octetsOfAll
   octets-append [] js = refl
@@ -91,6 +106,23 @@ module _ (s : ℕ → Shown) (n : ℕ) where
       go : (b : Bool) → (cond b 1 0 ≤ 1) × (eqb (cond b 1 0) 1 ≡ b)
       go true = (omega arith, refl)
       go false = (omega arith, refl)
+
+  newBits-small : (j k : ℕ) → newBits s n j k < 2 ^ k
+  unfolding newBits
+  newBits-small j zero = omega arith
+  newBits-small j (suc k) =
+      let small = newBit-bit (8 * j + k) .0 in
+      let half = newBits-small j k in
+      omega arith
+
+  bitmap-below : Below 256 (bitmapOf s n)
+  bitmap-below i = go (ltb i 6) refl
+    where
+      go : (c : Bool) → ltb i 6 ≡ c → octet (bitmapOf s n) i < 256
+      go true e = rw (each-at (λ (j : ℕ). newBits s n j 8) 6 i 0 (ltb-true i 6 e)) (newBits-small i 8)
+      go false e =
+          let far : length (bitmapOf s n) ≤ i = omega (arith, ltb-false i 6 e, each-length (λ (j : ℕ). newBits s n j 8) 6) in
+          rw (List·getD-eq-default (bitmapOf s n) 0 far) (omega arith)
 
   -- bit r of an octet is that of the slot after which r others of the octet stand
   newBits-bit : (j k r : ℕ) → newBits s n j (suc k + r) / 2 ^ r % 2 ≡ newBit s n (8 * j + k)
@@ -189,6 +221,14 @@ module _ (b : ℕ) (s : ℕ → Shown) (n : ℕ) (f : Fits b s n) where
   unfolding front
   front-eight = omega (arith, bits-length)
 
+  octets-back : Below 256 m
+  unfolding front pad
+  octets-back =
+      rw shape
+      (below-append 256 front (octetsOfAll s slots ++ pad)
+      (below-cons 256 b (n ∷ bitmapOf s n) (omega (arith, f .begins, f .few)) (below-cons 256 n (bitmapOf s n) (omega (arith, f .few)) (bitmap-below s n)))
+      (below-append 256 (octetsOfAll s slots) pad (all-below s slots slots-tellable) (below-replicate 256 (88 - length (usedOctets b s n)) 43 (omega arith))))
+
   told-back : (i : ℕ) → i < n → tells m i ≡ s i .told
   unfolding tells
   told-back i l =
@@ -222,6 +262,7 @@ unfolding m front
 reads-back b s n f =
     record {
       whole = whole-back b s n f;
+      octets = octets-back b s n f;
       typed = rw (shape b s n f) (omega (arith, f .begins, f .few));
       begins = rw (shape b s n f) (omega (arith, f .begins, f .few));
       ends = end-back b s n f;

@@ -13,6 +13,10 @@ use Rattle.plan.specs.Paper.{Plan}
 use Rattle.sender.specs.Paper.{write}
 use Rattle.checker.specs.Paper.{check, unchecked}
 
+-- 01 Intake: a state is proper after start, whatever pieces are given to it
+abbrev pub StartedProper : Type 0
+StartedProper = (ps : List (List ℕ)) → proper (after start ps) ≡ true
+
 -- 01 Blocks: block i, counted from 0, of the 92 octets that the block writer leaves
 abbrev pub blockOf : List ℕ → ℕ → List ℕ
 blockOf o i = take 23 (drop (23 * i) o)
@@ -41,13 +45,14 @@ pub record Carried (k : Kind) (m : List ℕ) (used : ℕ) (o : List ℕ) (h : He
 abbrev pub textHanded : Heading → List ℕ → List ℕ → List ℕ → Held → Given
 textHanded heading t p o h = handedOut page (text.written heading t p .page) (text.written heading t p .used) o h
 
+-- 01 Page and text: that text, sent to a board in state h, is heard
 pub record Heard (heading : Heading) (t p o u : List ℕ) (h : Held) : Type 0 where
   pub carried : Carried page (text.written heading t p .page) (text.written heading t p .used) o h
   -- read into u, it is the text that was written
   pub reads : text.reading (textHanded heading t p o h .octets) (textHanded heading t p o h .received) u
       ≡ record { number = 0; characters = length t; text = t ++ replicate (93 - length t) 0 }
 
--- 00 demand 2: text written, cut into blocks and taken in order gives the same text, from any proper state, a started one among them
+-- 00 demand 2: text written, cut into blocks and taken in order gives the same text, on any board whose state is proper
 abbrev pub OverTheAir : Type 0
 OverTheAir =
     (heading : Heading) (t p o u : List ℕ) (h : Held) → text.written heading t p .number ≡ 0 → length o ≡ 92 → length u ≡ 93 → proper h ≡ true
@@ -57,6 +62,7 @@ OverTheAir =
 abbrev pub scheduleHanded : Plan → Plan → ℕ → List ℕ → List ℕ → Held → Given
 scheduleHanded c p b m o h = handedOut schedule (write c p b m .output) (write c p b m .used) o h
 
+-- 01 The plan, our writer: that message, sent to a board in state h, is delivered
 pub record Delivered (c p : Plan) (b : ℕ) (m o : List ℕ) (h : Held) : Type 0 where
   pub carried : Carried schedule (write c p b m .output) (write c p b m .used) o h
   -- it is the message that was written, with the 2B after its used part
@@ -64,7 +70,7 @@ pub record Delivered (c p : Plan) (b : ℕ) (m o : List ℕ) (h : Held) : Type 0
   -- and it is accepted with the octets received
   pub accepted : check c p (scheduleHanded c p b m o h .octets) (scheduleHanded c p b m o h .received) ≡ unchecked 0
 
--- 00 demand 3: what our sender writes is accepted after blocks and intake too, from any proper state
+-- 00 demand 3: what our sender writes is accepted after blocks and intake too, on any board whose state is proper
 abbrev pub OursDelivered : Type 0
 OursDelivered =
     (c p : Plan) (b : ℕ) (m o : List ℕ) (h : Held) → write c p b m .number ≡ 0 → length o ≡ 92 → proper h ≡ true → Delivered c p b m o h

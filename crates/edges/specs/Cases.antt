@@ -1,6 +1,6 @@
 -- The cases that document 01 marks P: for each, what the definitions give and what the document says, as lists of numbers.
 use mathlib.Core.Path.{_≡_}
-use mathlib.Core.Bool.{Bool, true, cond}
+use mathlib.Core.Bool.{true, cond}
 use mathlib.Core.List.{List, [], _∷_, _++_, map}
 use Prim.Native.Nat.{ℕ, _+_, _*_, _-_, _%_}
 use lib.ListN.{getD, take, drop, replicate}
@@ -11,7 +11,7 @@ use Rattle.block.specs.Paper as block
 use Rattle.plan.specs.Paper.{Entry, Plan, held, empty}
 use Rattle.schedule.specs.Paper as schedule
 use Rattle.sender.specs.Paper as sender
-use Rattle.board.specs.Paper.{Wanted, Schedule, Decided, decide}
+use Rattle.board.specs.Paper.{Decided, decide}
 
 -- 01 Blocks: the type octets of the four blocks of a page with some used octets
 abbrev pub types : ℕ → List ℕ
@@ -21,6 +21,7 @@ types used = each (λ (i : ℕ). getD (block.written (replicate 88 0) block.page
 abbrev pub heading : Heading
 heading = record { serial = 0x0010; id = 0x8001; scheme = 0x00; parameter = 0x11 }
 
+-- 01 Page and text: a text written with that header
 abbrev pub textWritten : List ℕ → text.Writing
 textWritten t = text.written heading t (replicate 88 0)
 
@@ -64,11 +65,12 @@ sent x y o = sender.padded (x ∷ y ∷ replicate 6 0 ++ o)
 abbrev pub readOf : List ℕ → List ℕ
 readOf m = schedule.read m 88 .number ∷ schedule.read m 88 .begin ∷ schedule.read m 88 .end ∷ []
 
--- 01 Decision: slot 1 of the two-slot plan's message with one wanted identifier and nothing held: the number, and 1 for read
+-- 01 Decision: slot 1 of the two-slot plan's message with one wanted identifier and nothing held
 abbrev pub decided : ℕ → Decided
 decided wanted =
     decide (record { known = true; message = scheduled twoSlots empty .output; received = 88 }) 1 (record { count = 1; ids = wanted ∷ [] }) 0
 
+-- 01 Decision: its number, and 1 for read or 0 for skip
 abbrev pub decidedOf : ℕ → List ℕ
 decidedOf wanted = decided wanted .number ∷ cond (decided wanted .read) 1 0 ∷ []
 
@@ -99,8 +101,9 @@ cases =
     ∷ (readOf (sent 0x01 0x31 []), 21 ∷ 0 ∷ 0 ∷ [])
     ∷ (readOf (sent 0x41 0x02 (0x40 ∷ 0x40 ∷ [])), 20 ∷ 0 ∷ 0 ∷ [])
     ∷ (readOf (sent 0x01 0x01 (0x01 ∷ [])), 24 ∷ 0 ∷ 0 ∷ [])
-    -- wanted 0001 reads the slot of identifier 8001
+    -- wanted 0001 reads the slot of identifier 8001; and for its identifier, as wanted 0002 skips it
     ∷ (decidedOf 0x0001, 0 ∷ 1 ∷ [])
+    ∷ (decidedOf 0x0002, 0 ∷ 0 ∷ [])
     ∷ []
 
 -- 01 Where the edges are: every case is as the document says

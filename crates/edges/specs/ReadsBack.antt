@@ -4,6 +4,7 @@ use mathlib.Core.Bool.{false}
 use mathlib.Core.List.{List}
 use Prim.Native.Nat.{ℕ, _+_, _≤_, _<_}
 use lib.ListN.{length}
+use Rattle.laws.specs.Radix.{Below}
 use Rattle.schedule.specs.Paper.{Told, first, again, optional, advised, Shown, type, begin, end, new, tells, place}
 use Rattle.sender.specs.Paper.{descriptions, messageOf}
 
@@ -25,6 +26,7 @@ pub record Fits (b : ℕ) (s : ℕ → Shown) (n : ℕ) : Type 0 where
 -- 01 Schedule message: a message m reads as that telling
 pub record Reads (m : List ℕ) (b : ℕ) (s : ℕ → Shown) (n : ℕ) : Type 0 where
   pub whole : length m ≡ 88
+  pub octets : Below 256 m
   pub typed : type m ≡ 0
   pub begins : begin m ≡ b
   pub ends : end m ≡ n
