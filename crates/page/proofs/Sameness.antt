@@ -20,12 +20,12 @@ same-decided a b = go (samePage a b) refl
     go false e = inr (λ h. false≢true (sym e ∙ h))
 
 -- every part that tells a page is equal
-record Equal (a b : Name) : Type 0 where
-  serial : a .serial ≡ b .serial
-  id : a .id ≡ b .id
-  parameter : a .parameter ≡ b .parameter
+pub record Equal (a b : Name) : Type 0 where
+  pub serial : a .serial ≡ b .serial
+  pub id : a .id ≡ b .id
+  pub parameter : a .parameter ≡ b .parameter
 
-equal : (a b : Name) → Same a b → Equal a b
+pub equal : (a b : Name) → Same a b → Equal a b
 unfolding samePage
 equal a b h =
     let s = both (eqb (a .serial) (b .serial)) _ h in

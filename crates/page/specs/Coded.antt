@@ -1,5 +1,5 @@
 -- The code's headers, page names and answers as the paper's numbers.
-use Prim.Native.Nat.{ℕ}
+use Prim.Native.Nat.{ℕ, _+_, _*_}
 use mathlib.Core.List.{List}
 use denote.Ref.{RefT}
 use Rattle.answer.specs.Number.{numberOf}
@@ -16,6 +16,10 @@ headingOf h = record { serial = h .serial .0; id = h .id .0; scheme = h .scheme;
 -- a page's name as its numbers
 abbrev pub nameOf : PageName → Name
 nameOf p = record { serial = p .serial .0; id = p .id .0; parameter = p .parameter }
+
+-- serial number and identifier as one number
+abbrev pub keyOf : Name → ℕ
+keyOf n = n .id * 65536 + n .serial
 
 -- the number of an answer: 0 for done
 abbrev pub numberOfHanding : Handing → ℕ

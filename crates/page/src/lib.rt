@@ -2,7 +2,7 @@
 ghost use mathlib.Core.Path.{_≡_};
 ghost use Prim.Native.Nat.{_+_, _*_};
 ghost use Rattle.page.specs.Paper.{header, headerOctets, samePage, handedPart, handedNumber};
-ghost use Rattle.page.specs.Coded.{headingOf, nameOf, numberOfHanding, partOf};
+ghost use Rattle.page.specs.Coded.{keyOf, headingOf, nameOf, numberOfHanding, partOf};
 use answer::Refusal;
 use answer::whole_blocks;
 
@@ -68,14 +68,18 @@ pub fn header_octets(heading: Header) -> [u8; 6]
     ]
 }
 
+// Serial number and identifier as one number, so that a search through a plan compares once where pages differ.
+fn key(name: PageName) -> u32
+    ensures { λ r. ⌜ r ≡ keyOf (nameOf name) ⌝ }
+{
+    name.id.0 as u32 * 0x10000 + name.serial.0 as u32
+}
+
 // Whether two pages are the same page.
 pub fn same(a: PageName, b: PageName) -> bool
     ensures { λ r. ⌜ r ≡ samePage (nameOf a) (nameOf b) ⌝ }
 {
-    if a.serial.0 != b.serial.0 {
-        return false;
-    }
-    if a.id.0 != b.id.0 {
+    if key(a) != key(b) {
         return false;
     }
     a.parameter == b.parameter
