@@ -2,18 +2,20 @@
 use mathlib.Core.Path.{_≡_, refl, sym, ap, _∙_}
 use mathlib.Core.Bool.{Bool, true, false, not}
 use mathlib.Core.List.{List}
-use Prim.Native.Nat.{ℕ, zero, suc, _+_, _*_, _≤_, _<_}
+use Prim.Native.Nat.{ℕ, _+_, _*_, _≤_, _<_}
 use native.Mathlib.Omega.{arith}
 use lib.ListN.{length}
 use lib.Dec.{leb}
 use borrow.Author.Tests.{ltb-false, leb-true, eqb-true, eqb-false, eq-eqb, ne-eqb, le-leb, le-ltb, not-false}
+use Rattle.laws.specs.Received.{wholeBlocks}
 use Rattle.laws.specs.Upto.{some, lowest}
 use Rattle.laws.proofs.Lowest.{lowest-none}
+use Rattle.laws.proofs.Received.{whole-times}
 use Rattle.laws.proofs.Ruled.{ruled-map, none-holds, ruled-none, unless0-numbered}
 use Rattle.laws.proofs.Tests.{both}
 use Rattle.laws.proofs.Upto.{some-none}
 use Rattle.plan.specs.Paper.{Plan, planNumber}
-use Rattle.schedule.specs.Paper.{Shown, shown, blocks, end, tells, new, falseIn, falseRepeat, newPast, Read, unread, good, read}
+use Rattle.schedule.specs.Paper.{Shown, shown, end, tells, new, falseIn, falseRepeat, newPast, Read, unread, good, read}
 use Rattle.schedule.specs.Paper as schedule
 use Rattle.sender.specs.Paper.{planned, descriptions, messageOf, Writing, unwritten, message, write}
 use Rattle.sender.specs.Paper as sender
@@ -62,7 +64,7 @@ written c p b o z =
 module _ (c p : Plan) (b : ℕ) (m : List ℕ) (current : planNumber c ≡ 0) (previous : planNumber p ≡ 0)
     (f : Fits b (planned c p) (c .count)) (r : Reads m b (planned c p) (c .count)) where
   -- is refused by no number where all its used octets are received
-  reads-good : (received : ℕ) → blocks received ≡ true → 8 + length (descriptions (planned c p) (c .count)) ≤ received → read m received ≡ good m
+  reads-good : (received : ℕ) → wholeBlocks received ≡ true → 8 + length (descriptions (planned c p) (c .count)) ≤ received → read m received ≡ good m
   unfolding read
   reads-good received whole-blocks enough =
       let within : schedule.within m ≡ true =
@@ -91,7 +93,7 @@ module _ (c p : Plan) (b : ℕ) (m : List ℕ) (current : planNumber c ≡ 0) (p
       let same : shown m i ≡ planned c p i = λ x. record { new = r .marks i l x; told = r .told i l x } in
       ap (λ (s : Shown). not (isTrue c p i s)) same ∙ ap not (planned-true c current i l p))
 
-  accepts : (c .count ≡ 0 → ⊥) → (received : ℕ) → blocks received ≡ true → 8 + length (descriptions (planned c p) (c .count)) ≤ received
+  accepts : (c .count ≡ 0 → ⊥) → (received : ℕ) → wholeBlocks received ≡ true → 8 + length (descriptions (planned c p) (c .count)) ≤ received
       → check c p m received ≡ unchecked 0
   unfolding check
   accepts slots received whole-blocks enough =
@@ -101,16 +103,8 @@ module _ (c p : Plan) (b : ℕ) (m : List ℕ) (current : planNumber c ≡ 0) (p
       ∙ rw (eq-eqb (end m) (c .count) (r .ends), slots-true)
 
 -- the octets of the blocks up to the last used one
-used-blocks : (used : ℕ) → 1 ≤ used → used ≤ 88 → (blocks (22 * lastUsed used) ≡ true) × (used ≤ 22 * lastUsed used)
-used-blocks used some most = (go (lastUsed used) (omega arith) (omega arith), omega arith)
-  where
-    go : (j : ℕ) → 1 ≤ j → j ≤ 4 → blocks (22 * j) ≡ true
-    go zero l h = absurd (omega arith)
-    go (suc zero) l h = refl
-    go (suc (suc zero)) l h = refl
-    go (suc (suc (suc zero))) l h = refl
-    go (suc (suc (suc (suc zero)))) l h = refl
-    go (suc (suc (suc (suc (suc j))))) l h = absurd (omega arith)
+used-blocks : (used : ℕ) → 1 ≤ used → used ≤ 88 → (wholeBlocks (22 * lastUsed used) ≡ true) × (used ≤ 22 * lastUsed used)
+used-blocks used some most = (whole-times (lastUsed used) (omega arith) (omega arith), omega arith)
 
 module _ (c p : Plan) (b : ℕ) (o : List ℕ) (z : write c p b o .number ≡ 0) where
   -- some octets are used, and at most the message
@@ -121,7 +115,7 @@ module _ (c p : Plan) (b : ℕ) (o : List ℕ) (z : write c p b o .number ≡ 0)
       (omega arith, omega (arith, w .fits .short))
 
   -- the message is accepted wherever its used octets are received
-  accepted-received : (received : ℕ) → blocks received ≡ true → write c p b o .used ≤ received → check c p (write c p b o .output) received ≡ unchecked 0
+  accepted-received : (received : ℕ) → wholeBlocks received ≡ true → write c p b o .used ≤ received → check c p (write c p b o .output) received ≡ unchecked 0
   accepted-received received whole-blocks enough =
       let w = written c p b o z in
       let e : write c p b o .used ≡ 8 + length (descriptions (planned c p) (c .count)) = ap (λ (x : Writing). x .used) (w .result) in

@@ -1,5 +1,6 @@
 -- The cases that document 01 marks P, all computed.
 use mathlib.Core.Path.{refl}
+use Rattle.laws.specs.Received.{wholeBlocks}
 use Rattle.laws.specs.Radix.{value, digits}
 use Rattle.laws.specs.Search as search
 use Rattle.laws.specs.Upto.{some, count, picked, each}
@@ -15,5 +16,5 @@ use Rattle.board.specs.Paper.{isWanted, isHeld, tellsOf, reads, decide}
 use Rattle.edges.specs.Cases.{Edges}
 
 pub edges : Edges
-unfolding value digits search.some search.firstFrom some count picked each alphabet septetOf headerOctets samePage septets packed pageOf badParameter foreign endsInCr written block blocks cut.written bad planNumber holds lowestSlot hasPage new place order tells read plannedAt newAt octetsOfAll descriptions newBits usedOctets padded write isWanted isHeld tellsOf reads decide
+unfolding wholeBlocks value digits search.some search.firstFrom some count picked each alphabet septetOf headerOctets samePage septets packed pageOf badParameter foreign endsInCr written block blocks cut.written bad planNumber holds lowestSlot hasPage new place order tells read plannedAt newAt octetsOfAll descriptions newBits usedOctets padded write isWanted isHeld tellsOf reads decide
 edges = refl

@@ -1,8 +1,8 @@
 -- Which numbers are those of one to four blocks.
-use mathlib.Core.Path.{_≡_}
+use mathlib.Core.Path.{_≡_, refl}
 use mathlib.Core.Bool.{true, false, _||_}
 use mathlib.Core.Logic.{_⊎_, inl, inr}
-use Prim.Native.Nat.{ℕ, _≤_}
+use Prim.Native.Nat.{ℕ, zero, suc, _*_, _≤_}
 use native.Mathlib.Omega.{arith}
 use lib.Dec.{eqb}
 use borrow.Author.Tests.{ne-eqb, eqb-true}
@@ -55,3 +55,13 @@ whole-bounds n w = go (blocks n w)
     go (inr (inl e)) = omega arith
     go (inr (inr (inl e))) = omega arith
     go (inr (inr (inr e))) = omega arith
+
+-- the octets of one to four blocks are whole blocks
+pub whole-times : (j : ℕ) → 1 ≤ j → j ≤ 4 → wholeBlocks (22 * j) ≡ true
+unfolding wholeBlocks
+whole-times zero l m = absurd (omega arith)
+whole-times (suc zero) l m = refl
+whole-times (suc (suc zero)) l m = refl
+whole-times (suc (suc (suc zero))) l m = refl
+whole-times (suc (suc (suc (suc zero)))) l m = refl
+whole-times (suc (suc (suc (suc (suc j))))) l m = absurd (omega arith)

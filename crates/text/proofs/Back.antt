@@ -2,7 +2,6 @@
 use mathlib.Core.Path.{_≡_, refl, sym, ap, _∙_}
 use mathlib.Core.Bool.{true, false, _||_, or-assoc}
 use mathlib.Core.List.{List, [], _∷_, _++_, map, map-append, append-assoc, append-nil}
-use mathlib.Core.Logic.{inl, inr}
 use Prim.Native.Nat.{ℕ, zero, suc, _+_, _*_, _-_, _/_, _^_, _<_, _≤_, min}
 use native.Mathlib.Nat.{zero-lt-suc, le-refl, add-sub-of-le}
 use native.Mathlib.Omega.{arith}
@@ -15,7 +14,7 @@ use Rattle.laws.specs.Radix.{value, Below}
 use Rattle.laws.specs.Received.{wholeBlocks}
 use Rattle.laws.proofs.Parts.{drop-take, take-replicate}
 use Rattle.laws.proofs.Radix.{length-digits, take-digits, digits-front, digits-kept, power-bits}
-use Rattle.laws.proofs.Received.{Blocks, whole, whole-bounds}
+use Rattle.laws.proofs.Received.{whole-times, whole-bounds}
 use Rattle.laws.proofs.Tests.{neither}
 use Rattle.alphabet.specs.Paper.{codePoint, septetOf, noSeptet}
 use Rattle.alphabet.proofs.Laws.{Writes, reads-cr}
@@ -148,19 +147,11 @@ pub text-back-whole : (h : Heading) (t p u : List ℕ) → written h t p .number
     → reading (written h t p .page) 88 u ≡ record { number = 0; characters = length t; text = t ++ replicate (93 - length t) 0 }
 text-back-whole h t p u z lu =
     let a = writer-accepts h t p z in
-    text-back h t p z (written h t p .page) u 88 (whole 88 (inr (inr (inr refl)))) (omega (arith, a .short)) (written-length h t p z) lu refl
+    text-back h t p z (written h t p .page) u 88 (whole-times 4 (omega arith) (omega arith)) (omega (arith, a .short)) (written-length h t p z) lu refl
 
 -- the octets of the blocks up to the last used one
 abbrev pub usedBlocks : ℕ → ℕ
 usedBlocks used = 22 * ((used + 21) / 22)
-
-blocks-of : (j : ℕ) → 1 ≤ j → j ≤ 4 → Blocks (22 * j)
-blocks-of zero l m = absurd (omega arith)
-blocks-of (suc zero) l m = inl refl
-blocks-of (suc (suc zero)) l m = inr (inl refl)
-blocks-of (suc (suc (suc zero))) l m = inr (inr (inl refl))
-blocks-of (suc (suc (suc (suc zero)))) l m = inr (inr (inr refl))
-blocks-of (suc (suc (suc (suc (suc j))))) l m = absurd (omega arith)
 
 -- what agrees with the written page on the blocks up to the last used one, received so far
 pub text-back-blocks : (h : Heading) (t p q u : List ℕ) → written h t p .number ≡ 0 → length q ≡ 88 → length u ≡ 93
@@ -170,5 +161,5 @@ text-back-blocks h t p q u z lq lu agree =
     let a = writer-accepts h t p z in
     let e : written h t p .used ≡ usedOctets t = ap (λ (x : Writing). x .used) (a .result) in
     let j : ℕ = (written h t p .used + 21) / 22 in
-    text-back h t p z q u (22 * j) (whole (22 * j) (blocks-of j (omega (arith, a .short)) (omega (arith, a .short))))
+    text-back h t p z q u (22 * j) (whole-times j (omega (arith, a .short)) (omega (arith, a .short)))
     (omega (arith, e)) lq lu agree
