@@ -1,22 +1,22 @@
 -- The checker accepts exactly the truthful messages, and with 40 names the slot that document 01's table says.
 use mathlib.Core.Path.{_≡_, refl, sym, ap, _∙_}
-use mathlib.Core.Bool.{Bool, true, false, cond, not, _&&_, false≢true}
+use mathlib.Core.Bool.{Bool, true, false, not, _&&_, false≢true}
 use mathlib.Core.List.{List}
 use mathlib.Core.Logic.{inl, inr, ⊎-elim}
-use Prim.Native.Nat.{ℕ, suc, _<_, _≤_}
+use Prim.Native.Nat.{ℕ, suc, _<_}
 use native.Mathlib.Omega.{arith}
 use lib.Dec.{eqb, leb}
 use borrow.Author.Tests.{eqb-true, eqb-false, leb-true, ne-eqb, not-true, not-false}
 use Rattle.laws.specs.Upto.{lowest}
 use Rattle.laws.proofs.Lowest.{Lowest, none-passes, first-passes, lowest-is, lowest-none}
 use Rattle.laws.proofs.Outcome.{Outcome, refuses, passes, outcome, Because, ruled-because}
-use Rattle.laws.proofs.Ruled.{Among, NoneHolds}
+use Rattle.laws.proofs.Ruled.{Among}
 use Rattle.laws.proofs.Tests.{both}
-use Rattle.schedule.specs.Paper.{again, shown, tells, begin, end, Read, unread, good, within, read, faults as readFaults}
+use Rattle.schedule.specs.Paper.{shown, begin, end, Read, unread, good, within, read, faults as readFaults}
 use Rattle.schedule.proofs.Givens.{faults-some}
-use Rattle.plan.specs.Paper.{Plan, planNumber, entryAt, lowestAt}
+use Rattle.plan.specs.Paper.{Plan, planNumber}
 use Rattle.checker.specs.Paper.{Checked, unchecked, untrueAt, untrue, isTrue, verdict, faults, check}
-use Rattle.checker.specs.Truthful.{TrueAt, Truthful, LowestUntrue, Names, end-differs, slot-untrue, AcceptedExactly}
+use Rattle.checker.specs.Truthful.{Truthful, Names, end-differs, slot-untrue, AcceptedExactly, NeverObeyed}
 use Rattle.checker.proofs.Answers.{good-compared, all-true}
 use Rattle.checker.proofs.GoodPlan.{plan-low}
 use Rattle.checker.proofs.TrueAt.{true-keeps, keeps-true}
@@ -160,3 +160,11 @@ module _ (c p : Plan) (m : List ℕ) (received : ℕ) where
 
   pub accepted-exactly : AcceptedExactly c p m received
   accepted-exactly = record { accepted-truthful = truthful; truthful-accepted = accepts; untrue-names = names }
+
+  pub never-obeys-a-false-repeat : NeverObeyed c p m received
+  never-obeys-a-false-repeat i n w z =
+      let repeated = w .again-told in
+      ⊎-elim
+      (λ e. let never : _≡_ {A = ℕ} 0 1 = cc in omega arith)
+      (λ e. let never : _≡_ {A = ℕ} 0 1 = cc in omega arith)
+      (truthful z .slots i (w .below) .lowest-slot (w .page) (w .lowest))

@@ -11,7 +11,7 @@ use Rattle.answer.proofs.Inverse.{numberOf-positive}
 use Rattle.schedule.specs.declared.Reading.{Reading}
 use Rattle.schedule.specs.declared.Reading.the-variants.{Read, Refused}
 use Rattle.schedule.specs.declared.Table.{Table}
-use Rattle.schedule.specs.Paper.{end, read, listed, Shown, Listed, Read as Reads}
+use Rattle.schedule.specs.Paper.{read, listed, Shown, Listed, Read as Reads}
 use Rattle.schedule.specs.Coded.{readOf, listedOf}
 use Rattle.schedule.proofs.Givens.{Good, read-listed, given-good, shown-at}
 use Rattle.plan.specs.Paper.{Plan}

@@ -1,5 +1,5 @@
 -- What the plans say of a slot, and what may be told by it.
-use mathlib.Core.Path.{_≡_, refl, sym, ap, _∙_}
+use mathlib.Core.Path.{_≡_, refl}
 use mathlib.Core.Bool.{Bool, true, false, not, _&&_, Bool·beq}
 use Prim.Native.Nat.{ℕ, _%_}
 use lib.Dec.{eqb}

@@ -21,7 +21,7 @@ pub enum Checking {
     Refused(Refusal, usize),
 }
 
-// What the plans say of a slot; the rest is 0 where it is planned with no page.
+// What the plans say of a slot; where it is planned with no page, all but the kind is 0 or false.
 struct Planned {
     kind: u8,
     // the low 15 bits of the page's identifier
@@ -134,11 +134,13 @@ fn is_true(planned: Planned, i: usize, slot: Slot) -> bool
     requires { ⌜ i < 48 ⌝ }
     ensures { λ r. ⌜ r ≡ trueBy (plannedOf planned) i (shownOf slot) ⌝ }
 {
+    let new = slot.new;
     let description = slot.description;
     if !may_tell(planned, i, description) {
         return false;
     }
-    slot.new == new_for(planned, description)
+    let right = new_for(planned, description);
+    new == right
 }
 
 // The lowest slot, by its number, of the first ones that is told untruly; 0 for none.

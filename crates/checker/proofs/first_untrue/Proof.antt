@@ -1,5 +1,5 @@
 -- `checker::first_untrue` meets its contract. The invariant: no slot passed so far is untrue.
-use mathlib.Core.Path.{_≡_, sym, _∙_}
+use mathlib.Core.Path.{_≡_, sym}
 use mathlib.Core.Bool.{false}
 use Prim.Native.Nat.{ℕ, _-_, _≤_, _<_}
 use native.Mathlib.Numerals.{add-one}
@@ -7,7 +7,6 @@ use native.Mathlib.Omega.{arith}
 use borrow.Author.Count.{below-none, below-more}
 use borrow.Author.Needs.{needs}
 use Rattle.laws.proofs.Lowest.{lowest-at, lowest-none}
-use Rattle.schedule.specs.Coded.{shownOf}
 use Rattle.plan.specs.Coded.{planOf}
 use Rattle.checker.specs.Coded.{untrueIn}
 use Rattle.checker.specs.Parts.{plannedOf}

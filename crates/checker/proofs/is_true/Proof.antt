@@ -21,9 +21,9 @@ new-for-requires c κs = search needs
 returns-2 : tie.Need-returns-2
 unfolding trueBy
 returns-2 c =
-    let b = c .before .before .before in
-    let e = sym (b .may-tell .ensures) ∙ not-false (b .may-tell .result) (c .before .before .if1 .left) in
-    rw (e, c .before .new-for .ensures)
+    let b = c .before .before in
+    let e = sym (b .may-tell .ensures) ∙ not-false (b .may-tell .result) (c .before .if1 .left) in
+    rw (e, c .new-for .ensures)
 
 pub is-true-spec : {M : Type 1} → statement M
 is-true-spec = tie.close (tie.spec may-tell-requires returns new-for-requires returns-2)
