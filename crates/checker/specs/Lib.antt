@@ -1,3 +1,5 @@
 -- What `checker` defines.
 pub mod Paper
+pub mod Coded
+pub mod Parts
 pub mod Truthful

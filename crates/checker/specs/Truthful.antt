@@ -4,7 +4,7 @@ use mathlib.Core.Bool.{true, false, not}
 use mathlib.Core.List.{List}
 use mathlib.Core.Logic.{_⊎_}
 use Prim.Native.Nat.{ℕ, suc, _<_}
-use Rattle.schedule.specs.Paper.{first, again, optional, advised, Shown, shown, end, read}
+use Rattle.schedule.specs.Paper.{first, again, optional, advised, tells, Shown, shown, end, read}
 use Rattle.plan.specs.Paper.{Plan, planNumber, hasPage, entryAt, pageAt, lowestAt, low15At}
 use Rattle.checker.specs.Paper.{check, unchecked}
 
@@ -55,3 +55,14 @@ pub record AcceptedExactly (c p : Plan) (m : List ℕ) (received : ℕ) : Type 0
   pub accepted-truthful : check c p m received .number ≡ 0 → Truthful c p m received
   pub truthful-accepted : Truthful c p m received → check c p m received ≡ unchecked 0
   pub untrue-names : check c p m received .number ≡ 40 → Names c p m (check c p m received .slot)
+
+-- 00, the third version: a first transmission marked as a repeat; 01 Truthful: slot i is the lowest with its page, and told as a repeat of the slot of number n
+pub record ToldAsRepeat (c : Plan) (m : List ℕ) (i n : ℕ) : Type 0 where
+  pub below : i < c .count
+  pub page : entryAt c i .kind ≡ 2
+  pub lowest : lowestAt c i ≡ suc i
+  pub again-told : tells m i ≡ again n
+
+-- 00, the third version: no message is accepted that tells a page's lowest slot as a repeat
+abbrev pub NeverObeyed : Plan → Plan → List ℕ → ℕ → Type 0
+NeverObeyed c p m received = (i n : ℕ) → ToldAsRepeat c m i n → check c p m received .number ≡ 0 → ⊥

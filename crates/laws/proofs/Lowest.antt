@@ -6,7 +6,7 @@ use Prim.Native.Nat.{ℕ, zero, suc, _<_}
 use native.Mathlib.Nat.{not-suc-le-zero}
 use native.Mathlib.Omega.{arith}
 use Rattle.laws.specs.Upto.{some, lowest}
-use Rattle.laws.proofs.Upto.{below-suc, some-at, some-none}
+use Rattle.laws.proofs.Upto.{below-suc, some-at, some-none, some-agree}
 
 module _ (p : ℕ → Bool) where
   -- what the lowest number is: 0 where none passes, or one more than the first that does
@@ -46,3 +46,10 @@ module _ (p : ℕ → Bool) where
       go : (r : ℕ) → Lowest n r → r ≡ 0
       go r (none-passes q _) = q
       go r (first-passes k q h f lower) = absurd (false≢true (sym (none k h) ∙ f))
+
+  -- tests that agree below n have the same lowest
+  pub lowest-agree : (q : ℕ → Bool) (n : ℕ) → ((i : ℕ) → i < n → p i ≡ q i) → lowest p n ≡ lowest q n
+  unfolding lowest
+  lowest-agree q zero h = refl
+  lowest-agree q (suc n) h =
+      rw (some-agree p q n (λ i l. h i (omega arith)), lowest-agree q n (λ i l. h i (omega arith)), h n (omega arith))

@@ -1,0 +1,62 @@
+-- What a good plan has within its count.
+use mathlib.Core.Path.{_≡_, sym, ap, _∙_}
+use mathlib.Core.Bool.{true, false, false≢true}
+use mathlib.Core.List.{[], _∷_}
+use mathlib.Core.Logic.{inl, inr}
+use Prim.Native.Nat.{ℕ, suc, _<_}
+use native.Mathlib.Omega.{arith, by-contra}
+use lib.Dec.{ltb}
+use lib.ListN.{length, List·getD-eq-default}
+use borrow.Author.Tests.{lt-ltb}
+use Rattle.laws.specs.Search.{some}
+use Rattle.laws.proofs.Search.{some-found}
+use Rattle.laws.proofs.Ruled.{Ruling, refuses, passes, ruling}
+use Rattle.plan.specs.Paper.{Entry, Plan, free, within, bad, planNumber, entryAt}
+
+over-bad : (e : Entry) → 2 < e .kind → bad e ≡ true
+unfolding bad
+over-bad e h = simp (lt-ltb 2 (e .kind) h)
+
+-- a plan's number is 0 and none of its entries within the count is bad, or 32 or 33
+data Numbered (c : Plan) (n : ℕ) : Type 0 where
+  good : n ≡ 0 → some bad (within c) ≡ false → Numbered c n
+  refused : 0 < n → n < 40 → Numbered c n
+
+numbered : (c : Plan) → Numbered c (planNumber c)
+unfolding planNumber
+numbered c = go (ruling (λ (n : ℕ). n) ((ltb 48 (c .count), 32) ∷ (some bad (within c), 33) ∷ []) 0)
+  where
+    go : {r : ℕ} → Ruling (λ (n : ℕ). n) ((ltb 48 (c .count), 32) ∷ (some bad (within c), 33) ∷ []) 0 r → Numbered c r
+    go (refuses n (inl a) e) = refused (omega arith) (omega arith)
+    go (refuses n (inr (inl a)) e) = refused (omega arith) (omega arith)
+    go (refuses n (inr (inr a)) e) = absurd a
+    go (passes h e) = good e (h .1 .0)
+
+-- a plan has no number as high as 40
+pub plan-low : (c : Plan) → planNumber c < 40
+plan-low c = go (numbered c)
+  where
+    go : {n : ℕ} → Numbered c n → n < 40
+    go (good z none) = omega arith
+    go (refused some low) = low
+
+module _ (c : Plan) (g : planNumber c ≡ 0) where
+  none-bad : some bad (within c) ≡ false
+  none-bad = go g (numbered c)
+    where
+      go : {n : ℕ} → n ≡ 0 → Numbered c n → some bad (within c) ≡ false
+      go z (good e none) = none
+      go z (refused l low) = absurd (omega arith)
+
+  -- a kind within the count of a good plan is 0, 1 or 2
+  pub kind-few : (i : ℕ) → i < c .count → entryAt c i .kind < 3
+  kind-few i l =
+      by-contra (suc (entryAt c i .kind)) 3
+      (λ far.
+      let inside : i < length (c .entries) =
+      by-contra (suc i) (length (c .entries))
+      (λ past.
+      let none : entryAt c i .kind ≡ 0 = ap (λ (e : Entry). e .kind) (List·getD-eq-default (c .entries) free (omega arith)) in
+      omega arith)
+      in
+      false≢true (sym none-bad ∙ some-found bad free (c .count) (c .entries) i l inside (over-bad (entryAt c i) (omega arith))))

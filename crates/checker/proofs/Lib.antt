@@ -1,0 +1,8 @@
+-- What `checker` proves.
+pub mod Accepted
+pub mod Answers
+pub mod Comparing
+pub mod Determined
+pub mod GoodPlan
+pub mod Telling
+pub mod TrueAt

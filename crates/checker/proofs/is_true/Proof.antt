@@ -1,0 +1,29 @@
+-- `checker::is_true` meets its contract: the description decides, and else the new bit.
+use mathlib.Core.Path.{sym, _∙_}
+use borrow.Author.Tests.{not-true, not-false}
+use Rattle.checker.specs.Parts.{trueBy}
+use borrow.Author.Needs.{needs}
+use Rattle.checker.proofs.is_true.Statement.{statement}
+use Rattle.checker.proofs.is_true.Tie as tie
+
+may-tell-requires : tie.Need-may-tell-requires
+may-tell-requires c κs = search needs
+
+returns : tie.Need-returns
+unfolding trueBy
+returns c =
+    let e = sym (c .before .may-tell .ensures) ∙ not-true (c .before .may-tell .result) (c .if1 .taken) in
+    rw e
+
+new-for-requires : tie.Need-new-for-requires
+new-for-requires c κs = search needs
+
+returns-2 : tie.Need-returns-2
+unfolding trueBy
+returns-2 c =
+    let b = c .before .before in
+    let e = sym (b .may-tell .ensures) ∙ not-false (b .may-tell .result) (c .before .if1 .left) in
+    rw (e, c .new-for .ensures)
+
+pub is-true-spec : {M : Type 1} → statement M
+is-true-spec = tie.close (tie.spec may-tell-requires returns new-for-requires returns-2)

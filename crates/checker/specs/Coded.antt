@@ -1,0 +1,22 @@
+-- The code's values as the checker's numbers and tests.
+use mathlib.Core.Bool.{Bool, not}
+use mathlib.Core.List.{List}
+use Prim.Native.Nat.{ℕ}
+use lib.ListN.{getD}
+use Rattle.answer.specs.Number.{numberOf}
+use Rattle.schedule.specs.declared.Slot.{Slot}
+use Rattle.schedule.specs.Coded.{shownOf}
+use Rattle.schedule.specs.Parts.{zeroed}
+use Rattle.plan.specs.Paper.{Plan}
+use Rattle.checker.specs.declared.Checking.{Checking}
+use Rattle.checker.specs.declared.Checking.the-variants.{True, Refused}
+use Rattle.checker.specs.Paper.{isTrue, Checked}
+
+-- what an array of slots holds of slot i is untrue
+abbrev pub untrueIn : Plan → Plan → List Slot → ℕ → Bool
+untrueIn c p s i = not (isTrue c p i (shownOf (getD s i zeroed)))
+
+-- 0 for a true message, or the refusal's number and the slot that comes with it
+abbrev pub checkedOf : Checking → Checked
+checkedOf True = record { number = 0; slot = 0 }
+checkedOf (Refused r s) = record { number = numberOf r; slot = s }
