@@ -187,14 +187,9 @@ pub fn decide(schedule: Schedule, slot: usize, wanted: Wanted, held: Held) -> De
     ensures { λ r. ⌜ decidedOf r ≡ decideOf (scheduleOf schedule) slot (wantedOf wanted) (held .0) ⌝ }
 {
     let message = schedule.message;
-    decide_on(
-        schedule.known,
-        &message,
-        schedule.received,
-        slot,
-        wanted,
-        held,
-    )
+    let known = schedule.known;
+    let received = schedule.received;
+    decide_on(known, &message, received, slot, wanted, held)
 }
 
 // The slot that a page got at a slot is entered under, by what is told of the slot.
@@ -232,5 +227,7 @@ pub fn entered_under(schedule: Schedule, slot: usize) -> usize
     ensures { λ r. ⌜ r ≡ enteredUnder (scheduleOf schedule) slot ⌝ }
 {
     let message = schedule.message;
-    entered_under_on(schedule.known, &message, schedule.received, slot)
+    let known = schedule.known;
+    let received = schedule.received;
+    entered_under_on(known, &message, received, slot)
 }

@@ -1,0 +1,22 @@
+-- A board that obeys an accepted schedule: what it reads, what it doesn't, and what it ends a period with.
+use mathlib.Core.List.{List}
+use Prim.Native.Nat.{ℕ}
+use Rattle.plan.specs.Paper.{Plan}
+use Rattle.checker.specs.Truthful.{AcceptedExactly, Truthful}
+use Rattle.board.specs.Paper.{Wanted}
+use Rattle.board.specs.Claims.{Obeys, Wakes, WakesOnly, Period}
+use Rattle.board.proofs.Wakes.{wakes-truthful, wakes-only-truthful}
+use Rattle.board.proofs.Period.{period-truthful}
+
+module _ (c p : Plan) (m : List ℕ) (received : ℕ) (w : Wanted) (exactly : AcceptedExactly c p m received) (o : Obeys c p m received w) where
+  truthful : Truthful c p m received
+  truthful = exactly .accepted-truthful (o .accepted)
+
+  pub wakes : Wakes c m received w
+  wakes = wakes-truthful c p m received truthful w (o .few)
+
+  pub wakes-only : WakesOnly c m received w
+  wakes-only = wakes-only-truthful c p m received truthful w (o .few)
+
+  pub period : Period c m received w
+  period = period-truthful c p m received truthful w (o .few)
