@@ -1,11 +1,11 @@
 -- The decision case by case, on plain facts.
-use mathlib.Core.Path.{_≡_, refl, sym, ap, _∙_}
+use mathlib.Core.Path.{_≡_, sym, _∙_}
 use mathlib.Core.Bool.{Bool, true, false, and-false, and-true}
-use Prim.Native.Nat.{ℕ, suc, _-_, _≤_, _<_}
+use Prim.Native.Nat.{ℕ, _-_, _≤_, _<_}
 use native.Mathlib.Omega.{arith}
 use borrow.Author.Tests.{le-leb, lt-leb, lt-ltb, le-ltb}
-use Rattle.schedule.specs.Paper.{Told, first, again, optional, advised, tells}
-use Rattle.board.specs.Paper.{Wanted, Schedule, isWanted, isHeld, firstMatches, readsFor, tellsOf, reads, decide, undecided, entryFor, enteredUnder}
+use Rattle.schedule.specs.Paper.{Told, again, tells}
+use Rattle.board.specs.Paper.{Wanted, Schedule, isHeld, firstMatches, readsFor, tellsOf, reads, decide, undecided, entryFor, enteredUnder}
 use Rattle.board.proofs.Sets.{Slot}
 
 module _ (s : Schedule) (n : ℕ) (w : Wanted) (h : ℕ) where

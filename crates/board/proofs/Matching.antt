@@ -1,16 +1,14 @@
 -- Laws of wanted lists: the loop that looks through one, and which identifiers match.
-use mathlib.Core.Path.{_≡_, refl, sym, ap, _∙_}
-use mathlib.Core.Bool.{Bool, true, false, or-true}
-use mathlib.Core.List.{List, [], _∷_}
-use mathlib.Core.Logic.{⊎-elim}
+use mathlib.Core.Path.{_≡_, ap}
+use mathlib.Core.Bool.{true, false}
+use mathlib.Core.List.{List}
 use Prim.Native.Nat.{ℕ, _+_, _%_, _<_}
 use native.Mathlib.Nat.{mod-mod}
 use lib.ListN.{length, getD, take, length-map, List·getD-map}
 use lib.Dec.{eqb}
 use borrow.Author.Tests.{eq-eqb, ne-eqb, eqb-true}
 use Rattle.laws.specs.Search.{some}
-use Rattle.laws.proofs.Search.{some-turn, some-found, some-agree}
-use Rattle.laws.proofs.Tests.{either}
+use Rattle.laws.proofs.Search.{some-turn, some-found, some-implies, some-agree}
 use Rattle.page.specs.declared.MessageId.{MessageId}
 use Rattle.board.specs.Paper.{Wanted, matches15, isWanted}
 use Rattle.board.specs.Coded.{idOf, idsOf}
@@ -38,12 +36,6 @@ module _ (x : ℕ) (ids : List MessageId) (i : ℕ) (inside : i < length ids) wh
 pub low15-wanted : (w : Wanted) (x : ℕ) → isWanted w (x % 32768) ≡ isWanted w x
 unfolding isWanted
 low15-wanted w x = some-agree (matches15 (x % 32768)) (matches15 x) (λ y. ap (eqb (y % 32768)) (mod-mod x 32768)) (take (w .count) (w .ids))
-
--- an entry that passes one test passes another that follows from it
-pub some-implies : {A : Type 0} (f g : A → Bool) → ((x : A) → f x ≡ true → g x ≡ true) → (l : List A) → some f l ≡ true → some g l ≡ true
-unfolding some
-some-implies f g h [] e = e
-some-implies f g h (x ∷ l) e = ⊎-elim (λ a. rw (h x a)) (λ a. rw (some-implies f g h l a) (or-true (g x))) (either (f x) (some f l) e)
 
 -- an identifier that is wanted, all 16 bits of it, matches
 pub wanted-matches : (w : Wanted) (x : ℕ) → some (λ (y : ℕ). eqb y x) (take (w .count) (w .ids)) ≡ true → isWanted w x ≡ true

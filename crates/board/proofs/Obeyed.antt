@@ -2,15 +2,16 @@
 use mathlib.Core.List.{List}
 use Prim.Native.Nat.{ℕ}
 use Rattle.plan.specs.Paper.{Plan}
-use Rattle.checker.specs.Truthful.{AcceptedExactly, Truthful}
+use Rattle.checker.specs.Truthful.{Truthful}
+use Rattle.checker.proofs.Accepted.{accepted-exactly}
 use Rattle.board.specs.Paper.{Wanted}
 use Rattle.board.specs.Claims.{Obeys, Wakes, WakesOnly, Period}
 use Rattle.board.proofs.Wakes.{wakes-truthful, wakes-only-truthful}
 use Rattle.board.proofs.Period.{period-truthful}
 
-module _ (c p : Plan) (m : List ℕ) (received : ℕ) (w : Wanted) (exactly : AcceptedExactly c p m received) (o : Obeys c p m received w) where
+module _ (c p : Plan) (m : List ℕ) (received : ℕ) (w : Wanted) (o : Obeys c p m received w) where
   truthful : Truthful c p m received
-  truthful = exactly .accepted-truthful (o .accepted)
+  truthful = accepted-exactly c p m received .accepted-truthful (o .accepted)
 
   pub wakes : Wakes c m received w
   wakes = wakes-truthful c p m received truthful w (o .few)

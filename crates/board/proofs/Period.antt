@@ -1,15 +1,15 @@
 -- Over a whole period from an empty set, a board that obeys an accepted schedule gets every wanted page of the plan.
-use mathlib.Core.Path.{_≡_, refl, sym, ap, _∙_}
+use mathlib.Core.Path.{_≡_, sym, ap, _∙_}
 use mathlib.Core.Bool.{Bool, true, false, cond, or-true}
-use mathlib.Core.List.{List, [], _∷_}
-use mathlib.Core.Logic.{_⊎_, inl, inr, ⊎-elim}
+use mathlib.Core.List.{List, _∷_}
+use mathlib.Core.Logic.{⊎-elim}
 use Prim.Native.Nat.{ℕ, zero, suc, _-_, _≤_, _<_}
 use native.Mathlib.Nat.{not-suc-le-zero}
 use native.Mathlib.Omega.{arith}
 use lib.Dec.{eqb}
-use lib.ListN.{take}
 use borrow.Author.Tests.{eq-eqb}
 use Rattle.laws.specs.Search.{some}
+use Rattle.laws.proofs.Search.{some-implies}
 use Rattle.laws.proofs.Upto.{below-suc}
 use Rattle.page.specs.Paper.{Name, samePage}
 use Rattle.page.proofs.Sameness.{same-reflexive, same-symmetric, same-transitive}
@@ -17,8 +17,7 @@ use Rattle.plan.specs.Paper.{Plan, entryAt, pageAt, lowestAt}
 use Rattle.plan.proofs.Lowest.{leading}
 use Rattle.checker.specs.Truthful.{Truthful}
 use Rattle.board.specs.Paper.{Wanted, Decided, isHeld, enter, decide, enteredUnder}
-use Rattle.board.specs.Claims.{obeyed, WantedPage, Board, passing, after, Ends, Period}
-use Rattle.board.proofs.Matching.{some-implies}
+use Rattle.board.specs.Claims.{obeyed, WantedPage, Board, passing, after, Period}
 use Rattle.board.proofs.Sets.{held-entered, held-kept}
 use Rattle.board.proofs.Wakes.{slot-number, entered-own, wakes-truthful}
 

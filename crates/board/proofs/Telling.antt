@@ -1,11 +1,11 @@
 -- What a schedule tells of a slot, by way of the reader's table of slots.
 use mathlib.Core.Path.{_≡_, refl, sym, ap, _∙_}
-use mathlib.Core.Bool.{Bool, true, false, _&&_, _||_, not, false≢true}
+use mathlib.Core.Bool.{Bool, true, false, _&&_, _||_, not}
 use mathlib.Core.List.{List}
 use Prim.Native.Nat.{ℕ, suc, _-_, _≤_, _<_}
 use native.Mathlib.Omega.{arith}
 use lib.Dec.{eqb, leb}
-use borrow.Author.Tests.{eqb-true, eqb-false, leb-true, leb-false, ne-eqb}
+use borrow.Author.Tests.{eqb-true, eqb-false, leb-true, leb-false, ne-eqb, not-false}
 use Rattle.laws.specs.Upto.{some}
 use Rattle.laws.proofs.Upto.{some-at}
 use Rattle.laws.proofs.Outcome.{Outcome, refuses, passes, outcome}
@@ -15,10 +15,10 @@ use Rattle.answer.specs.Number.{numberOf}
 use Rattle.answer.proofs.Inverse.{numberOf-positive}
 use Rattle.schedule.specs.declared.Slot.{Slot}
 use Rattle.schedule.specs.declared.Table.{Table}
-use Rattle.schedule.specs.Paper.{Told, first, again, optional, advised, isFirst, falseIn, falseRepeat, end, faults, Shown, shown, tells, Read, unread, good, read, Listed, listed}
-use Rattle.schedule.specs.Coded.{readOf, shownOf, listedOf}
+use Rattle.schedule.specs.Paper.{Told, first, again, optional, advised, isFirst, falseIn, falseRepeat, begin, end, within, faults, Shown, tells, Read, unread, good, read, Listed, listed}
+use Rattle.schedule.specs.Coded.{readOf, listedOf}
 use Rattle.schedule.specs.Parts.{tellsOf}
-use Rattle.schedule.proofs.Givens.{faults-some, read-listed, Good, given-good, shown-at}
+use Rattle.schedule.proofs.Givens.{faults-some, read-listed, given-good, shown-at}
 use Rattle.schedule.proofs.Repeats.{falseRepeat-agree}
 use Rattle.board.specs.Paper.{Wanted, readsFor, reads, decide, entryFor, enteredUnder}
 use Rattle.board.specs.Coded.{lentSchedule}
@@ -29,6 +29,7 @@ use Rattle.board.specs.Paper as paper
 -- what is known of a message that is read
 pub record IsRead (m : List ℕ) (received : ℕ) : Type 0 where
   pub ends : read m received .end ≡ end m
+  pub last : end m ≤ 48
   pub repeats : (i : ℕ) → i < end m → falseRepeat (tells m) i ≡ false
 
 pub is-read : (m : List ℕ) (received : ℕ) → read m received .number ≡ 0 → IsRead m received
@@ -42,8 +43,10 @@ is-read m received e = go (outcome (faults m received))
     go : Outcome (faults m received) → IsRead m received
     go (refuses n a h) = absurd (faults-some m received n a (sym (ap (λ (r : Read). r .number) (h Read unread (good m))) ∙ e))
     go (passes h f) =
+        let range = both (leb 1 (begin m)) (leb (begin m) (end m) && leb (end m) 48) (not-false (within m) (h .1 .1 .1 .0)) in
         record {
           ends = ap (λ (r : Read). r .end) (f Read unread (good m));
+          last = leb-true (end m) 48 (both (leb (begin m) (end m)) (leb (end m) 48) (range .1) .1);
           repeats = λ i l. no-false (h .1 .1 .1 .1 .1 .1 .0) i l _ refl;
         }
 

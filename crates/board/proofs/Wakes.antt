@@ -1,16 +1,13 @@
 -- A board that obeys an accepted schedule reads what it must, and reads nothing else.
-use mathlib.Core.Path.{_≡_, refl, sym, ap, _∙_}
-use mathlib.Core.Bool.{Bool, true, false, not, _&&_, false≢true}
-use mathlib.Core.List.{List, [], _∷_}
-use mathlib.Core.Logic.{_⊎_, inl, inr, ⊎-elim}
+use mathlib.Core.Path.{_≡_, sym, ap, _∙_}
+use mathlib.Core.Bool.{true, not, false≢true}
+use mathlib.Core.List.{List}
+use mathlib.Core.Logic.{inl, inr, ⊎-elim}
 use Prim.Native.Nat.{ℕ, suc, _-_, _%_, _≤_, _<_}
 use native.Mathlib.Omega.{arith}
-use lib.Dec.{eqb, leb}
-use lib.ListN.{take}
-use borrow.Author.Tests.{eq-eqb, eqb-true, le-leb, not-true}
-use Rattle.laws.specs.Search.{some}
+use borrow.Author.Tests.{eq-eqb, le-leb, not-true}
 use Rattle.laws.proofs.Tests.{both}
-use Rattle.schedule.specs.Paper.{Told, first, again, optional, advised, tells, end, read}
+use Rattle.schedule.specs.Paper.{first, optional, tells, end, read}
 use Rattle.plan.specs.Paper.{Plan, entryAt, lowestAt, low15At}
 use Rattle.plan.proofs.Lowest.{leading}
 use Rattle.checker.specs.Truthful.{Truthful}
@@ -18,8 +15,9 @@ use Rattle.board.specs.Paper.{Wanted, isWanted, isHeld, firstMatches, re
 use Rattle.board.specs.Claims.{obeyed, WantedPage, Wakes, Why, marked, led, repeated, WakesOnly}
 use Rattle.board.proofs.Cases.{decide-reads, reads-told, entered-told}
 use Rattle.board.proofs.Matching.{low15-wanted, wanted-matches}
-use Rattle.board.proofs.Planned.{Planned, free-slot, advised-slot, lowest-slot, later-slot, planned, low-count}
+use Rattle.board.proofs.Planned.{Planned, free-slot, advised-slot, lowest-slot, later-slot, planned}
 use Rattle.board.proofs.Sets.{Slot}
+use Rattle.board.proofs.Telling.{is-read}
 
 module _ (c p : Plan) (m : List ℕ) (received : ℕ) (t : Truthful c p m received) where
   -- the schedule tells of every slot of the plan
@@ -31,7 +29,7 @@ module _ (c p : Plan) (m : List ℕ) (received : ℕ) (t : Truthful c p m receiv
       simp (eq-eqb (read m received .number) 0 (t .reads), le-leb 1 (suc i) some, le-leb (suc i) (end m) near)
 
   pub slot-number : (i : ℕ) → i < c .count → Slot (suc i)
-  slot-number i l = record { some = omega arith; low = omega (arith, low-count c p m received t i l) }
+  slot-number i l = record { some = omega arith; low = omega (arith, t .ends, is-read m received (t .reads) .last) }
 
   own : (i : ℕ) → suc i - 1 ≡ i
   own i = omega arith
@@ -71,7 +69,6 @@ module _ (c p : Plan) (m : List ℕ) (received : ℕ) (t : Truthful c p m receiv
       unfolding lead
       matches e =
           let a = leading c i l k in
-          let same : lead ≡ lowestAt c i - 1 = refl in
           let below : lead < c .count = omega (arith, a .some, a .reaches) in
           let number : lowestAt c lead ≡ suc lead = a .own ∙ (omega (arith, a .some)) in
           ⊎-elim

@@ -2,6 +2,7 @@
 use mathlib.Core.Path.{_≡_, refl, sym}
 use mathlib.Core.Bool.{Bool, true, false, cond, not, _||_, or-true, or-assoc}
 use mathlib.Core.List.{List, [], _∷_, _++_}
+use mathlib.Core.Logic.{⊎-elim}
 use Prim.Native.Nat.{ℕ, zero, suc, _+_, _≤_, _<_}
 use native.Mathlib.Nat.{le-of-suc-le-suc, not-suc-le-zero}
 use native.Mathlib.Numerals.{add-one}
@@ -10,6 +11,7 @@ use lib.ListN.{length, getD, take, drop, drop-of-length-le}
 use lib.Dec.{eqb, eqb·suc-zero}
 use lib.Seq.{take-suc, drop-cons}
 use Rattle.laws.specs.Search.{some, firstFrom}
+use Rattle.laws.proofs.Tests.{either}
 
 module _ {A : Type 0} (f : A → Bool) where
   pub some-append : (xs ys : List A) → some f (xs ++ ys) ≡ (some f xs || some f ys)
@@ -74,6 +76,13 @@ module _ {A : Type 0} (f : A → Bool) where
       go : (b : Bool) → f x ≡ b → Found d (suc s) l (firstFrom f (suc s) l) → Found d s (x ∷ l) (cond b s (firstFrom f (suc s) l))
       go true e r = first-passes zero (omega arith) (omega arith) e (λ j h. absurd (not-suc-le-zero h))
       go false e r = later e (firstFrom f (suc s) l) r
+
+-- an entry that passes one test passes another that follows from it
+pub some-implies : {A : Type 0} (f g : A → Bool) → ((x : A) → f x ≡ true → g x ≡ true) → (l : List A) → some f l ≡ true → some g l ≡ true
+unfolding some
+some-implies f g h [] e = e
+some-implies f g h (x ∷ l) e =
+    ⊎-elim (λ a. rw (h x a)) (λ a. rw (some-implies f g h l a) (or-true (g x))) (either (f x) (some f l) e)
 
 -- two tests that agree find the same
 module _ {A : Type 0} (f g : A → Bool) (agree : (x : A) → f x ≡ g x) where
