@@ -5,6 +5,7 @@ use mathlib.Core.List.{List, [], _∷_, _++_, map}
 use Prim.Native.Nat.{ℕ}
 use lib.Dec.{lit<, lit≤}
 use lib.ListN.{replicate}
+use Rattle.laws.specs.Received.{wholeBlocks}
 use Rattle.laws.specs.Search.{some, firstFrom}
 use Rattle.page.specs.Paper.{samePage}
 use Rattle.plan.specs.Paper.{Plan, held, bad, planNumber, holds, lowestSlot, hasPage, pageAt, lowestAt}
@@ -41,7 +42,7 @@ abbrev low : Wanted
 low = record { count = 1; ids = 1 ∷ replicate 63 0 }
 
 accepted : check current previous message 22 .number ≡ 0
-unfolding check planNumber bad some read upto.some upto.count upto.lowest new place tells isTrue hasPage lowestSlot holds samePage firstFrom
+unfolding check planNumber bad some read upto.some upto.count upto.lowest new place tells isTrue hasPage lowestSlot holds samePage firstFrom wholeBlocks
 accepted = refl
 
 -- what the theorems rest on is met, and so is what each asks of a slot
@@ -70,19 +71,19 @@ abbrev decided : Wanted → ℕ → List Bool
 decided w h = map (λ (n : ℕ). decide (obeyed message 22) n w h .read) (1 ∷ 2 ∷ 3 ∷ 4 ∷ 5 ∷ [])
 
 pub decided-empty : decided wanted 0 ≡ true ∷ true ∷ true ∷ false ∷ false ∷ []
-unfolding decide reads tellsOf isWanted isHeld some read upto.some upto.count new place tells
+unfolding decide reads tellsOf isWanted isHeld some read upto.some upto.count new place tells wholeBlocks
 decided-empty = refl
 
 pub decided-held : decided wanted (enter 0 1) ≡ true ∷ false ∷ true ∷ false ∷ false ∷ []
-unfolding decide reads tellsOf isWanted isHeld enter some read upto.some upto.count new place tells
+unfolding decide reads tellsOf isWanted isHeld enter some read upto.some upto.count new place tells wholeBlocks
 decided-held = refl
 
 -- 01 Where the edges are: wanted 0001 reads the slot of identifier 8001
 pub low-reads : decide (obeyed message 22) 1 low 0 ≡ record { number = 0; read = true }
-unfolding decide reads tellsOf isWanted isHeld some read upto.some upto.count new place tells
+unfolding decide reads tellsOf isWanted isHeld some read upto.some upto.count new place tells wholeBlocks
 low-reads = refl
 
 -- at the end of the period the board has the one wanted page, got once
 pub ended : after current message 22 wanted 5 ≡ record { held = 1; got = pageAt current 0 ∷ [] }
-unfolding after decide reads tellsOf enteredUnder enter isWanted isHeld some read upto.some upto.count new place tells
+unfolding after decide reads tellsOf enteredUnder enter isWanted isHeld some read upto.some upto.count new place tells wholeBlocks
 ended = refl

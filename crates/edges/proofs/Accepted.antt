@@ -128,6 +128,6 @@ ours-accepted c p b o z =
     let bounds = used-bounds c p b o z in
     let last = used-blocks (write c p b o .used) (bounds .0) (bounds .1) in
     record {
-      whole = accepted-received c p b o z 88 refl (bounds .1);
+      whole = accepted-received c p b o z 88 (whole-times 4 (omega arith) (omega arith)) (bounds .1);
       used = accepted-received c p b o z (22 * lastUsed (write c p b o .used)) (last .0) (last .1);
     }

@@ -32,7 +32,7 @@ equal a b h =
     let t = both (eqb (a .id) (b .id)) _ (s .1) in
     record { serial = eqb-true _ _ (s .0); id = eqb-true _ _ (t .0); parameter = eqb-true _ _ (t .1) }
 
-alike : (a b : Name) → Equal a b → Same a b
+pub alike : (a b : Name) → Equal a b → Same a b
 unfolding samePage
 alike a b h = simp (eq-eqb _ _ (h .serial), eq-eqb _ _ (h .id), eq-eqb _ _ (h .parameter))
 

@@ -17,9 +17,9 @@ headingOf h = record { serial = h .serial .0; id = h .id .0; scheme = h .scheme;
 abbrev pub nameOf : PageName → Name
 nameOf p = record { serial = p .serial .0; id = p .id .0; parameter = p .parameter }
 
--- serial number and identifier as one number
+-- what tells a page as one number
 abbrev pub keyOf : Name → ℕ
-keyOf n = n .id * 65536 + n .serial
+keyOf n = (n .parameter * 65536 + n .id) * 65536 + n .serial
 
 -- the number of an answer: 0 for done
 abbrev pub numberOfHanding : Handing → ℕ

@@ -68,21 +68,18 @@ pub fn header_octets(heading: Header) -> [u8; 6]
     ]
 }
 
-// Serial number and identifier as one number, so that a search through a plan compares once where pages differ.
-fn key(name: PageName) -> u32
+// What tells a page as one number, so that a search through a plan compares once.
+fn key(name: PageName) -> u64
     ensures { λ r. ⌜ r ≡ keyOf (nameOf name) ⌝ }
 {
-    name.id.0 as u32 * 0x10000 + name.serial.0 as u32
+    (name.parameter as u64 * 0x10000 + name.id.0 as u64) * 0x10000 + name.serial.0 as u64
 }
 
 // Whether two pages are the same page.
 pub fn same(a: PageName, b: PageName) -> bool
     ensures { λ r. ⌜ r ≡ samePage (nameOf a) (nameOf b) ⌝ }
 {
-    if key(a) != key(b) {
-        return false;
-    }
-    a.parameter == b.parameter
+    key(a) == key(b)
 }
 
 // Whether `content` hands a part back, and if not why.
