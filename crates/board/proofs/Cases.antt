@@ -1,11 +1,11 @@
 -- The decision case by case, on plain facts.
 use mathlib.Core.Path.{_≡_, sym, _∙_}
-use mathlib.Core.Bool.{Bool, true, false, and-false, and-true}
+use mathlib.Core.Bool.{Bool, true, false}
 use Prim.Native.Nat.{ℕ, _-_, _≤_, _<_}
 use native.Mathlib.Omega.{arith}
 use borrow.Author.Tests.{le-leb, lt-leb, lt-ltb, le-ltb}
-use Rattle.schedule.specs.Paper.{Told, again, tells}
-use Rattle.board.specs.Paper.{Wanted, Schedule, isHeld, firstMatches, readsFor, tellsOf, reads, decide, undecided, entryFor, enteredUnder}
+use Rattle.schedule.specs.Paper.{tells}
+use Rattle.board.specs.Paper.{Wanted, Schedule, readsFor, tellsOf, reads, decide, undecided, entryFor, enteredUnder}
 use Rattle.board.proofs.Sets.{Slot}
 
 module _ (s : Schedule) (n : ℕ) (w : Wanted) (h : ℕ) where
@@ -52,11 +52,3 @@ module _ (s : Schedule) (n : ℕ) where
   pub tells-unknown : s .known ≡ false → tellsOf s n ≡ false
   unfolding tellsOf
   tells-unknown e = rw e
-
--- a repeat, by the held set
-module _ (t : ℕ → Told) (w : Wanted) (h n : ℕ) where
-  pub repeat-held : isHeld h n ≡ true → readsFor t w h (again n) ≡ false
-  repeat-held e = rw e (and-false (firstMatches w (t (n - 1))))
-
-  pub repeat-new : isHeld h n ≡ false → readsFor t w h (again n) ≡ firstMatches w (t (n - 1))
-  repeat-new e = rw e (and-true (firstMatches w (t (n - 1))))

@@ -2,7 +2,7 @@
 use mathlib.Core.Path.{_≡_, refl, sym, ap, _∙_}
 use mathlib.Core.Bool.{Bool, true, false, _&&_, _||_, not}
 use mathlib.Core.List.{List}
-use Prim.Native.Nat.{ℕ, suc, _-_, _≤_, _<_}
+use Prim.Native.Nat.{ℕ, suc, _+_, _-_, _≤_, _<_}
 use native.Mathlib.Omega.{arith}
 use lib.Dec.{eqb, leb}
 use borrow.Author.Tests.{eqb-true, eqb-false, leb-true, leb-false, ne-eqb, not-false}
@@ -20,7 +20,8 @@ use Rattle.schedule.specs.Coded.{readOf, listedOf}
 use Rattle.schedule.specs.Parts.{tellsOf}
 use Rattle.schedule.proofs.Givens.{faults-some, read-listed, given-good, shown-at}
 use Rattle.schedule.proofs.Repeats.{falseRepeat-agree}
-use Rattle.board.specs.Paper.{Wanted, readsFor, reads, decide, entryFor, enteredUnder}
+use Rattle.board.specs.Paper.{Wanted, isHeld, firstMatches, readsFor, reads, decide, entryFor, enteredUnder}
+use Rattle.board.specs.Parts.{readsBy}
 use Rattle.board.specs.Coded.{lentSchedule}
 use Rattle.board.proofs.Sets.{Slot as SlotNumber}
 use Rattle.board.proofs.Cases.{reads-told, entered-told, decided-as}
@@ -114,6 +115,34 @@ named t i n e f =
     let positive = eqb-false n 0 (parts .0) in
     let below = leb-false (suc i) n (rest .0) in
     record { some = omega arith; low = omega arith }
+
+-- the slot that a page is entered under is that where it is got, or one below it
+pub entry-named : (t : ℕ → Told) (i : ℕ) → falseRepeat t i ≡ false → Named (i + 1) (entryFor (i + 1) (t i))
+entry-named t i f = go (t i) refl
+  where
+    own : Named (i + 1) (i + 1)
+    own = record { some = omega arith; low = omega arith }
+
+    go : (d : Told) → t i ≡ d → Named (i + 1) (entryFor (i + 1) d)
+    go (first x) q = own
+    go (again n) q = let l = named t i n q f in record { some = l .some; low = omega (arith, l .low) }
+    go optional q = own
+    go advised q = own
+
+-- whether a slot is read, by what is told of the slot that its page is entered under
+pub reads-by-entry : (t : ℕ → Told) (w : Wanted) (h i under : ℕ) (matches missing : Bool) → under ≡ entryFor (i + 1) (t i)
+    → matches ≡ firstMatches w (t (under - 1)) → missing ≡ (matches && not (isHeld h under)) → readsBy matches missing (t i) ≡ readsFor t w h (t i)
+reads-by-entry t w h i under matches missing u a b = go (t i) refl
+  where
+    go : (d : Told) → t i ≡ d → readsBy matches missing d ≡ readsFor t w h d
+    go (first x) q =
+        let own : under - 1 ≡ i = omega (arith, u ∙ ap (entryFor (i + 1)) q) in
+        a ∙ ap (λ (j : ℕ). firstMatches w (t j)) own ∙ ap (firstMatches w) q
+    go (again n) q =
+        let first-slot : under ≡ n = u ∙ ap (entryFor (i + 1)) q in
+        b ∙ ap (λ (m : Bool). m && not (isHeld h under)) a ∙ ap (λ (k : ℕ). firstMatches w (t (k - 1)) && not (isHeld h k)) first-slot
+    go optional q = refl
+    go advised q = refl
 
 -- descriptions that agree up to slot e are read for alike
 pub reads-agree : (t u : ℕ → Told) (w : Wanted) (h e i : ℕ) → ((j : ℕ) → j < e → t j ≡ u j) → i < e → falseRepeat t i ≡ false → readsFor t w h (t i) ≡ readsFor u w h (u i)

@@ -12,7 +12,7 @@ use Rattle.plan.specs.Paper.{Plan, entryAt, lowestAt, low15At}
 use Rattle.plan.proofs.Lowest.{leading}
 use Rattle.checker.specs.Truthful.{Truthful}
 use Rattle.board.specs.Paper.{Wanted, isWanted, isHeld, firstMatches, readsFor, tellsOf, decide, enteredUnder, entryFor}
-use Rattle.board.specs.Claims.{obeyed, WantedPage, Wakes, Why, marked, led, repeated, WakesOnly}
+use Rattle.board.specs.Claims.{obeyed, Wakes, Why, marked, led, repeated, WakesOnly}
 use Rattle.board.proofs.Cases.{decide-reads, reads-told, entered-told}
 use Rattle.board.proofs.Matching.{low15-wanted, wanted-matches}
 use Rattle.board.proofs.Planned.{Planned, free-slot, advised-slot, lowest-slot, later-slot, planned}

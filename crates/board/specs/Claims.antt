@@ -1,8 +1,7 @@
 -- What is claimed of a board that obeys an accepted schedule. Slots are counted from 0 here, as in plans: slot i is number i + 1.
 use mathlib.Core.Path.{_≡_}
-use mathlib.Core.Bool.{Bool, true, false, cond}
+use mathlib.Core.Bool.{true, false, cond}
 use mathlib.Core.List.{List, [], _∷_}
-use mathlib.Core.Logic.{_⊎_}
 use Prim.Native.Nat.{ℕ, zero, suc, _-_, _≤_, _<_}
 use lib.ListN.{take}
 use lib.Dec.{eqb}

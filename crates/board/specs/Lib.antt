@@ -1,4 +1,5 @@
 -- What `board` defines.
 pub mod Paper
 pub mod Coded
+pub mod Parts
 pub mod Claims

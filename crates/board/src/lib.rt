@@ -1,6 +1,6 @@
 // What a board does at a slot: read or skip, and the slots whose pages it holds.
 ghost use mathlib.Core.Path.{_≡_};
-ghost use mathlib.Core.Bool.{_&&_, false};
+ghost use mathlib.Core.Bool.{_&&_, not, false};
 ghost use Prim.Native.Nat.{_≤_, _<_};
 ghost use lib.Dec.{eqb, leb};
 ghost use lib.ListN.{take};
@@ -9,6 +9,7 @@ ghost use Rattle.schedule.specs.Paper.{falseRepeat};
 ghost use Rattle.schedule.specs.Coded.{toldOf, readOf};
 ghost use Rattle.schedule.specs.Parts.{tellsOf};
 ghost use Rattle.board.specs.Paper.{matches15, isWanted, isHeld, enter, firstMatches, readsFor, entryFor, decide as decideOf, enteredUnder};
+ghost use Rattle.board.specs.Parts.{readsBy};
 ghost use Rattle.board.specs.Coded.{idsOf, wantedOf, scheduleOf, lentSchedule, decidedOf};
 use answer::Refusal;
 use page::MessageId;
@@ -124,27 +125,53 @@ fn first_matches(description: Description, wanted: Wanted) -> bool
     }
 }
 
-// Whether slot i, counted from 0, is read by what is told of it.
+// The slot that a page got at a slot is entered under, by what is told of the slot.
+fn entry_for(slot: usize, description: Description) -> usize
+    ensures { λ r. ⌜ r ≡ entryFor slot (toldOf description) ⌝ }
+{
+    match description {
+        Description::First(_) => slot,
+        Description::Repeat(first) => first as usize,
+        Description::Optional => slot,
+        Description::Advised => slot,
+    }
+}
+
+// Whether a first transmission that matches or not is still to be got, where its slot may be held.
+fn unless_held(matches: bool, held: Held, slot: usize) -> bool
+    ensures { λ r. ⌜ r ≡ (matches && not (isHeld (held .0) slot)) ⌝ }
+{
+    if is_held(held, slot) {
+        return false;
+    }
+    matches
+}
+
+// Whether a slot is read by what is told of it, where its page's first transmission matches and is still to be got.
+fn reads_by(description: Description, matches: bool, missing: bool) -> bool
+    ensures { λ r. ⌜ r ≡ readsBy matches missing (toldOf description) ⌝ }
+{
+    match description {
+        Description::First(_) => matches,
+        Description::Repeat(_) => missing,
+        Description::Optional => false,
+        Description::Advised => true,
+    }
+}
+
+// Whether slot i, counted from 0, is read by what is told of it and of the slot that its page is entered under.
 fn reads_for(slots: [Slot; 48], i: usize, wanted: Wanted, held: Held) -> bool
     requires { ⌜ (i < 48) × (falseRepeat (tellsOf slots) i ≡ false) × (wanted .count ≤ 64) ⌝ }
     ensures { λ r. ⌜ r ≡ readsFor (tellsOf slots) (wantedOf wanted) (held .0) (tellsOf slots i) ⌝ }
 {
     let slot = slots[i];
     let description = slot.description;
-    match description {
-        Description::First(id) => is_wanted(wanted, id),
-        Description::Repeat(octet) => {
-            let n = octet as usize;
-            if is_held(held, n) {
-                return false;
-            }
-            let named = slots[n - 1];
-            let first = named.description;
-            first_matches(first, wanted)
-        }
-        Description::Optional => false,
-        Description::Advised => true,
-    }
+    let under = entry_for(i + 1, description);
+    let named = slots[under - 1];
+    let first = named.description;
+    let matches = first_matches(first, wanted);
+    let missing = unless_held(matches, held, under);
+    reads_by(description, matches, missing)
 }
 
 // Reads or skips a slot by a lent message, of which there may be none.
@@ -190,18 +217,6 @@ pub fn decide(schedule: Schedule, slot: usize, wanted: Wanted, held: Held) -> De
     let known = schedule.known;
     let received = schedule.received;
     decide_on(known, &message, received, slot, wanted, held)
-}
-
-// The slot that a page got at a slot is entered under, by what is told of the slot.
-fn entry_for(slot: usize, description: Description) -> usize
-    ensures { λ r. ⌜ r ≡ entryFor slot (toldOf description) ⌝ }
-{
-    match description {
-        Description::First(_) => slot,
-        Description::Repeat(first) => first as usize,
-        Description::Optional => slot,
-        Description::Advised => slot,
-    }
 }
 
 // The slot that a page got at a slot is entered under, by a lent message, of which there may be none.

@@ -1,8 +1,7 @@
 -- `board::Held::with` meets its contract: a power of two is added where its bit is clear.
-use mathlib.Core.Path.{_≡_, sym, _∙_}
-use Prim.Native.Nat.{_≤_, _<_, _-_}
+use mathlib.Core.Path.{sym, _∙_}
 use borrow.Author.Needs.{needs}
-use Rattle.board.proofs.Sets.{Slot, enter-low, enter-high, enter-held, enter-shifted, enter-fits}
+use Rattle.board.proofs.Sets.{enter-low, enter-high, enter-held, enter-shifted, enter-fits}
 use Rattle.board.proofs.Held.with.Statement.{statement}
 use Rattle.board.proofs.Held.with.Tie as tie
 
