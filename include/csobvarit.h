@@ -84,11 +84,11 @@ uint32_t cb_intake(uint8_t *state, size_t state_len, const uint8_t *piece, size_
 #define CB_RECEIVED_OCTETS  18 /* refused: the received octets aren't 22, 44, 66 or 88 */
 
 /*
- * What cb_write_text returns is number + 256 * used octets, cb_read_text number + 256 * characters, and cb_read_plan
- * number + 256 * count.
+ * What most calls return is number + 256 * count. What is counted is told with each: used octets, characters, slots, the
+ * slot that 40 names, or 1 for read.
  */
 #define CB_NUMBER(returned) ((uint32_t)(returned) & 0xFFu)
-#define CB_COUNT(returned)  ((uint32_t)(returned) >> 8) /* 0 with a refusal */
+#define CB_COUNT(returned)  ((uint32_t)(returned) >> 8) /* 0 with a refusal other than 40 */
 
 /*
  * Writes a page of 88 octets: header, high octets first, and the text packed, with CR after it up to 93 characters.
@@ -186,6 +186,56 @@ uint64_t cb_description(const uint8_t *message, size_t message_len, size_t recei
  *   32 if short, 30, 31, 32, 33 the first of these that applies, in this order; the count is 0
  */
 uint32_t cb_read_plan(const uint8_t *file, size_t file_len);
+
+/*
+ * Schedules beside plans. A plan goes in as its file, the current one and the one before it; where there is none before,
+ * give a file of count 0.
+ */
+#define CB_PLAN 294 /* octets of the longest plan file: 6 + 6 * 48 */
+
+#define CB_DESCRIPTIONS_TOO_LONG 34 /* refused: the descriptions need over 80 octets */
+#define CB_PLAN_EMPTY            35 /* refused: the current plan's count is 0 */
+#define CB_UNTRUE                40 /* the message isn't true to the plans */
+#define CB_SLOT_NUMBER           41 /* refused: the slot isn't 1 to 48 */
+#define CB_WANTED_COUNT          42 /* refused: over 64 wanted identifiers */
+
+/*
+ * Writes the schedule message of the current plan, 88 octets: number + 256 * used octets. It is accepted by
+ * cb_check_schedule beside the same files, and goes to cb_write_blocks with its used octets.
+ *
+ *   0                           out: the message, then 2B; the count is its used octets, 9 to 88
+ *   15, the current file's, the previous file's, 35, 21, 34
+ *                               out: untouched; the first of these that applies, in this order. A file's refusals are
+ *                               those of cb_read_plan; 21 is a Begin that isn't 1 to the current plan's count
+ */
+uint32_t cb_write_schedule(const uint8_t *current, size_t current_len, const uint8_t *previous, size_t previous_len,
+                           size_t begin, uint8_t *out, size_t out_len);
+
+/*
+ * Checks a schedule message beside the plans: number + 256 * slot. Nothing is written.
+ *
+ *   0                           the message is true to the plans at every slot
+ *   the current file's, the previous file's, 35, 16, 18, 20, 21, 22, 23, 24
+ *                               the first of these that applies, in this order; the slot is 0
+ *   40                          it reads well but isn't true; the count is the lowest slot that is untrue, 1 to 48, or
+ *                               0 where End differs from the current plan's count
+ */
+uint32_t cb_check_schedule(const uint8_t *current, size_t current_len, const uint8_t *previous, size_t previous_len,
+                           const uint8_t *message, size_t message_len, size_t received);
+
+/*
+ * Decides for a slot: number + 256 * (1 read, 0 skip). Nothing is written. With known false there is no schedule, and
+ * the message isn't looked at. In held, bit n - 1 is set where the page of slot n is held; enter a page got from a repeat
+ * under the slot that the repeat names. Bits from 48 on mean nothing.
+ *
+ *   0, count 1                  read: there is no schedule, it is refused, it doesn't reach the slot, or it tells the slot
+ *                               as advised, as a first transmission that matches a wanted identifier in 15 bits, or as
+ *                               a repeat of one that matches and isn't held
+ *   0, count 0                  skip
+ *   41, 42                      the first of these that applies; the count is 0
+ */
+uint32_t cb_decide(bool known, const uint8_t *message, size_t message_len, size_t received, size_t slot,
+                   const uint16_t *wanted, size_t wanted_len, uint64_t held);
 
 #ifdef __cplusplus
 }

@@ -4,7 +4,7 @@ use mathlib.Core.Bool.{Bool}
 use mathlib.Core.List.{List}
 use Prim.Native.Nat.{ℕ}
 use Rattle.page.specs.Paper.{Heading}
-use Rattle.capi.specs.Paper.{Left, writeCall, readCall, scheduleCall, descriptionCall, contentCall, blocksCall, planCall}
+use Rattle.capi.specs.Paper.{Left, writeCall, readCall, scheduleCall, descriptionCall, contentCall, blocksCall, planCall, writeScheduleCall, checkScheduleCall, decideCall}
 
 -- two calls that leave the same
 both : (r s : ℕ) (x y : List ℕ) (l : Left) → record { returned = r; memory = x } ≡ l → record { returned = s; memory = y } ≡ l → (r ≡ s) × (x ≡ y)
@@ -35,3 +35,14 @@ determined-cb-write-blocks m k used o r s x y a b = both r s x y (blocksCall m k
 
 pub determined-cb-read-plan : (f : List ℕ) (r s : ℕ) → r ≡ planCall f → s ≡ planCall f → r ≡ s
 determined-cb-read-plan f r s a b = a ∙ sym b
+
+pub determined-cb-write-schedule : (c p : List ℕ) (begin : ℕ) (o : List ℕ) (r s : ℕ) (x y : List ℕ)
+    → record { returned = r; memory = x } ≡ writeScheduleCall c p begin o → record { returned = s; memory = y } ≡ writeScheduleCall c p begin o → (r ≡ s) × (x ≡ y)
+determined-cb-write-schedule c p begin o r s x y a b = both r s x y (writeScheduleCall c p begin o) a b
+
+pub determined-cb-check-schedule : (c p m : List ℕ) (received r s : ℕ) → r ≡ checkScheduleCall c p m received → s ≡ checkScheduleCall c p m received → r ≡ s
+determined-cb-check-schedule c p m received r s a b = a ∙ sym b
+
+pub determined-cb-decide : (known : Bool) (m : List ℕ) (received slot : ℕ) (wanted : List ℕ) (held r s : ℕ)
+    → r ≡ decideCall known m received slot wanted held → s ≡ decideCall known m received slot wanted held → r ≡ s
+determined-cb-decide known m received slot wanted held r s a b = a ∙ sym b

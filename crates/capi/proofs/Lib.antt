@@ -1,6 +1,8 @@
 -- What `capi` proves.
 pub mod Codes
+pub mod Decided
 pub mod Determined
+pub mod Filed
 pub mod Packed
 pub mod Planned
 pub mod Scheduled

@@ -18,12 +18,12 @@ use Rattle.text.proofs.Reader.{characters-bounded}
 use Rattle.capi.specs.Paper.{Left, packed, writeCall, readCall}
 
 -- a number alone, and another that goes with 0
-packed-number : (n r : ℕ) (m : List ℕ) → r ≡ n → _≡_ {A = Left} (record { returned = r; memory = m }) (packed n 0 m)
+pub packed-number : (n r : ℕ) (m : List ℕ) → r ≡ n → _≡_ {A = Left} (record { returned = r; memory = m }) (packed n 0 m)
 packed-number n r m e =
     let returned = e ∙ sym (add-zero n) in
     λ i. record { returned = returned i; memory = m }
 
-packed-done : (other : ℕ) (m : List ℕ) → _≡_ {A = Left} (record { returned = 256 * other; memory = m }) (packed 0 other m)
+pub packed-done : (other : ℕ) (m : List ℕ) → _≡_ {A = Left} (record { returned = 256 * other; memory = m }) (packed 0 other m)
 packed-done other m =
     let returned = sym (zero-add (256 * other)) in
     λ i. record { returned = returned i; memory = m }

@@ -19,7 +19,7 @@ use Rattle.plan.proofs.ReadGood.{read-is-good}
 use Rattle.capi.specs.Paper.{planCall}
 
 -- a good plan has no more than 48 slots
-good-count : (p : Plan) → planNumber p ≡ 0 → p .count ≤ 48
+pub good-count : (p : Plan) → planNumber p ≡ 0 → p .count ≤ 48
 good-count p e = go (ltb 48 (p .count)) refl
   where
     go : (b : Bool) → ltb 48 (p .count) ≡ b → p .count ≤ 48

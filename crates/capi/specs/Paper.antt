@@ -1,12 +1,18 @@
 -- The calls for C: the answers of the other rooms, packed into one number.
-use mathlib.Core.Bool.{Bool, cond}
-use mathlib.Core.List.{List}
+use mathlib.Core.Bool.{Bool, cond, not}
+use mathlib.Core.List.{List, [], _∷_}
 use Prim.Native.Nat.{ℕ, _+_, _*_}
+use lib.ListN.{length}
+use lib.Dec.{eqb}
+use Rattle.laws.specs.Ruled.{ruled, unless0}
 use Rattle.block.specs.Paper.{Kind, page, schedule, written as writtenBlocks}
 use Rattle.page.specs.Paper.{Heading, handedNumber}
 use Rattle.plan.specs.Paper.{readPlan}
 use Rattle.schedule.specs.Paper.{Told, first, again, optional, advised, Read, read, Given, next, noMore, refusal, given}
 use Rattle.text.specs.Paper.{written, reading}
+use Rattle.sender.specs.Paper.{Writing, unwritten, write}
+use Rattle.checker.specs.Paper.{Checked, unchecked, check}
+use Rattle.board.specs.Paper.{Decided, decide}
 
 -- what a call leaves: the number returned, and the memory that it was lent to write
 pub record Left : Type 0 where
@@ -73,3 +79,39 @@ blocksCall m isSchedule used out =
 -- 01 The plan: the reader of plan files for C: number + 256 × count
 abbrev pub planCall : List ℕ → ℕ
 planCall f = readPlan f .number + 256 * readPlan f .plan .count
+
+-- 01 Order: two plan files as tests: the current one's refusal, then the previous one's
+abbrev pub fileFaults : List ℕ → List ℕ → List (Bool × ℕ)
+fileFaults c p = unless0 (readPlan c .number) ∷ unless0 (readPlan p .number) ∷ []
+
+-- 01 Order: the number that two plan files are refused by; 0 where both are good
+abbrev pub filesNumber : List ℕ → List ℕ → ℕ
+filesNumber c p = ruled (λ (n : ℕ). n) (fileFaults c p) 0
+
+-- 01 Order, schedule writer: 15, the current plan file c, the previous one p, then as the writer has it for their plans
+abbrev pub writtenFrom : List ℕ → List ℕ → ℕ → List ℕ → Writing
+writtenFrom c p begin out =
+    ruled (unwritten out) ((not (eqb (length out) 88), 15) ∷ fileFaults c p) (write (readPlan c .plan) (readPlan p .plan) begin out)
+
+-- 01 The plan: the schedule writer for C: number + 256 × used octets
+abbrev pub writeScheduleCall : List ℕ → List ℕ → ℕ → List ℕ → Left
+writeScheduleCall c p begin out =
+    packed (writtenFrom c p begin out .number) (writtenFrom c p begin out .used) (writtenFrom c p begin out .output)
+
+-- 01 Order, checker: the current plan file c, the previous one p, then as the checker has it for their plans
+abbrev pub checkedBeside : List ℕ → List ℕ → List ℕ → ℕ → Checked
+checkedBeside c p m received = ruled unchecked (fileFaults c p) (check (readPlan c .plan) (readPlan p .plan) m received)
+
+-- 01 The plan: the checker for C: number + 256 × slot
+abbrev pub checkScheduleCall : List ℕ → List ℕ → List ℕ → ℕ → ℕ
+checkScheduleCall c p m received = checkedBeside c p m received .number + 256 * checkedBeside c p m received .slot
+
+-- 01 Decision: what is decided beside a schedule message that is known or not, for a list of wanted identifiers
+abbrev pub decidedFor : Bool → List ℕ → ℕ → ℕ → List ℕ → ℕ → Decided
+decidedFor known m received slot wanted held =
+    decide (record { known = known; message = m; received = received }) slot (record { count = length wanted; ids = wanted }) held
+
+-- 01 Decision: the decision for C: number + 256 × (1 read, 0 skip)
+abbrev pub decideCall : Bool → List ℕ → ℕ → ℕ → List ℕ → ℕ → ℕ
+decideCall known m received slot wanted held =
+    decidedFor known m received slot wanted held .number + 256 * bitOf (decidedFor known m received slot wanted held .read)

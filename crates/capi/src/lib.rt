@@ -2,18 +2,36 @@
 ghost use mathlib.Core.Path.{_≡_};
 ghost use Rattle.block.specs.Coded.{kindOf};
 ghost use Rattle.schedule.specs.Coded.{toldOf};
-ghost use Rattle.capi.specs.Paper.{writeCall, readCall, codeOf, scheduleCall, descriptionCall, contentCall, kindIf, blocksCall, planCall};
+ghost use Rattle.plan.specs.Paper.{readPlan};
+ghost use Rattle.plan.specs.Coded.{planOf, verdictOf};
+ghost use Rattle.board.specs.Coded.{idsOf};
+ghost use Prim.Native.Nat.{_≤_};
+ghost use lib.ListN.{length, take};
+ghost use Rattle.capi.specs.Paper.{writeCall, readCall, codeOf, scheduleCall, descriptionCall, contentCall, kindIf, blocksCall, planCall, filesNumber, writeScheduleCall, checkScheduleCall, decideCall};
+use answer::Refusal;
 use block::Kind;
 use block::Sent;
+use board::Decision;
+use board::Held;
+use board::Wanted;
+use checker::Checking;
 use page::Handing;
 use page::MessageId;
 use page::Serial;
+use plan::Plan;
 use plan::Verdict;
 use schedule::Description;
 use schedule::Given;
 use schedule::Reading;
+use sender::Writing;
 use text::Got;
 use text::Written;
+
+// 000 3.3.1: the octets of a message.
+const MESSAGE: usize = 88;
+
+// 01 Numbers given, 42: the most identifiers that are wanted at a time.
+const WANTED: usize = 64;
 
 // Writes a page of text: number + 256 × used octets.
 #[no_mangle]
@@ -144,5 +162,129 @@ pub extern "C" fn cb_read_plan(file: &[u8]) -> u32
     match verdict {
         Verdict::Good => 256 * reading.plan.count as u32,
         Verdict::Refused(refusal) => answer::number(refusal) as u32,
+    }
+}
+
+// Two plan files read: what the first refused one is refused by, and their plans.
+struct Files {
+    verdict: Verdict,
+    current: Plan,
+    previous: Plan,
+}
+
+fn read_plans(current: &[u8], previous: &[u8]) -> Files
+    ensures { λ r. ⌜ (verdictOf (r .verdict) ≡ filesNumber (now (current .entry)) (now (previous .entry))) × (planOf (r .current) ≡ readPlan (now (current .entry)) .plan) × (planOf (r .previous) ≡ readPlan (now (previous .entry)) .plan) ⌝ }
+{
+    let this = plan::read_plan(current);
+    let last = plan::read_plan(previous);
+    let verdict = this.verdict;
+    let other = last.verdict;
+    let plan = this.plan;
+    let older = last.plan;
+    match verdict {
+        Verdict::Good => Files {
+            verdict: other,
+            current: plan,
+            previous: older,
+        },
+        Verdict::Refused(refusal) => Files {
+            verdict: Verdict::Refused(refusal),
+            current: plan,
+            previous: older,
+        },
+    }
+}
+
+// Writes the schedule message of a plan file, beside the file before it: number + 256 × used octets.
+#[no_mangle]
+pub extern "C" fn cb_write_schedule(
+    current: &[u8],
+    previous: &[u8],
+    begin: usize,
+    out: &mut [u8],
+) -> u32
+    ensures { λ r. ⌜ record { returned = r; memory = now (out .exit) } ≡ writeScheduleCall (now (current .entry)) (now (previous .entry)) begin (now (out .entry)) ⌝ }
+{
+    if out.len() != MESSAGE {
+        return answer::number(Refusal::OutputLength) as u32;
+    }
+    let files = read_plans(current, previous);
+    let verdict = files.verdict;
+    if let Verdict::Refused(refusal) = verdict {
+        return answer::number(refusal) as u32;
+    }
+    let plan = files.current;
+    let older = files.previous;
+    let answer = sender::write_schedule(plan, older, begin, out);
+    match answer {
+        Writing::Written(used) => 256 * used as u32,
+        Writing::Refused(refusal) => answer::number(refusal) as u32,
+    }
+}
+
+// Checks a schedule message beside two plan files: number + 256 × slot.
+#[no_mangle]
+pub extern "C" fn cb_check_schedule(
+    current: &[u8],
+    previous: &[u8],
+    message: &[u8],
+    received: usize,
+) -> u32
+    ensures { λ r. ⌜ r ≡ checkScheduleCall (now (current .entry)) (now (previous .entry)) (now (message .entry)) received ⌝ }
+{
+    let files = read_plans(current, previous);
+    let verdict = files.verdict;
+    if let Verdict::Refused(refusal) = verdict {
+        return answer::number(refusal) as u32;
+    }
+    let plan = files.current;
+    let older = files.previous;
+    let answer = checker::check_schedule(plan, older, message, received);
+    match answer {
+        Checking::True => 0,
+        Checking::Refused(refusal, slot) => { answer::number(refusal) as u32 + 256 * slot as u32 }
+    }
+}
+
+// A wanted list as the board takes it: the first 64 identifiers, and how many there are.
+fn wanted_of(list: &[u16]) -> Wanted
+    ensures { λ r. ⌜ (r .count ≡ length (now (list .entry))) × (length (now (list .entry)) ≤ 64 → take (length (now (list .entry))) (idsOf (r .ids)) ≡ now (list .entry)) ⌝ }
+{
+    let mut ids = [MessageId(0); 64];
+    let mut i = 0;
+    while i < WANTED {
+        if i >= list.len() {
+            return Wanted {
+                count: list.len(),
+                ids,
+            };
+        }
+        ids[i] = MessageId(list[i]);
+        i += 1;
+    }
+    Wanted {
+        count: list.len(),
+        ids,
+    }
+}
+
+// Reads or skips a slot: number + 256 × (1 read, 0 skip).
+#[no_mangle]
+pub extern "C" fn cb_decide(
+    known: bool,
+    message: &[u8],
+    received: usize,
+    slot: usize,
+    wanted: &[u16],
+    held: u64,
+) -> u32
+    ensures { λ r. ⌜ r ≡ decideCall known (now (message .entry)) received slot (now (wanted .entry)) held ⌝ }
+{
+    let list = wanted_of(wanted);
+    let answer = board::decide_on(known, message, received, slot, list, Held(held));
+    match answer {
+        Decision::Read => 256,
+        Decision::Skip => 0,
+        Decision::Refused(refusal) => answer::number(refusal) as u32,
     }
 }
