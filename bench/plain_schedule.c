@@ -1,17 +1,7 @@
 /* A schedule message as it is read in C without proofs: what cb_read_schedule and cb_description are measured beside. */
 #include "plain_schedule.h"
 
-#include <stdbool.h>
-
 enum { MESSAGE = 88, SLOTS = 48, HEADER = 8, FIRST = 0x8000, REPEATS = 0x40, OPTIONAL = 0x40, ADVISED = 0x41 };
-
-/* All that a message tells: each slot's new bit and code, as csobvarit.h has it, and the slots in the message's order. */
-struct table {
-    unsigned begin, end;
-    bool new[SLOTS];
-    uint16_t code[SLOTS];
-    uint8_t order[SLOTS];
-};
 
 static bool is_new(const uint8_t *message, unsigned slot)
 {
@@ -19,7 +9,8 @@ static bool is_new(const uint8_t *message, unsigned slot)
 }
 
 /* Reads the descriptions of one group of slots, and moves the place and the number of descriptions on. */
-static bool read_group(const uint8_t *message, size_t received, bool new, struct table *table, size_t *at, unsigned *given)
+static bool read_group(const uint8_t *message, size_t received, bool new, struct plain_slots *table,
+                       size_t *at, unsigned *given)
 {
     for (unsigned slot = 0; slot < table->end; slot++) {
         if (is_new(message, slot) != new)
@@ -41,7 +32,7 @@ static bool read_group(const uint8_t *message, size_t received, bool new, struct
     return true;
 }
 
-static bool has_false_repeat(const struct table *table)
+static bool has_false_repeat(const struct plain_slots *table)
 {
     for (unsigned slot = 0; slot < table->end; slot++) {
         unsigned code = table->code[slot];
@@ -51,8 +42,7 @@ static bool has_false_repeat(const struct table *table)
     return false;
 }
 
-/* Reads a message with all its slots into the table, and gives 0 or the refusal. */
-static unsigned read_slots(const uint8_t *message, size_t message_len, size_t received, struct table *table)
+unsigned plain_read_slots(const uint8_t *message, size_t message_len, size_t received, struct plain_slots *table)
 {
     size_t at = HEADER;
     unsigned given = 0;
@@ -79,8 +69,8 @@ static unsigned read_slots(const uint8_t *message, size_t message_len, size_t re
 
 uint32_t plain_read_schedule(const uint8_t *message, size_t message_len, size_t received)
 {
-    struct table table;
-    unsigned number = read_slots(message, message_len, received, &table);
+    struct plain_slots table;
+    unsigned number = plain_read_slots(message, message_len, received, &table);
 
     if (number != 0)
         return number;
@@ -89,8 +79,8 @@ uint32_t plain_read_schedule(const uint8_t *message, size_t message_len, size_t 
 
 uint64_t plain_description(const uint8_t *message, size_t message_len, size_t received, size_t place)
 {
-    struct table table;
-    unsigned number = read_slots(message, message_len, received, &table);
+    struct plain_slots table;
+    unsigned number = plain_read_slots(message, message_len, received, &table);
 
     if (number != 0)
         return number;

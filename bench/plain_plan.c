@@ -1,0 +1,156 @@
+/* Schedules beside plans in C without proofs: what cb_write_schedule, cb_check_schedule and cb_decide are measured
+ * beside. */
+#include "plain_plan.h"
+
+#include <string.h>
+
+#include "plain_schedule.h"
+#include "plain_simple.h"
+
+enum { MESSAGE = 88, SLOTS = 48, WANTED = 64, HEADER = 8, FRONT = 6, ENTRY = 6 };
+enum { FIRST = 0x8000, REPEATS = 0x40, OPTIONAL = 0x40, ADVISED = 0x41, PAGE = 2 };
+
+/* An entry where it stands in its file. */
+static const uint8_t *entry(const uint8_t *file, unsigned slot)
+{
+    return file + FRONT + ENTRY * slot;
+}
+
+/* The lowest slot, from 1, of a page among the first slots of a file; 0 for none. A page's entry is its kind and name. */
+static unsigned lowest_slot(const uint8_t *file, unsigned count, const uint8_t *page)
+{
+    for (unsigned slot = 0; slot < count; slot++)
+        if (memcmp(entry(file, slot), page, ENTRY) == 0)
+            return slot + 1;
+    return 0;
+}
+
+static unsigned low15(const uint8_t *page)
+{
+    return (page[3] & 0x7Fu) << 8 | page[4];
+}
+
+uint32_t plain_write_schedule(const uint8_t *current, size_t current_len, const uint8_t *previous, size_t previous_len,
+                              size_t begin, uint8_t *out, size_t out_len)
+{
+    uint16_t code[SLOTS];
+    bool new[SLOTS];
+    size_t used = HEADER, at = HEADER;
+
+    if (out_len != MESSAGE)
+        return 15;
+    uint32_t number = plain_read_plan(current, current_len);
+    if (number % 256 != 0)
+        return number;
+    unsigned count = number / 256;
+    number = plain_read_plan(previous, previous_len);
+    if (number % 256 != 0)
+        return number;
+    unsigned before = number / 256;
+    if (count == 0)
+        return 35;
+    if (begin < 1 || begin > count)
+        return 21;
+    for (unsigned slot = 0; slot < count; slot++) {
+        const uint8_t *page = entry(current, slot);
+        if (page[0] == PAGE) {
+            unsigned lowest = lowest_slot(current, slot, page);
+            code[slot] = (uint16_t)(lowest == 0 ? FIRST | low15(page) : lowest);
+            new[slot] = lowest == 0 ? lowest_slot(previous, before, page) == 0 : new[lowest - 1];
+        } else {
+            code[slot] = page[0] == 1 ? ADVISED : OPTIONAL;
+            new[slot] = page[0] == 1;
+        }
+        used += code[slot] >= FIRST ? 2 : 1;
+    }
+    if (used > MESSAGE)
+        return 34;
+    memset(out, 0x2B, MESSAGE);
+    out[0] = (uint8_t)begin;
+    out[1] = (uint8_t)count;
+    memset(out + 2, 0, 6);
+    for (unsigned group = 0; group < 2; group++) {
+        for (unsigned slot = 0; slot < count; slot++) {
+            if (new[slot] == group)
+                continue;
+            if (new[slot])
+                out[2 + slot / 8] |= (uint8_t)(0x80 >> slot % 8);
+            if (code[slot] >= FIRST)
+                out[at++] = (uint8_t)(code[slot] >> 8);
+            out[at++] = (uint8_t)code[slot];
+        }
+    }
+    return 256 * (uint32_t)used;
+}
+
+/* Whether what a message tells of a slot is true beside the plans; `lowest` is that of the slot's page. */
+static bool is_true(const uint8_t *page, unsigned slot, unsigned lowest, bool before, bool new, unsigned code)
+{
+    bool leads = page[0] == PAGE && lowest == slot + 1;
+    bool repeats = page[0] == PAGE && lowest != slot + 1;
+
+    if (code >= FIRST)
+        return leads && code == (FIRST | low15(page)) && new != before;
+    if (code < REPEATS)
+        return repeats && code == lowest && new != before;
+    if (code == ADVISED)
+        return page[0] != 0 && new;
+    return (page[0] == 0 || repeats) && !new;
+}
+
+uint32_t plain_check_schedule(const uint8_t *current, size_t current_len, const uint8_t *previous, size_t previous_len,
+                              const uint8_t *message, size_t message_len, size_t received)
+{
+    struct plain_slots table;
+    uint32_t number = plain_read_plan(current, current_len);
+
+    if (number % 256 != 0)
+        return number;
+    unsigned count = number / 256;
+    number = plain_read_plan(previous, previous_len);
+    if (number % 256 != 0)
+        return number;
+    unsigned before = number / 256;
+    if (count == 0)
+        return 35;
+    number = plain_read_slots(message, message_len, received, &table);
+    if (number != 0)
+        return number;
+    if (table.end != count)
+        return 40;
+    for (unsigned slot = 0; slot < count; slot++) {
+        const uint8_t *page = entry(current, slot);
+        unsigned lowest = page[0] == PAGE ? lowest_slot(current, count, page) : 0;
+        bool had = page[0] == PAGE && lowest_slot(previous, before, page) != 0;
+        if (!is_true(page, slot, lowest, had, table.new[slot], table.code[slot]))
+            return 40 + 256 * (slot + 1);
+    }
+    return 0;
+}
+
+uint32_t plain_decide(bool known, const uint8_t *message, size_t message_len, size_t received, size_t slot,
+                      const uint16_t *wanted, size_t wanted_len, uint64_t held)
+{
+    struct plain_slots table;
+
+    if (slot < 1 || slot > SLOTS)
+        return 41;
+    if (wanted_len > WANTED)
+        return 42;
+    if (!known || plain_read_slots(message, message_len, received, &table) != 0 || slot > table.end)
+        return 256;
+    unsigned code = table.code[slot - 1];
+    if (code == ADVISED)
+        return 256;
+    if (code == OPTIONAL)
+        return 0;
+    if (code < REPEATS) {
+        if (held >> (code - 1) & 1)
+            return 0;
+        code = table.code[code - 1];
+    }
+    for (size_t i = 0; i < wanted_len; i++)
+        if ((wanted[i] | FIRST) == code)
+            return 256;
+    return 0;
+}
