@@ -16,9 +16,18 @@
 //                                   the schedule message reads so, and gives these descriptions and no more: for each
 //                                   its slot, its new bit, and 8000 hex + 15 bits, the slot repeated, 0040 or 0041
 //     F number count file           the plan file reads so
-// Codes are code points, two octets each, high octet first; so are received octets and descriptions.
+//     G number used begin room lengths current previous message
+//                                   the plan after the previous one is written so as a message, in that much room;
+//                                   a refusal has no message
+//     C number slot received lengths current previous message
+//                                   the message is checked so beside the two plan files
+//     D number read known received slot held length message wanted
+//                                   the slot is read, 01, or skipped, 00, by the message if known is 01
+// Codes are code points, two octets each, high octet first; so are received octets and descriptions. In G, C and D so are
+// Begin, lengths, the slot of a decision and the identifiers wanted; the slots held are eight octets, slot n in bit n - 1.
 mod blocks;
 mod hex;
+mod plans;
 mod schedules;
 mod texts;
 
@@ -32,7 +41,7 @@ const TOO_LONG: usize = 4097;
 const ROOM: usize = 2048;
 
 // The rows of the table: one for each letter with a result, and one for lines and files that cannot be read.
-const ROWS: usize = 10;
+const ROWS: usize = 13;
 
 const BLOCKS: usize = 0;
 
@@ -52,7 +61,13 @@ const SCHEDULES: usize = 7;
 
 const PLANS: usize = 8;
 
-const UNREAD: usize = 9;
+const MESSAGES: usize = 9;
+
+const CHECKS: usize = 10;
+
+const DECISIONS: usize = 11;
+
+const UNREAD: usize = 12;
 
 struct Run {
     // the number of the line at hand, its length so far, and whether it is as stored
@@ -101,6 +116,9 @@ fn print_table(run: Run) {
     print_row(b"refusals", tried[REFUSALS], differ[REFUSALS]);
     print_row(b"schedules", tried[SCHEDULES], differ[SCHEDULES]);
     print_row(b"plans", tried[PLANS], differ[PLANS]);
+    print_row(b"messages", tried[MESSAGES], differ[MESSAGES]);
+    print_row(b"checks", tried[CHECKS], differ[CHECKS]);
+    print_row(b"decisions", tried[DECISIONS], differ[DECISIONS]);
     print_row(b"unread", tried[UNREAD], differ[UNREAD]);
 }
 
@@ -238,6 +256,9 @@ fn try_letter(run: Run, letter: u8, octets: &[u8]) -> Run {
         b'R' => counted(run, REFUSALS, texts::is_refused(octets)),
         b'M' => counted(run, SCHEDULES, schedules::is_message(octets)),
         b'F' => counted(run, PLANS, schedules::is_plan_file(octets)),
+        b'G' => counted(run, MESSAGES, plans::is_message(octets)),
+        b'C' => counted(run, CHECKS, plans::is_check(octets)),
+        b'D' => counted(run, DECISIONS, plans::is_decision(octets)),
         _ => counted(run, UNREAD, false),
     }
 }
