@@ -17,7 +17,7 @@ const MESSAGE: usize = 88;
 
 const WANTED: usize = 64;
 
-// What stands in lent memory beforehand; no message is made of it.
+// What stands in lent memory beforehand.
 const LENT: u8 = 0xA5;
 
 // The plans of two files in a line, with the number of the refusal that comes first, or 0.
