@@ -136,6 +136,19 @@ module _ (c p : Plan) (m : List ℕ) (received : ℕ) where
       (all-true c p m received (t .reads) (t .ends) (lowest (untrue c p m) (c .count)) refl none
       ∙ good-compared c p m received (t .current-good) (t .previous-good) some)
 
+  judged-good : planNumber c ≡ 0 → planNumber p ≡ 0 → (c .count ≡ 0 → ⊥) → read m received .number ≡ 0 → check c p m received ≡ verdict c p m
+  unfolding check
+  judged-good g h some r = simp (g, h, ne-eqb (c .count) 0 some, r)
+
+  untruthful : planNumber c ≡ 0 → planNumber p ≡ 0 → (c .count ≡ 0 → ⊥) → read m received .number ≡ 0 → (Truthful c p m received → ⊥)
+      → check c p m received .number ≡ 40
+  untruthful g h some r t = go (verdict c p m) (judged-good g h some r) verdict-is
+    where
+      go : (x : Checked) → check c p m received ≡ x → Judged x → check c p m received .number ≡ 40
+      go x e (differs d q) = rw (e, q)
+      go x e (all-pass w all q) = absurd (t (truthful (rw (e, q))))
+      go x e (one-fails i w l f lower q) = rw (e, q)
+
   names : check c p m received .number ≡ 40 → Names c p m (check c p m received .slot)
   names z = go answered
     where
@@ -159,7 +172,7 @@ module _ (c p : Plan) (m : List ℕ) (received : ℕ) where
       go (judged g h reads e) = judge g (verdict c p m) e verdict-is
 
   pub accepted-exactly : AcceptedExactly c p m received
-  accepted-exactly = record { accepted-truthful = truthful; truthful-accepted = accepts; untrue-names = names }
+  accepted-exactly = record { accepted-truthful = truthful; truthful-accepted = accepts; untruthful-40 = untruthful; untrue-names = names }
 
   pub never-obeys-a-false-repeat : NeverObeyed c p m received
   never-obeys-a-false-repeat i n w z =

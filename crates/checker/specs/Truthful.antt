@@ -50,10 +50,12 @@ pub data Names (c p : Plan) (m : List ℕ) : ℕ → Type 0 where
   end-differs : (end m ≡ c .count → ⊥) → Names c p m 0
   slot-untrue : (i : ℕ) → end m ≡ c .count → LowestUntrue c p m i → Names c p m (suc i)
 
--- 00 demand 3: accepted exactly when truthful, and with 40 the slot that the table names
+-- 00 demand 3: accepted exactly when truthful; untrue is 40 where the plans are good, the current one has slots and the message reads; and with 40 comes the slot that the table names
 pub record AcceptedExactly (c p : Plan) (m : List ℕ) (received : ℕ) : Type 0 where
   pub accepted-truthful : check c p m received .number ≡ 0 → Truthful c p m received
   pub truthful-accepted : Truthful c p m received → check c p m received ≡ unchecked 0
+  pub untruthful-40 : planNumber c ≡ 0 → planNumber p ≡ 0 → (c .count ≡ 0 → ⊥) → read m received .number ≡ 0 → (Truthful c p m received → ⊥)
+      → check c p m received .number ≡ 40
   pub untrue-names : check c p m received .number ≡ 40 → Names c p m (check c p m received .slot)
 
 -- 00, the third version: a first transmission marked as a repeat; 01 Truthful: slot i is the lowest with its page, and told as a repeat of the slot of number n
