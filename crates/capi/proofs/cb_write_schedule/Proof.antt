@@ -1,5 +1,5 @@
 -- `capi::cb_write_schedule` meets its contract: the output's length, then the files, then the writer's answer, packed.
-use mathlib.Core.Path.{_≡_, sym, ap, _∙_}
+use mathlib.Core.Path.{sym, ap, _∙_}
 use Prim.Native.Nat.{_≤_}
 use native.Mathlib.Omega.{arith}
 use borrow.Author.Needs.{needs}

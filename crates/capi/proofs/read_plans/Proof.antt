@@ -1,5 +1,5 @@
 -- `capi::read_plans` meets its contract: the current file's refusal comes first, and the plans are as read.
-use mathlib.Core.Path.{_≡_, sym, ap, _∙_}
+use mathlib.Core.Path.{sym, ap, _∙_}
 use borrow.Author.Needs.{needs}
 use Rattle.answer.proofs.Inverse.{numberOf-positive}
 use Rattle.plan.specs.Paper.{Read}
