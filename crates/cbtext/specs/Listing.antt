@@ -12,14 +12,14 @@ use Rattle.page.specs.Paper.{header, octet}
 use Rattle.text.specs.Paper.{received, trimmed}
 use Rattle.lines.specs.Paper.{decimal, hexadecimal, cut, listing}
 
--- RFC 3629 3: the octets of a code point of 16 bits, one below 80 hex, two below 800 hex, three from there on; the bits go in by sixes from the low end
+-- RFC 3629 3: the octets of a code point of 16 bits, one below 80 hex, two below 800 hex, three from there on; the bits go in by sixes from the low end; the alphabet has no surrogates
 unfoldable pub utf8 : ℕ → List ℕ
 utf8 c =
     cond (ltb c 0x80)
     (c ∷ [])
     (cond (ltb c 0x800) ((0xc0 + c / 64) ∷ (0x80 + c % 64) ∷ []) ((0xe0 + c / 4096) ∷ (0x80 + c / 64 % 64) ∷ (0x80 + c % 64) ∷ []))
 
--- a character in a line: LF as a backslash and n, CR as a backslash and r, any other in UTF-8; no page has a backslash
+-- a character in a line: LF as a backslash and n, CR as a backslash and r, any other in UTF-8; the default alphabet has no backslash
 unfoldable pub character : ℕ → List ℕ
 character c = cond (eqb c 0x0a) (92 ∷ 110 ∷ []) (cond (eqb c 0x0d) (92 ∷ 114 ∷ []) (utf8 c))
 

@@ -1,11 +1,11 @@
 -- A message that is handed out is 88 octets long, and whole blocks of it were received.
 use mathlib.Core.Path.{_≡_, refl, sym, ap, _∙_}
 use mathlib.Core.Bool.{Bool, true, false, cond, not}
-use mathlib.Core.Logic.{_⊎_, inl, inr}
-use mathlib.Core.List.{List, [], _∷_, _++_}
-use Prim.Native.Nat.{ℕ, zero, suc, _+_, _*_, _-_, _≤_, _<_}
+use mathlib.Core.Logic.{inl, inr}
+use mathlib.Core.List.{List, _∷_}
+use Prim.Native.Nat.{ℕ, zero, suc, _*_, _≤_}
 use native.Mathlib.Omega.{arith}
-use lib.ListN.{length, take, drop, length-append, length-take, length-drop, length-replicate}
+use lib.ListN.{length, length-append, length-take, length-drop, length-replicate}
 use borrow.Author.Tests.{eqb-true, not-false}
 use Rattle.laws.specs.Received.{wholeBlocks}
 use Rattle.laws.proofs.Received.{whole}

@@ -10,7 +10,7 @@ use lib.Seq.{drop-cons, getD-set-same, take-set-le, drop-set-lt, take-take}
 use lib.Dec.{ltb, leb, lit<}
 use borrow.Author.Tests.{lt-ltb, le-ltb, leb-true, leb-false}
 use Rattle.io.specs.Digits.{glyph, digits, Fewest}
-use Rattle.lines.specs.Paper.{Left, spelled, hexDigit, hexadecimal, behind}
+use Rattle.lines.specs.Paper.{spelled, hexDigit, hexadecimal, behind}
 use Rattle.lines.proofs.Behind.{behind-fits}
 
 glyph-digit : (n : ℕ) → glyph (n % 10) ≡ 48 + n % 10

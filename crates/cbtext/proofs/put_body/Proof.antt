@@ -18,9 +18,8 @@ use Rattle.text.specs.Coded.{readingOf}
 use Rattle.text.specs.declared.Got.{Got}
 use Rattle.lines.specs.Paper.{hexadecimal}
 use Rattle.lines.specs.Inner.{Puts}
-use Rattle.lines.proofs.Behind.{puts-behind, puts-then}
+use Rattle.lines.proofs.Behind.{puts-behind, puts-wider, puts-then}
 use Rattle.cbtext.specs.Listing.{joined, body}
-use Rattle.cbtext.proofs.Characters.{puts-wider}
 use Rattle.cbtext.proofs.Body.{Reads, reads-text, reads-none}
 use Rattle.cbtext.proofs.put_body.Statement.{statement}
 use Rattle.cbtext.proofs.put_body.Tie as tie

@@ -1,12 +1,11 @@
 -- `lines::put_hex` meets its contract. The invariant: the digits so far stand at their place, and those left are the rest's.
-use mathlib.Core.Path.{_≡_, refl, sym, ap, _∙_}
-use mathlib.Core.List.{List}
-use Prim.Native.Nat.{ℕ, _+_, _-_, _%_, _≤_, _<_}
+use mathlib.Core.Path.{_≡_, refl, sym, _∙_}
+use Prim.Native.Nat.{_+_, _≤_, _<_}
 use native.Mathlib.Omega.{arith}
-use lib.ListN.{length, set}
+use lib.ListN.{length}
 use borrow.Author.Needs.{needs}
 use borrow.Author.Tests.{leb-true, leb-false, not-true, not-false}
-use Rattle.lines.specs.Paper.{hexDigit, hexadecimal}
+use Rattle.lines.specs.Paper.{hexadecimal}
 use Rattle.lines.proofs.Behind.{behind-full}
 use Rattle.lines.proofs.Numbers.{Written, written-turn, written-end, length-hexadecimal}
 use Rattle.lines.proofs.put_hex.Statement.{statement}
