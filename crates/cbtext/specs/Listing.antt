@@ -36,17 +36,25 @@ names n serial id = decimal n ++ (32 ∷ (hexadecimal 4 serial ++ (32 ∷ hexade
 abbrev pub parts : ℕ → List ℕ
 parts parameter = decimal (parameter / 16) ++ (47 ∷ decimal (parameter % 16))
 
--- 01 Page and text: the word text and the text received, where the scheme is ours, 00 to 0F; else the word hex and the content received, octets 7 to n
+-- the word text and the characters of some code points
+abbrev pub textPart : List ℕ → List ℕ
+textPart points = 32 ∷ 116 ∷ 101 ∷ 120 ∷ 116 ∷ 32 ∷ joined character points
+
+-- the word hex and some octets, each in two hex digits
+abbrev pub hexPart : List ℕ → List ℕ
+hexPart octets = 32 ∷ 104 ∷ 101 ∷ 120 ∷ 32 ∷ joined (hexadecimal 2) octets
+
+-- 01 Page and text: the text received, where the scheme is ours, 00 to 0F; else the content received, octets 7 to n
 unfoldable pub body : List ℕ → ℕ → List ℕ
-body p n =
-    cond (ltb 0x0f (octet p 5))
-    (32 ∷ 104 ∷ 101 ∷ 120 ∷ 32 ∷ joined (hexadecimal 2) (take (n - 6) (drop 6 p)))
-    (32 ∷ 116 ∷ 101 ∷ 120 ∷ 116 ∷ 32 ∷ joined character (map codePoint (trimmed (received p n))))
+body p n = cond (ltb 0x0f (octet p 5)) (hexPart (take (n - 6) (drop 6 p))) (textPart (map codePoint (trimmed (received p n))))
+
+-- the start of a line: the number n of the block that completed the page p, and what the page's header says
+abbrev pub heading : ℕ → List ℕ → List ℕ
+heading n p = names n (header p .serial) (header p .id) ++ (32 ∷ parts (header p .parameter))
 
 -- the line of a page p that block n completed, of which some octets were received
 abbrev pub pageLine : ℕ → List ℕ → ℕ → List ℕ
-pageLine n p received =
-    names n (header p .serial) (header p .id) ++ (32 ∷ (parts (header p .parameter) ++ (body p received ++ (10 ∷ []))))
+pageLine n p received = heading n p ++ (body p received ++ (10 ∷ []))
 
 -- 01 Numbers given: a page complete is answered by 0 and has a line; another answer has none
 abbrev pub lineOf : ℕ → Given → List ℕ
