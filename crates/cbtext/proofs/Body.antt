@@ -14,8 +14,7 @@ use Rattle.page.specs.Paper.{header, octet}
 use Rattle.text.specs.Paper.{Reading, received, trimmed, shown, reading}
 use Rattle.text.proofs.Cases.{reading-13, reading-0}
 use Rattle.text.proofs.Reader.{characters-bounded}
-use Rattle.lines.specs.Paper.{hexadecimal}
-use Rattle.cbtext.specs.Listing.{character, joined, body}
+use Rattle.cbtext.specs.Listing.{textPart, hexPart, body}
 
 -- the header is in the first six octets
 pub header-front : (p : List ℕ) → header (getD p 0 0 ∷ getD p 1 0 ∷ getD p 2 0 ∷ getD p 3 0 ∷ getD p 4 0 ∷ getD p 5 0 ∷ []) ≡ header p
@@ -25,7 +24,7 @@ header-front p = refl
 -- the text of a page that reads
 pub record Reads (p : List ℕ) (n : ℕ) (t : List ℕ) (count : ℕ) : Type 0 where
   pub few : count ≤ 93
-  pub shows : body p n ≡ 32 ∷ 116 ∷ 101 ∷ 120 ∷ 116 ∷ 32 ∷ joined character (take count t)
+  pub shows : body p n ≡ textPart (take count t)
 
 -- the code points shown are at the front
 shown-front : (s t : List ℕ) (count : ℕ) → record { number = 0; characters = count; text = t } ≡ shown s → take count t ≡ map codePoint s
@@ -53,11 +52,11 @@ module _ (p : List ℕ) (n : ℕ) (t₀ t : List ℕ) (size : length t₀ ≡ 93
 
   -- a refusal tells another scheme
   pub reads-none : (m : ℕ) → (m ≡ 0 → ⊥) → record { number = m; characters = 0; text = t } ≡ reading p n t₀
-      → body p n ≡ 32 ∷ 104 ∷ 101 ∷ 120 ∷ 32 ∷ joined (hexadecimal 2) (take (n - 6) (drop 6 p))
+      → body p n ≡ hexPart (take (n - 6) (drop 6 p))
   unfolding body
   reads-none m ne e = go (ltb 0x0f (octet p 5)) refl
     where
-      go : (b : Bool) → ltb 0x0f (octet p 5) ≡ b → body p n ≡ 32 ∷ 104 ∷ 101 ∷ 120 ∷ 32 ∷ joined (hexadecimal 2) (take (n - 6) (drop 6 p))
+      go : (b : Bool) → ltb 0x0f (octet p 5) ≡ b → body p n ≡ hexPart (take (n - 6) (drop 6 p))
       go true q = rw q
       go false q =
           absurd

@@ -9,12 +9,8 @@ use lib.ListN.{length, getD, take, set, length-set}
 use lib.Seq.{take-suc, take-all}
 use borrow.Author.Tests.{eq-eqb, ne-eqb, lt-ltb, le-ltb}
 use Rattle.lines.specs.Inner.{Puts}
-use Rattle.lines.proofs.Behind.{puts-none, puts-octet, puts-then}
+use Rattle.lines.proofs.Behind.{puts-none, puts-octet, puts-wider, puts-then}
 use Rattle.cbtext.specs.Listing.{utf8, character, joined}
-
--- what is put is no longer than more, either
-pub puts-wider : {s : List ℕ} {m n r : ℕ} {t t′ : List ℕ} (more : ℕ) → m ≤ more → Puts s m n t t′ r → Puts s more n t t′ r
-puts-wider more h p = record { text = p .text; onward = p .onward; room = omega (arith, p .room) }
 
 module _ (n : ℕ) (t : List ℕ) (h : n + 3 ≤ length t) where
   -- one, two and three octets

@@ -12,14 +12,14 @@ use Rattle.page.specs.Paper.{header, octet}
 use Rattle.text.specs.Paper.{received, trimmed}
 use Rattle.lines.specs.Paper.{decimal, hexadecimal, cut, listing}
 
--- RFC 3629 3: the octets of a code point of 16 bits, one below 80 hex, two below 800 hex, three from there on; the bits go in by sixes from the low end
+-- RFC 3629 3: the octets of a code point of 16 bits, one below 80 hex, two below 800 hex, three from there on; the bits go in by sixes from the low end; the alphabet has no surrogates
 unfoldable pub utf8 : ℕ → List ℕ
 utf8 c =
     cond (ltb c 0x80)
     (c ∷ [])
     (cond (ltb c 0x800) ((0xc0 + c / 64) ∷ (0x80 + c % 64) ∷ []) ((0xe0 + c / 4096) ∷ (0x80 + c / 64 % 64) ∷ (0x80 + c % 64) ∷ []))
 
--- a character in a line: LF as a backslash and n, CR as a backslash and r, any other in UTF-8; no page has a backslash
+-- a character in a line: LF as a backslash and n, CR as a backslash and r, any other in UTF-8; the default alphabet has no backslash
 unfoldable pub character : ℕ → List ℕ
 character c = cond (eqb c 0x0a) (92 ∷ 110 ∷ []) (cond (eqb c 0x0d) (92 ∷ 114 ∷ []) (utf8 c))
 
@@ -36,17 +36,25 @@ names n serial id = decimal n ++ (32 ∷ (hexadecimal 4 serial ++ (32 ∷ hexade
 abbrev pub parts : ℕ → List ℕ
 parts parameter = decimal (parameter / 16) ++ (47 ∷ decimal (parameter % 16))
 
--- 01 Page and text: the word text and the text received, where the scheme is ours, 00 to 0F; else the word hex and the content received, octets 7 to n
+-- the word text and the characters of some code points
+abbrev pub textPart : List ℕ → List ℕ
+textPart points = 32 ∷ 116 ∷ 101 ∷ 120 ∷ 116 ∷ 32 ∷ joined character points
+
+-- the word hex and some octets, each in two hex digits
+abbrev pub hexPart : List ℕ → List ℕ
+hexPart octets = 32 ∷ 104 ∷ 101 ∷ 120 ∷ 32 ∷ joined (hexadecimal 2) octets
+
+-- 01 Page and text: the text received, where the scheme is ours, 00 to 0F; else the content received, octets 7 to n
 unfoldable pub body : List ℕ → ℕ → List ℕ
-body p n =
-    cond (ltb 0x0f (octet p 5))
-    (32 ∷ 104 ∷ 101 ∷ 120 ∷ 32 ∷ joined (hexadecimal 2) (take (n - 6) (drop 6 p)))
-    (32 ∷ 116 ∷ 101 ∷ 120 ∷ 116 ∷ 32 ∷ joined character (map codePoint (trimmed (received p n))))
+body p n = cond (ltb 0x0f (octet p 5)) (hexPart (take (n - 6) (drop 6 p))) (textPart (map codePoint (trimmed (received p n))))
+
+-- the start of a line: the number n of the block that completed the page p, and what the page's header says
+abbrev pub heading : ℕ → List ℕ → List ℕ
+heading n p = names n (header p .serial) (header p .id) ++ (32 ∷ parts (header p .parameter))
 
 -- the line of a page p that block n completed, of which some octets were received
 abbrev pub pageLine : ℕ → List ℕ → ℕ → List ℕ
-pageLine n p received =
-    names n (header p .serial) (header p .id) ++ (32 ∷ (parts (header p .parameter) ++ (body p received ++ (10 ∷ []))))
+pageLine n p received = heading n p ++ (body p received ++ (10 ∷ []))
 
 -- 01 Numbers given: a page complete is answered by 0 and has a line; another answer has none
 abbrev pub lineOf : ℕ → Given → List ℕ

@@ -8,7 +8,7 @@ ghost use Rattle.block.specs.History.{after};
 ghost use Rattle.firmware.specs.Paper.{lent, heldIn};
 ghost use Rattle.lines.specs.Paper.{hexadecimal, cut};
 ghost use Rattle.lines.specs.Inner.{Puts};
-ghost use Rattle.cbtext.specs.Listing.{utf8, character, joined, names, parts, body, pageLine, pageLines};
+ghost use Rattle.cbtext.specs.Listing.{utf8, character, joined, textPart, hexPart, names, parts, heading, body, pageLine, pageLines};
 ghost use Rattle.cbtext.specs.Inner.{Handed, lineFor};
 use libc::STDOUT_FILENO;
 use page::MessageId;
@@ -100,16 +100,24 @@ fn put_page(number: u64, page: &[u8], received: usize, out: &mut [u8], at: usize
     requires { ⌜ (length (now page) ≡ 88) × (wholeBlocks received ≡ true) × (at + 358 ≤ length (now out)) ⌝ }
     ensures { λ r. ⌜ Puts (pageLine number (now (page .entry)) received) 358 at (now (out .entry)) (now (out .exit)) r ⌝ }
 {
+    let a = put_heading(number, page, out, at);
+    let b = put_body(page, received, out, a);
+    out[b] = b'\n';
+    b + 1
+}
+
+// Puts a block's number and what the page's header says.
+fn put_heading(number: u64, page: &[u8], out: &mut [u8], at: usize) -> usize
+    requires { ⌜ (length (now page) ≡ 88) × (at + 72 ≤ length (now out)) ⌝ }
+    ensures { λ r. ⌜ Puts (heading number (now (page .entry))) 72 at (now (out .entry)) (now (out .exit)) r ⌝ }
+{
     let header = page::read_header([page[0], page[1], page[2], page[3], page[4], page[5]]);
     let serial = header.serial;
     let id = header.id;
     let parameter = header.parameter;
     let a = put_names(number, serial, id, out, at);
     out[a] = b' ';
-    let b = put_parameter(parameter, out, a + 1);
-    let c = put_body(page, received, out, b);
-    out[c] = b'\n';
-    c + 1
+    put_parameter(parameter, out, a + 1)
 }
 
 // Puts a block's number, and a page's serial number and identifier.
@@ -142,14 +150,20 @@ fn put_body(page: &[u8], received: usize, out: &mut [u8], at: usize) -> usize
     let mut points = [0u16; 93];
     let got = text::read_text(page, received, &mut points);
     if let Got::Characters(count) = got {
-        let a = lines::put(b" text ", out, at);
-        return put_text(&points[..count], out, a);
+        return put_text(&points[..count], out, at);
     }
-    let a = lines::put(b" hex ", out, at);
-    put_content(page::content(page, received), out, a)
+    put_content(page::content(page, received), out, at)
 }
 
 fn put_text(points: &[u16], out: &mut [u8], at: usize) -> usize
+    requires { ⌜ at + (6 + 3 * length (now points)) ≤ length (now out) ⌝ }
+    ensures { λ r. ⌜ Puts (textPart (now (points .entry))) (6 + 3 * length (now (points .entry))) at (now (out .entry)) (now (out .exit)) r ⌝ }
+{
+    let a = lines::put(b" text ", out, at);
+    put_characters(points, out, a)
+}
+
+fn put_characters(points: &[u16], out: &mut [u8], at: usize) -> usize
     requires { ⌜ at + 3 * length (now points) ≤ length (now out) ⌝ }
     ensures { λ r. ⌜ Puts (joined character (now (points .entry))) (3 * length (now (points .entry))) at (now (out .entry)) (now (out .exit)) r ⌝ }
 {
@@ -199,8 +213,15 @@ fn put_utf8(point: u16, out: &mut [u8], at: usize) -> usize
     at + 3
 }
 
-// Puts octets in hex.
 fn put_content(content: &[u8], out: &mut [u8], at: usize) -> usize
+    requires { ⌜ at + (5 + 2 * length (now content)) ≤ length (now out) ⌝ }
+    ensures { λ r. ⌜ Puts (hexPart (now (content .entry))) (5 + 2 * length (now (content .entry))) at (now (out .entry)) (now (out .exit)) r ⌝ }
+{
+    let a = lines::put(b" hex ", out, at);
+    put_octets(content, out, a)
+}
+
+fn put_octets(content: &[u8], out: &mut [u8], at: usize) -> usize
     requires { ⌜ at + 2 * length (now content) ≤ length (now out) ⌝ }
     ensures { λ r. ⌜ Puts (joined (hexadecimal 2) (now (content .entry))) (2 * length (now (content .entry))) at (now (out .entry)) (now (out .exit)) r ⌝ }
 {

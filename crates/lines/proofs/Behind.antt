@@ -68,6 +68,10 @@ puts-none n t = record { text = sym (append-nil (take n t)); onward = omega arit
 pub puts-octet : (n x : ℕ) (t : List ℕ) → n < length t → Puts (x ∷ []) 1 n t (set t n x) (n + 1)
 puts-octet n x t h = record { text = rw (add-one n) (take-suc-set t n x h); onward = omega arith; room = omega arith }
 
+-- what is put is no longer than more, either
+pub puts-wider : {s : List ℕ} {m n r : ℕ} {t t′ : List ℕ} (more : ℕ) → m ≤ more → Puts s m n t t′ r → Puts s more n t t′ r
+puts-wider more h p = record { text = p .text; onward = p .onward; room = omega (arith, p .room) }
+
 -- one thing behind another
 pub puts-then : {s s′ : List ℕ} {m m′ n : ℕ} {t t₁ t₂ : List ℕ} {a b : ℕ} → Puts s m n t t₁ a → Puts s′ m′ a t₁ t₂ b → Puts (s ++ s′) (m + m′) n t t₂ b
 puts-then {s} {s′} {m} {m′} {n} {t} p q =
