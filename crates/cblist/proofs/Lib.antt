@@ -1,4 +1,2 @@
 -- What `cblist` proves.
 pub mod Chunks
-pub mod Listed
-pub mod Text

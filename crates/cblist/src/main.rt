@@ -1,12 +1,12 @@
 // Lists a log of blocks from standard input: the number of each, the intake's answer, and the octets received.
 ghost use mathlib.Core.Path.{_≡_};
-ghost use mathlib.Core.List.{_++_};
-ghost use Prim.Native.Nat.{_+_, _/_, _%_, _≤_, _<_, min};
+ghost use Prim.Native.Nat.{_+_, _/_, _%_, _≤_, _<_};
 ghost use lib.ListN.{length, take};
 ghost use Rattle.firmware.specs.Paper.{lent, heldIn};
 ghost use Rattle.block.specs.History.{after};
-ghost use Rattle.cblist.specs.Listing.{decimal, line, lines, cut};
-use libc::STDIN_FILENO;
+ghost use Rattle.lines.specs.Paper.{cut};
+ghost use Rattle.lines.specs.Inner.{Puts};
+ghost use Rattle.cblist.specs.Listing.{line, lines};
 use libc::STDOUT_FILENO;
 
 // A read holds this many pieces, and the text of each has room for three numbers of twenty digits.
@@ -53,33 +53,13 @@ fn list_some(
 ) -> bool
     requires { ⌜ (length (now state) ≡ 90) × (length (now message) ≡ 88) × (length (now log) ≡ 65536) × (length (now text) ≡ 65536) × (number < 1000000000000000000) ⌝ }
 {
-    let count = read_whole(&mut log[..CHUNK]);
+    let count = lines::read_whole(&mut log[..CHUNK]);
     let end = list(state, number, &log[..count], message, text);
     if !io::write_all(STDOUT_FILENO, &text[..end]) {
         os::fail(b"standard output");
         return false;
     }
     count == CHUNK
-}
-
-// Fills a buffer from standard input, and answers how much of it before the end or a fault.
-fn read_whole(buffer: &mut [u8]) -> usize
-    ensures { λ r. ⌜ r ≤ length (now (buffer .entry)) ⌝ }
-{
-    let mut have = 0;
-    while have < buffer.len() {
-        let got = libc::read(STDIN_FILENO, &mut buffer[have..]);
-        if got < 0 {
-            os::fail(b"standard input");
-            return have;
-        }
-        let more = io::count(got, &buffer[have..]);
-        if more == 0 {
-            return have;
-        }
-        have += more;
-    }
-    have
 }
 
 // Lists a log: a shorter tail is a piece too. Answers the length of the text.
@@ -91,7 +71,7 @@ fn list(state: &mut [u8], first: u64, log: &[u8], message: &mut [u8], text: &mut
     let mut number = first;
     let mut end = 0;
     while at < log.len() {
-        let next = piece_end(at, log.len());
+        let next = lines::piece_end(at, log.len());
         let returned = firmware::cb_intake(state, &log[at..next], message);
         end = put_line(number, returned, text, end);
         number += 1;
@@ -100,38 +80,16 @@ fn list(state: &mut [u8], first: u64, log: &[u8], message: &mut [u8], text: &mut
     end
 }
 
-// Where the piece at a place of a log ends.
-fn piece_end(at: usize, end: usize) -> usize
-    requires { ⌜ at < end ⌝ }
-    ensures { λ r. ⌜ r ≡ min (at + 23) end ⌝ }
-{
-    if 23 < end - at {
-        return at + 23;
-    }
-    end
-}
-
 // Puts the line of a block behind the text so far, and answers where the text ends.
 fn put_line(number: u64, returned: u32, text: &mut [u8], at: usize) -> usize
     requires { ⌜ at + 63 ≤ length (now text) ⌝ }
-    ensures { λ r. ⌜ (take r (now (text .exit)) ≡ take at (now (text .entry)) ++ line number (returned % 256) (returned / 256)) × (r ≤ at + 63) ⌝ }
+    ensures { λ r. ⌜ Puts (line number (returned % 256) (returned / 256)) 63 at (now (text .entry)) (now (text .exit)) r ⌝ }
 {
-    let a = put_number(number, text, at);
+    let a = lines::put_number(number, text, at);
     text[a] = b' ';
-    let b = put_number((returned % 256) as u64, text, a + 1);
+    let b = lines::put_number((returned % 256) as u64, text, a + 1);
     text[b] = b' ';
-    let c = put_number((returned / 256) as u64, text, b + 1);
+    let c = lines::put_number((returned / 256) as u64, text, b + 1);
     text[c] = b'\n';
     c + 1
-}
-
-// Puts a number in decimal behind the text so far, and answers where it ends.
-fn put_number(number: u64, text: &mut [u8], at: usize) -> usize
-    requires { ⌜ at + 20 ≤ length (now text) ⌝ }
-    ensures { λ r. ⌜ (take r (now (text .exit)) ≡ take at (now (text .entry)) ++ decimal number) × (at ≤ r) × (r ≤ at + 20) ⌝ }
-{
-    let mut digits = [0u8; 20];
-    let k = io::decimal(number, &mut digits);
-    bytes::copy(&digits[..k], &mut text[at..at + k]);
-    at + k
 }

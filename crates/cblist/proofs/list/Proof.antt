@@ -1,13 +1,17 @@
 -- `cblist::list` meets its contract. The invariant: the text so far and the lines to come are the listing.
+use mathlib.Core.Path.{_≡_, _∙_}
 use Prim.Native.Nat.{_-_}
+use native.Mathlib.Omega.{arith}
 use lib.ListN.{length}
 use borrow.Author.Needs.{needs}
-use Rattle.cblist.proofs.Listed.{Listed, listed-start, listed-turn, listed-end}
+use Rattle.lines.proofs.Listed.{Listed, taken, line-room, listed-start, listed-turn, listed-end}
+use Rattle.cblist.specs.Listing.{lineOf}
 use Rattle.cblist.proofs.list.Statement.{statement}
 use Rattle.cblist.proofs.list.Tie as tie
 
 abbrev Inv-loop : tie.InvT-loop
-Inv-loop state₀ first log message₀ text₀ at₀ number₀ end₀ state message text at number end = Listed state₀ first log state message text at number end
+Inv-loop state₀ first log message₀ text₀ at₀ number₀ end₀ state message text at number end =
+    Listed lineOf 63 65536 state₀ first log state text at number end × (length message ≡ 88)
 
 abbrev μ-loop : tie.MeasureT-loop
 μ-loop state₀ first log message₀ text₀ at₀ number₀ end₀ state message text at number end = length log - at
@@ -16,57 +20,39 @@ loop-holds : tie.Need-loop-holds Inv-loop μ-loop
 loop-holds c =
     let s = c .before .before .before .before in
     let a = s .args in
-    listed-start (a .state .now) (a .first) (a .log .now) (a .message .now) (a .text .now) (s .pre .0) (s .pre .1) (s .pre .2) (s .pre .3)
-
-piece-end-requires : tie.Need-piece-end-requires Inv-loop μ-loop
-piece-end-requires c κs = search needs
-
-sub-cb-intake : tie.Need-sub-cb-intake Inv-loop μ-loop
-sub-cb-intake c = search needs
-
-part-cb-intake-start : tie.Need-part-cb-intake-start Inv-loop μ-loop
-part-cb-intake-start c = search needs
-
-part-cb-intake-end : tie.Need-part-cb-intake-end Inv-loop μ-loop
-part-cb-intake-end c = search needs
-
-cb-intake-requires : tie.Need-cb-intake-requires Inv-loop μ-loop
-cb-intake-requires c κs = search needs
+    (listed-start lineOf 63 65536 (a .state .now) (a .first) (a .log .now) (a .text .now) (s .pre .0) (s .pre .2) (omega arith) (s .pre .3), s .pre .1)
 
 put-line-requires : tie.Need-put-line-requires Inv-loop μ-loop
-put-line-requires c κs = search needs
-
-add-number : tie.Need-add-number Inv-loop μ-loop
-add-number c = search needs
-
-loop-less : tie.Need-loop-less Inv-loop μ-loop
-loop-less c = search needs
+put-line-requires c κs =
+    let l = c .before .before .before .before .before .before .before .before .before .before .before .loop in
+    let a = c .before .before .before .before .before .before .before .before .before .before .before .before .before .before .before .before .args in
+    let room =
+    line-room lineOf 63 65536 (a .state .now) (a .first) (a .log .now) (l .state) (l .text) (l .at) (l .number) (l .end) (l .inv .0)
+    (c .before .before .before .before .before .before .before .before .before .before .loop-test .taken) in
+    omega (arith, l .inv .0 .text-size)
 
 loop-again : tie.Need-loop-again Inv-loop μ-loop
 loop-again c =
     let put = c .before .before .put-line in
-    let taken = c .before .before .before .before .before .before .before .before .cb-intake in
+    let called = c .before .before .before .before .before .before .before .before .cb-intake in
     let next = c .before .before .before .before .before .before .before .before .before .before .before .before .piece-end in
+    let turn = c .before .before .before .before .before .before .before .before .before .before .before .before .before .loop-test .taken in
     let l = c .before .before .before .before .before .before .before .before .before .before .before .before .before .before .loop in
     let a = c .before .before .before .before .before .before .before .before .before .before .before .before .before .before .before .before .before .before .before .args in
-    listed-turn (a .state .now) (a .first) (a .log .now) (l .state) (l .message) (l .text) (l .at) (l .number) (l .end) (l .inv) (c .before .before .before .before .before .before .before .before .before .before .before .before .before .loop-test .taken)
-    (taken .result) (next .result) (put .result) (taken .last .0) (taken .last .1 .1 .0) (put .last .1 .1 .0) (next .ensures) (taken .kept .0)
-    (taken .kept .1 .1 .0) (put .kept .1 .1 .0) (taken .ensures) (put .ensures .0) (put .ensures .1)
-
-same-length : tie.Need-same-length Inv-loop μ-loop
-same-length c = search needs
-
-same-length-2 : tie.Need-same-length-2 Inv-loop μ-loop
-same-length-2 c = search needs
-
-same-length-3 : tie.Need-same-length-3 Inv-loop μ-loop
-same-length-3 c = search needs
+    let t =
+    taken (l .state) (a .log .now) (l .message) (l .at) (called .result) (next .result) (called .last .0) (called .last .1 .1 .0) turn (l .inv .0 .state-size) (l .inv .1)
+    (next .ensures) (called .ensures) in (
+      listed-turn lineOf 63 65536 (a .state .now) (a .first) (a .log .now) (l .state) (l .text) (l .at) (l .number) (l .end) (l .inv .0) turn
+          (next .result) (put .result) (called .last .0) (put .last .1 .1 .0) (next .ensures) (called .kept .0) (put .kept .1 .1 .0) (t .state)
+          (rw (t .answer, t .received) at (put .ensures)),
+      called .kept .1 .1 .0 ∙ l .inv .1,
+    )
 
 returns : tie.Need-returns Inv-loop μ-loop
 returns c =
     let l = c .before .loop in
     let a = c .before .before .before .before .before .before .args in
-    listed-end (a .state .now) (a .first) (a .log .now) (l .state) (l .message) (l .text) (l .at) (l .number) (l .end) (l .inv) (c .loop-test .left)
+    listed-end lineOf 63 65536 (a .state .now) (a .first) (a .log .now) (l .state) (l .text) (l .at) (l .number) (l .end) (l .inv .0) (c .loop-test .left)
 
 pub list-spec : {M : Type 1} → statement M
 list-spec =
@@ -75,16 +61,16 @@ list-spec =
     Inv-loop
     μ-loop
     loop-holds
-    piece-end-requires
-    sub-cb-intake
-    part-cb-intake-start
-    part-cb-intake-end
-    cb-intake-requires
+    (λ c κs. search needs)
+    (λ c. search needs)
+    (λ c. search needs)
+    (λ c. search needs)
+    (λ c κs. search needs)
     put-line-requires
-    add-number
-    loop-less
+    (λ c. search needs)
+    (λ c. search needs)
     loop-again
-    same-length
-    same-length-2
-    same-length-3
+    (λ c. search needs)
+    (λ c. search needs)
+    (λ c. search needs)
     returns)

@@ -1,9 +1,13 @@
 -- `cblist::put_line` meets its contract: three numbers, each behind the text so far, and the octets between them.
 use mathlib.Core.Path.{_≡_, _∙_}
+use Prim.Native.Nat.{_+_, _/_, _%_, _<_}
 use native.Mathlib.Omega.{arith}
-use lib.ListN.{length, length-set}
+use lib.ListN.{length, set, length-set}
 use borrow.Author.Needs.{needs}
-use Rattle.cblist.proofs.Text.{put-line}
+use Rattle.lines.specs.Paper.{decimal}
+use Rattle.lines.specs.Inner.{Puts}
+use Rattle.lines.proofs.Behind.{puts-behind, puts-none, puts-marked}
+use Rattle.lines.proofs.Numbers.{length-spelled}
 use Rattle.cblist.proofs.put_line.Statement.{statement}
 use Rattle.cblist.proofs.put_line.Tie as tie
 
@@ -17,38 +21,60 @@ size₂ c = (simp length-set at (c .put-number2 .kept .1 .0)) ∙ size₁ (c .be
 size₃ : (c : tie.After-put-number3) → length (c .put-number3 .last .1 .0) ≡ length (c .before .before .before .before .before .before .before .before .before .before .before .args .text .now)
 size₃ c = (simp length-set at (c .put-number3 .kept .1 .0)) ∙ size₂ (c .before .before .before .before)
 
-put-number-requires : tie.Need-put-number-requires
-put-number-requires c κs = search needs
+-- each number is put
+put₁ : (c : tie.After-put-number)
+    → Puts (decimal (c .before .before .before .args .number)) 20 (c .before .before .before .args .at) (c .before .before .before .args .text .now) (c .put-number .last .1 .0) (c .put-number .result)
+put₁ c =
+    let s = c .before .before .before in
+    puts-behind (decimal (s .args .number)) (s .args .at) (s .args .text .now) 20 (c .put-number .result) (c .put-number .last .1 .0) (c .put-number .ensures) (length-spelled 19 (s .args .number)) (omega (arith, s .pre))
+
+put₂ : (c : tie.After-put-number2)
+    → Puts (decimal (c .before .before .before .before .before .before .before .args .returned % 256)) 20 (c .before .before .before .before .put-number .result + 1) (set (c .before .before .before .before .put-number .last .1 .0) (c .before .before .before .before .put-number .result) 32) (c .put-number2 .last .1 .0) (c .put-number2 .result)
+put₂ c =
+    let first = c .before .before .before .before in
+    let s = first .before .before .before in
+    let n = s .args .returned % 256 in
+    puts-behind (decimal n) (first .put-number .result + 1) (set (first .put-number .last .1 .0) (first .put-number .result) 32) 20 (c .put-number2 .result) (c .put-number2 .last .1 .0) (c .put-number2 .ensures)
+    (length-spelled 19 n) (simp length-set (omega (arith, size₁ first, put₁ first .room, s .pre)))
+
+put₃ : (c : tie.After-put-number3)
+    → Puts (decimal (c .before .before .before .before .before .before .before .before .before .before .before .args .returned / 256)) 20 (c .before .before .before .before .put-number2 .result + 1) (set (c .before .before .before .before .put-number2 .last .1 .0) (c .before .before .before .before .put-number2 .result) 32) (c .put-number3 .last .1 .0) (c .put-number3 .result)
+put₃ c =
+    let second = c .before .before .before .before in
+    let first = second .before .before .before .before in
+    let s = first .before .before .before in
+    let n = s .args .returned / 256 in
+    puts-behind (decimal n) (second .put-number2 .result + 1) (set (second .put-number2 .last .1 .0) (second .put-number2 .result) 32) 20 (c .put-number3 .result) (c .put-number3 .last .1 .0) (c .put-number3 .ensures)
+    (length-spelled 19 n) (simp length-set (omega (arith, size₂ second, put₁ first .room, put₂ second .room, s .pre)))
 
 slice-write-text : tie.Need-slice-write-text
-slice-write-text c = search needs
-
-cast-put-number : tie.Need-cast-put-number
-cast-put-number c = search needs
+slice-write-text c = let first = c .before .before in omega (arith, size₁ first, put₁ first .room)
 
 add-put-number : tie.Need-add-put-number
-add-put-number c = search needs
-
-put-number-requires-2 : tie.Need-put-number-requires-2
-put-number-requires-2 c κs = simp length-set (omega (arith, size₁ (c .before .before .before)))
+add-put-number c = let first = c .before .before .before in omega (arith, size₁ first, put₁ first .room)
 
 slice-write-text-2 : tie.Need-slice-write-text-2
-slice-write-text-2 c = omega (arith, size₂ (c .before .before))
-
-cast-put-number-2 : tie.Need-cast-put-number-2
-cast-put-number-2 c = search needs
+slice-write-text-2 c =
+    let second = c .before .before in
+    omega (arith, size₂ second, put₁ (second .before .before .before .before) .room, put₂ second .room)
 
 add-put-number-2 : tie.Need-add-put-number-2
-add-put-number-2 c = search needs
+add-put-number-2 c =
+    let second = c .before .before .before in
+    omega (arith, size₂ second, put₁ (second .before .before .before .before) .room, put₂ second .room)
 
-put-number-requires-3 : tie.Need-put-number-requires-3
-put-number-requires-3 c κs = simp length-set (omega (arith, size₂ (c .before .before .before)))
+-- there is room for the line's end
+room : (c : tie.After-put-number3) → c .put-number3 .result < length (c .put-number3 .last .1 .0)
+room c =
+    let second = c .before .before .before .before in
+    let first = second .before .before .before .before in
+    omega (arith, size₃ c, put₁ first .room, put₂ second .room, put₃ c .room, first .before .before .before .pre)
 
 slice-write-text-3 : tie.Need-slice-write-text-3
-slice-write-text-3 c = omega (arith, size₃ (c .before .before))
+slice-write-text-3 c = omega (arith, room (c .before .before))
 
 add-result : tie.Need-add-result
-add-result c = search needs
+add-result c = omega (arith, room (c .before .before), size₃ (c .before .before))
 
 same-length : tie.Need-same-length
 same-length c = simp length-set (size₃ (c .before .before))
@@ -58,28 +84,22 @@ returns c =
     let third = c .before .before in
     let second = third .before .before .before .before in
     let first = second .before .before .before .before in
-    let s = first .before .before .before in
-    let one = first .put-number in
-    let two = second .put-number2 in
-    let three = third .put-number3 in (
-      put-line (s .args .at) (one .result) (two .result) (three .result) (s .args .text .now) (one .last .1 .0) (two .last .1 .0) (three .last .1 .0) _ _ _
-          (omega (arith, size₁ first)) (omega (arith, size₂ second)) (omega (arith, size₃ third)) (one .ensures .0) (two .ensures .0) (three .ensures .0),
-      omega arith,
-    )
+    let last = puts-marked 10 (put₃ third) (room third) (puts-none (third .put-number3 .result + 1) (set (third .put-number3 .last .1 .0) (third .put-number3 .result) 10)) in
+    puts-marked 32 (put₁ first) (slice-write-text (c .before .before .before .before .before .before .before .before)) (puts-marked 32 (put₂ second) (slice-write-text-2 (c .before .before .before .before)) last)
 
 pub put-line-spec : {M : Type 1} → statement M
 put-line-spec =
     tie.close
     (tie.spec
-    put-number-requires
+    (λ c κs. search needs)
     slice-write-text
-    cast-put-number
+    (λ c. search needs)
     add-put-number
-    put-number-requires-2
+    (λ c κs. search needs)
     slice-write-text-2
-    cast-put-number-2
+    (λ c. search needs)
     add-put-number-2
-    put-number-requires-3
+    (λ c κs. search needs)
     slice-write-text-3
     add-result
     same-length

@@ -1,10 +1,10 @@
--- `cblist::read_whole` meets its contract. The invariant: no more than the buffer is filled.
+-- `lines::read_whole` meets its contract. The invariant: no more than the buffer is filled.
 use mathlib.Core.Path.{_≡_}
 use Prim.Native.Nat.{_-_, _≤_}
 use lib.ListN.{length}
 use borrow.Author.Needs.{needs}
-use Rattle.cblist.proofs.read_whole.Statement.{statement}
-use Rattle.cblist.proofs.read_whole.Tie as tie
+use Rattle.lines.proofs.read_whole.Statement.{statement}
+use Rattle.lines.proofs.read_whole.Tie as tie
 
 abbrev Inv-loop : tie.InvT-loop
 Inv-loop buffer₀ have₀ t5 buffer have = (have ≤ length buffer₀) × (length buffer ≡ length buffer₀) × (length t5 ≡ 14)

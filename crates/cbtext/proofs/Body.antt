@@ -1,0 +1,66 @@
+-- What the text reader's answer says of a page: which of its two forms the line has, and what stands in it.
+use mathlib.Core.Path.{_≡_, refl, sym, ap, _∙_}
+use mathlib.Core.Bool.{Bool, true, false}
+use mathlib.Core.List.{List, [], _∷_, _++_, map}
+use Prim.Native.Nat.{ℕ, _-_, _≤_}
+use native.Mathlib.Omega.{arith}
+use lib.ListN.{length, getD, take, drop, replicate, length-map}
+use lib.Seq.{take-at}
+use lib.Dec.{ltb}
+use borrow.Author.Tests.{ltb-true, ltb-false}
+use Rattle.laws.specs.Received.{wholeBlocks}
+use Rattle.alphabet.specs.Paper.{codePoint}
+use Rattle.page.specs.Paper.{header, octet}
+use Rattle.text.specs.Paper.{Reading, received, trimmed, shown, reading}
+use Rattle.text.proofs.Cases.{reading-13, reading-0}
+use Rattle.text.proofs.Reader.{characters-bounded}
+use Rattle.lines.specs.Paper.{hexadecimal}
+use Rattle.cbtext.specs.Listing.{character, joined, body}
+
+-- the header is in the first six octets
+pub header-front : (p : List ℕ) → header (getD p 0 0 ∷ getD p 1 0 ∷ getD p 2 0 ∷ getD p 3 0 ∷ getD p 4 0 ∷ getD p 5 0 ∷ []) ≡ header p
+unfolding header
+header-front p = refl
+
+-- the text of a page that reads
+pub record Reads (p : List ℕ) (n : ℕ) (t : List ℕ) (count : ℕ) : Type 0 where
+  pub few : count ≤ 93
+  pub shows : body p n ≡ 32 ∷ 116 ∷ 101 ∷ 120 ∷ 116 ∷ 32 ∷ joined character (take count t)
+
+-- the code points shown are at the front
+shown-front : (s t : List ℕ) (count : ℕ) → record { number = 0; characters = count; text = t } ≡ shown s → take count t ≡ map codePoint s
+unfolding shown
+shown-front s t count e =
+    let n : count ≡ length s = ap (λ (r : Reading). r .characters) e in
+    let text : t ≡ map codePoint s ++ replicate (93 - length s) 0 = ap (λ (r : Reading). r .text) e in
+    rw (n, text) (take-at (map codePoint s) (replicate (93 - length s) 0) (length s) (length-map s codePoint))
+
+shown-number : (s : List ℕ) → shown s .number ≡ 0
+unfolding shown
+shown-number s = refl
+
+module _ (p : List ℕ) (n : ℕ) (t₀ t : List ℕ) (size : length t₀ ≡ 93) (long : length p ≡ 88) (blocks : wholeBlocks n ≡ true) where
+  pub reads-text : (count : ℕ) → record { number = 0; characters = count; text = t } ≡ reading p n t₀ → Reads p n t count
+  unfolding body
+  reads-text count e = go (ltb 0x0f (octet p 5)) refl
+    where
+      go : (b : Bool) → ltb 0x0f (octet p 5) ≡ b → Reads p n t count
+      go true q = absurd (omega (arith, ap (λ (r : Reading). r .number) (e ∙ reading-13 p n t₀ size long blocks (ltb-true 0x0f (octet p 5) q))))
+      go false q =
+          let front = shown-front (trimmed (received p n)) t count (e ∙ reading-0 p n t₀ size long blocks (ltb-false 0x0f (octet p 5) q)) in
+          let c : count ≡ reading p n t₀ .characters = ap (λ (r : Reading). r .characters) e in
+          record { few = omega (arith, characters-bounded p n t₀); shows = rw (q, front) }
+
+  -- a refusal tells another scheme
+  pub reads-none : (m : ℕ) → (m ≡ 0 → ⊥) → record { number = m; characters = 0; text = t } ≡ reading p n t₀
+      → body p n ≡ 32 ∷ 104 ∷ 101 ∷ 120 ∷ 32 ∷ joined (hexadecimal 2) (take (n - 6) (drop 6 p))
+  unfolding body
+  reads-none m ne e = go (ltb 0x0f (octet p 5)) refl
+    where
+      go : (b : Bool) → ltb 0x0f (octet p 5) ≡ b → body p n ≡ 32 ∷ 104 ∷ 101 ∷ 120 ∷ 32 ∷ joined (hexadecimal 2) (take (n - 6) (drop 6 p))
+      go true q = rw q
+      go false q =
+          absurd
+          (ne
+          (ap (λ (r : Reading). r .number) (e ∙ reading-0 p n t₀ size long blocks (ltb-false 0x0f (octet p 5) q))
+          ∙ shown-number (trimmed (received p n))))

@@ -1,0 +1,34 @@
+-- What an intake call leaves, as the line of its answer takes it.
+use mathlib.Core.Path.{_≡_, refl, sym, ap, _∙_}
+use mathlib.Core.Bool.{Bool, true, false, cond}
+use mathlib.Core.List.{List, []}
+use Prim.Native.Nat.{ℕ}
+use native.Mathlib.Omega.{arith}
+use lib.ListN.{length}
+use lib.Dec.{eqb}
+use borrow.Author.Tests.{eqb-true, ne-eqb}
+use Rattle.laws.proofs.Received.{whole-bounds}
+use Rattle.block.specs.Paper.{Given}
+use Rattle.lines.proofs.Complete.{Complete}
+use Rattle.lines.proofs.Listed.{Taken}
+use Rattle.cbtext.specs.Listing.{lineOf, pageLine}
+use Rattle.cbtext.specs.Inner.{Handed, lineFor}
+
+module _ (g : Given) (returned : ℕ) (s p p′ : List ℕ) (t : Taken g returned s p p′) (whole : g .number ≡ 0 → Complete g) where
+  -- a page complete is what the call leaves in the output
+  output : g .number ≡ 0 → p′ ≡ g .octets
+  output z =
+      let some : g .received ≡ 0 → ⊥ = λ e. omega (arith, whole-bounds (g .received) (whole z .blocks)) in
+      t .output ∙ rw (ne-eqb (g .received) 0 some)
+
+  pub handed : Handed returned p′
+  handed z =
+      let n = sym (t .answer) ∙ z in
+      (ap length (output n) ∙ whole n .long, rw (t .received) (whole n .blocks))
+
+  pub line-for : (n : ℕ) → lineFor n returned p′ ≡ lineOf n g
+  line-for n = rw (t .answer, t .received) (go (eqb (g .number) 0) refl)
+    where
+      go : (b : Bool) → eqb (g .number) 0 ≡ b → cond (eqb (g .number) 0) (pageLine n p′ (g .received)) [] ≡ lineOf n g
+      go true e = rw (e, output (eqb-true (g .number) 0 e))
+      go false e = rw e

@@ -1,0 +1,5 @@
+-- What `cbtext` proves.
+pub mod Body
+pub mod Characters
+pub mod Chunks
+pub mod Handed

@@ -1,0 +1,27 @@
+-- `cbtext::put_answer` meets its contract: only the number 0 has a line.
+use Prim.Native.Nat.{_%_}
+use native.Mathlib.Omega.{arith}
+use borrow.Author.Needs.{needs}
+use borrow.Author.Tests.{eq-eqb, ne-eqb}
+use denote.Ref.{now}
+use Rattle.lines.proofs.Behind.{puts-none}
+use Rattle.cbtext.proofs.Characters.{puts-wider}
+use Rattle.cbtext.proofs.put_answer.Statement.{statement}
+use Rattle.cbtext.proofs.put_answer.Tie as tie
+
+returns : tie.Need-returns
+returns c =
+    let a = c .before .before .before .args in
+    rw (ne-eqb (a .returned % 256) 0 (c .if1 .taken)) (puts-wider 358 (omega arith) (puts-none (a .at) (now (a .out))))
+
+put-page-requires : tie.Need-put-page-requires
+put-page-requires c κs =
+    let s = c .before .before .before .before in
+    let whole = s .pre .0 (c .before .if1 .left) in
+    (whole .0, whole .1, s .pre .1)
+
+returns-2 : tie.Need-returns-2
+returns-2 c = rw (eq-eqb (c .before .before .before .before .before .before .before .args .returned % 256) 0 (c .before .before .before .before .if1 .left)) (c .before .before .put-page .ensures)
+
+pub put-answer-spec : {M : Type 1} → statement M
+put-answer-spec = tie.close (tie.spec returns (λ c. search needs) put-page-requires (λ c. search needs) returns-2)

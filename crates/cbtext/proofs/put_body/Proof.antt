@@ -1,0 +1,151 @@
+-- `cbtext::put_body` meets its contract: the text reader's answer tells which form the line has.
+use mathlib.Core.Path.{_≡_, sym, ap, _∙_}
+use mathlib.Core.List.{List, [], _∷_}
+use Prim.Native.Nat.{ℕ, _+_, _*_, _-_, _≤_}
+use native.Mathlib.Nat.{min-le-left}
+use native.Mathlib.Omega.{arith}
+use borrow.Author.Needs.{needs}
+use denote.Ref.{now}
+use lib.ListN.{length, take, drop, replicate, length-take, length-replicate}
+use lib.Seq.{length-take-le}
+use Rattle.answer.specs.Number.{numberOf}
+use Rattle.answer.proofs.Inverse.{numberOf-positive}
+use Rattle.laws.proofs.Received.{whole-bounds}
+use Rattle.page.specs.Paper.{Part}
+use Rattle.page.specs.Coded.{partOf}
+use Rattle.page.proofs.Received.{handed-content}
+use Rattle.text.specs.Coded.{readingOf}
+use Rattle.text.specs.declared.Got.{Got}
+use Rattle.lines.specs.Paper.{hexadecimal}
+use Rattle.lines.specs.Inner.{Puts}
+use Rattle.lines.proofs.Behind.{puts-behind, puts-then}
+use Rattle.cbtext.specs.Listing.{joined, body}
+use Rattle.cbtext.proofs.Characters.{puts-wider}
+use Rattle.cbtext.proofs.Body.{Reads, reads-text, reads-none}
+use Rattle.cbtext.proofs.put_body.Statement.{statement}
+use Rattle.cbtext.proofs.put_body.Tie as tie
+
+-- the words before the text and before the content
+abbrev text-word : List ℕ
+text-word = 32 ∷ 116 ∷ 101 ∷ 120 ∷ 116 ∷ 32 ∷ []
+
+abbrev hex-word : List ℕ
+hex-word = 32 ∷ 104 ∷ 101 ∷ 120 ∷ 32 ∷ []
+
+-- the array of code points as it is made
+abbrev zeros : List ℕ
+zeros = replicate 93 0
+
+zeros-size : length zeros ≡ 93
+zeros-size = length-replicate {A = ℕ} 93 0
+
+-- the code points as the reader leaves them, and their number
+abbrev points : tie.After-got → List ℕ
+points c = c .before .before .before .read-text .last .1 .1 .0
+
+abbrev count : tie.After-got → ℕ
+count c = c .got .given .0 .0
+
+points-size : (c : tie.After-got) → length (points c) ≡ 93
+points-size c = c .before .before .before .read-text .kept .1 .1 .0 ∙ zeros-size
+
+reads : (c : tie.After-got) → Reads (now (c .before .before .before .before .before .before .before .args .page)) (c .before .before .before .before .before .before .before .args .received) (points c) (count c)
+reads c =
+    let s = c .before .before .before .before .before .before .before in
+    reads-text (now (s .args .page)) (s .args .received) zeros (points c) zeros-size (s .pre .0) (s .pre .1) (count c)
+    (ap (λ (g : Got). readingOf g (points c)) (sym (c .got .given .1)) ∙ c .before .before .before .read-text .ensures)
+
+inside : (c : tie.After-got) → count c ≤ length (points c)
+inside c = omega (arith, reads c .few, points-size c)
+
+shown-size : (c : tie.After-got) → length (take (count c) (points c)) ≡ count c
+shown-size c = length-take-le (count c) (points c) (inside c)
+
+-- the word before the text is put
+word : (c : tie.After-put) → Puts text-word 6 (c .before .before .before .before .before .before .before .before .before .before .before .args .at) (now (c .before .before .before .before .before .before .before .before .before .before .before .args .out)) (c .put .last .1 .0) (c .put .result)
+word c =
+    let s = c .before .before .before .before .before .before .before .before .before .before .before in
+    puts-behind text-word (s .args .at) (now (s .args .out)) 6 (c .put .result) (c .put .last .1 .0) (c .put .ensures) (omega arith) (omega (arith, s .pre .2))
+
+array-share-prefix-points : tie.Need-array-share-prefix-points
+array-share-prefix-points c = inside (c .before .before .before .before .before .before)
+
+slice-aggregate-put-text : tie.Need-slice-aggregate-put-text
+slice-aggregate-put-text c = sym (shown-size (c .before .before .before .before .before .before .before))
+
+put-text-requires : tie.Need-put-text-requires
+put-text-requires c κs =
+    let p = c .before .before .before .before in
+    let g = c .before .before .before .before .before .before .before .before in
+    let room : p .put .result + 3 * length (take (count g) (points g)) ≤ length (p .put .last .1 .0) =
+    omega (arith, word p .room, shown-size g, reads g .few, p .put .kept .1 .0, c .before .before .before .before .before .before .before .before .before .before .before .before .before .before .before .pre .2) in
+    room
+
+returns : tie.Need-returns
+returns c =
+    let g = c .before .before .before .before .before .before .before .before .before .before .before in
+    let most : 6 + 3 * length (take (count g) (points g)) ≤ 285 = omega (arith, shown-size g, reads g .few) in
+    rw (reads g .shows) (puts-wider 285 most (puts-then (word (c .before .before .before .before .before .before .before)) (c .before .before .put-text .ensures)))
+
+-- a refusal tells another scheme
+foreign : (c : tie.After-enum-told) → body (now (c .before .before .before .before .before .before .before .args .page)) (c .before .before .before .before .before .before .before .args .received) ≡ 32 ∷ 104 ∷ 101 ∷ 120 ∷ 32 ∷ joined (hexadecimal 2) (take (c .before .before .before .before .before .before .before .args .received - 6) (drop 6 (now (c .before .before .before .before .before .before .before .args .page))))
+foreign c =
+    let s = c .before .before .before .before .before .before .before in
+    let t = c .before .before .before .read-text .last .1 .1 .0 in
+    let r = c .enum-told .given .0 .0 in
+    reads-none (now (s .args .page)) (s .args .received) zeros t zeros-size (s .pre .0) (s .pre .1) (numberOf r) (numberOf-positive r)
+    (ap (λ (g : Got). readingOf g t) (sym (c .enum-told .given .1)) ∙ c .before .before .before .read-text .ensures)
+
+-- the word before the content is put
+word₂ : (c : tie.After-put2) → Puts hex-word 5 (c .before .before .before .before .before .before .before .before .before .before .args .at) (now (c .before .before .before .before .before .before .before .before .before .before .args .out)) (c .put2 .last .1 .0) (c .put2 .result)
+word₂ c =
+    let s = c .before .before .before .before .before .before .before .before .before .before in
+    puts-behind hex-word (s .args .at) (now (s .args .out)) 5 (c .put2 .result) (c .put2 .last .1 .0) (c .put2 .ensures) (omega arith) (omega (arith, s .pre .2))
+
+-- what is handed back is the content received
+handed : (c : tie.After-content) → now (c .content .result) ≡ take (c .before .before .before .before .before .before .before .before .before .before .before .before .before .args .received - 6) (drop 6 (now (c .before .before .before .before .before .before .before .before .before .before .before .before .before .args .page)))
+handed c =
+    let s = c .before .before .before .before .before .before .before .before .before .before .before .before .before in
+    ap (λ (q : Part). q .octets) (c .content .ensures ∙ handed-content (partOf (s .args .page)) (s .args .received) (s .pre .0) (s .pre .1))
+
+few : (c : tie.After-content) → length (now (c .content .result)) ≤ 82
+few c =
+    let s = c .before .before .before .before .before .before .before .before .before .before .before .before .before in
+    let n = s .args .received in
+    let k : length (take (n - 6) (drop 6 (now (s .args .page)))) ≤ n - 6 = rw length-take (min-le-left (n - 6) (length (drop 6 (now (s .args .page))))) in
+    rw (handed c) (omega (arith, k, whole-bounds n (s .pre .1)))
+
+put-content-requires : tie.Need-put-content-requires
+put-content-requires c κs =
+    let p = c .before .before .before .before in
+    let room : p .put2 .result + 2 * length (now (c .before .content .result)) ≤ length (p .put2 .last .1 .0) =
+    omega (arith, word₂ p .room, few (c .before), p .put2 .kept .1 .0, c .before .before .before .before .before .before .before .before .before .before .before .before .before .before .pre .2) in
+    room
+
+returns-2 : tie.Need-returns-2
+returns-2 c =
+    let h = c .before .before .before .before in
+    let most : 5 + 2 * length (now (h .content .result)) ≤ 285 = omega (arith, few h) in
+    rw (foreign (c .before .before .before .before .before .before .before .before .before .before), ← handed h) (puts-wider 285 most (puts-then (word₂ (c .before .before .before .before .before .before .before)) (c .before .before .put-content .ensures)))
+
+pub put-body-spec : {M : Type 1} → statement M
+put-body-spec =
+    tie.close
+    (tie.spec
+    (λ c. search needs)
+    (λ c κs. search needs)
+    (λ c. search needs)
+    (λ c. search needs)
+    (λ c κs. search needs)
+    array-share-prefix-points
+    slice-aggregate-put-text
+    put-text-requires
+    (λ c. search needs)
+    returns
+    (λ c. search needs)
+    (λ c. search needs)
+    (λ c κs. search needs)
+    (λ c κs. search needs)
+    put-content-requires
+    (λ c. search needs)
+    returns-2)

@@ -1,0 +1,46 @@
+-- `cbtext::put_character` meets its contract: the tests that led to each answer decide those of `character`.
+use native.Mathlib.Omega.{arith}
+use lib.ListN.{length-set}
+use borrow.Author.Needs.{needs}
+use Rattle.cbtext.proofs.Characters.{puts-two, character-lf, character-cr, character-other}
+use Rattle.cbtext.proofs.put_character.Statement.{statement}
+use Rattle.cbtext.proofs.put_character.Tie as tie
+
+slice-write-out-2 : tie.Need-slice-write-out-2
+slice-write-out-2 c = simp length-set (omega arith)
+
+returns : tie.Need-returns
+returns c =
+    let s = c .before .before in
+    rw (character-lf (s .args .point) (c .if1 .taken)) (puts-two (s .args .at) (s .args .out .now) (s .pre) 92 110)
+
+slice-write-out-4 : tie.Need-slice-write-out-4
+slice-write-out-4 c = simp length-set (omega arith)
+
+returns-2 : tie.Need-returns-2
+returns-2 c =
+    let s = c .before .before .before in
+    rw (character-cr (s .args .point) (c .before .if1 .left) (c .if2 .taken)) (puts-two (s .args .at) (s .args .out .now) (s .pre) 92 114)
+
+returns-3 : tie.Need-returns-3
+returns-3 c = rw (character-other (c .before .before .before .before .before .before .before .args .point) (c .before .before .before .before .before .if1 .left) (c .before .before .before .before .if2 .left)) (c .before .before .put-utf8 .ensures)
+
+pub put-character-spec : {M : Type 1} → statement M
+put-character-spec =
+    tie.close
+    (tie.spec
+    (λ c. search needs)
+    (λ c. search needs)
+    slice-write-out-2
+    (λ c. search needs)
+    (λ c. search needs)
+    returns
+    (λ c. search needs)
+    (λ c. search needs)
+    slice-write-out-4
+    (λ c. search needs)
+    (λ c. search needs)
+    returns-2
+    (λ c κs. search needs)
+    (λ c. search needs)
+    returns-3)

@@ -1,0 +1,3 @@
+-- What `cbtext` defines.
+pub mod Inner
+pub mod Listing

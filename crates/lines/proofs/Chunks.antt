@@ -1,0 +1,28 @@
+-- A log that is read chunk by chunk is listed as if it were read at once.
+use mathlib.Core.Path.{_≡_, sym, _∙_}
+use mathlib.Core.List.{List, [], _∷_, _++_, append-assoc}
+use Prim.Native.Nat.{ℕ, suc, _+_, _/_}
+use native.Mathlib.Nat.{add-zero}
+use native.Mathlib.Omega.{arith}
+use lib.ListN.{length}
+use Rattle.block.specs.Paper.{Held, Given, step}
+use Rattle.block.specs.History.{after}
+use Rattle.lines.specs.Paper.{listing, cut, InChunks}
+use Rattle.lines.proofs.Pieces.{length-pieces, cut-append}
+
+module _ (f : ℕ → Given → List ℕ) where
+  -- lines of pieces and further pieces
+  listing-append : (h : Held) (n : ℕ) (ps qs : List (List ℕ)) → listing f h n (ps ++ qs) ≡ listing f h n ps ++ listing f (after h ps) (n + length ps) qs
+  unfolding listing after
+  listing-append h n [] qs = rw (add-zero n)
+  listing-append h n (p ∷ ps) qs =
+      let g = step h p in
+      let count : n + 1 + length ps ≡ n + suc (length ps) = omega arith in
+      rw (listing-append (g .next) (n + 1) ps qs, count)
+      (sym (append-assoc (f n g) (listing f (g .next) (n + 1) ps) (listing f (after (g .next) ps) (n + suc (length ps)) qs)))
+
+  pub in-chunks : InChunks f
+  in-chunks h n k chunk rest e =
+      let these : (length chunk + 22) / 23 ≡ k = omega arith in
+      let count : length (cut chunk) ≡ k = length-pieces ((length chunk + 22) / 23) 0 chunk ∙ these in
+      rw (cut-append k chunk rest e) (rw count at (listing-append h n (cut chunk) (cut rest)))

@@ -1,0 +1,123 @@
+-- The loop over a log: what is listed so far, and one piece more.
+use mathlib.Core.Path.{_≡_, refl, sym, ap, _∙_}
+use mathlib.Core.Bool.{cond}
+use mathlib.Core.List.{List, [], _∷_, _++_, append-assoc, append-nil}
+use Prim.Native.Nat.{ℕ, suc, _+_, _*_, _-_, _/_, _%_, _≤_, _<_}
+use native.Mathlib.Nat.{sub-zero, mul-suc, mul-le-mul-left}
+use native.Mathlib.Omega.{arith}
+use lib.ListN.{length, take, drop}
+use lib.Dec.{eqb}
+use Rattle.block.specs.Paper.{Given, step}
+use Rattle.block.specs.History.{after}
+use Rattle.block.proofs.History.{number-small}
+use Rattle.firmware.specs.Paper.{Left, lent, heldIn, moved, intakeCall}
+use Rattle.firmware.proofs.History.{right, answer-of}
+use Rattle.lines.specs.Paper.{listing, pieces, cut}
+use Rattle.lines.specs.Inner.{Puts}
+use Rattle.lines.proofs.Pieces.{left, ended, one-less, piece-is, pieces-split}
+
+-- the octets received can be read off the returned number
+received-of : (n r : ℕ) → n ≤ 8 → (n + 256 * r) / 256 ≡ r
+received-of n r h = omega arith
+
+-- memory of 90 octets is the state that it holds
+lent-held : (s : List ℕ) → length s ≡ 90 → lent (heldIn s) ≡ s
+lent-held [] h = absurd (omega arith)
+lent-held (x ∷ []) h = absurd (omega arith)
+lent-held (x ∷ y ∷ s) h = refl
+
+-- the answer to the piece at a place of a log
+abbrev pub answerAt : List ℕ → ℕ → List ℕ → Given
+answerAt s at log = step (heldIn s) (take 23 (drop at log))
+
+-- what a call for the piece at a place leaves, in the parts of its answer g
+pub record Taken (g : Given) (returned : ℕ) (s′ message message′ : List ℕ) : Type 0 where
+  pub answer : returned % 256 ≡ g .number
+  pub received : returned / 256 ≡ g .received
+  pub state : heldIn s′ ≡ g .next
+  pub output : message′ ≡ cond (eqb (g .received) 0) message (g .octets)
+
+pub taken : (s log message : List ℕ) (at returned next : ℕ) (s′ message′ : List ℕ) → at < length log → length s ≡ 90 → length message ≡ 88 → next ≡ ended at log
+    → record { returned = returned; state = s′; output = message′ } ≡ intakeCall s (take (next - at) (drop at log)) message
+    → Taken (answerAt s at log) returned s′ message message′
+taken s log message at returned next s′ message′ h size₁ size₂ n call =
+    let p = take 23 (drop at log) in
+    let g = step (heldIn s) p in
+    let did : _≡_ {A = Left} (record { returned = returned; state = s′; output = message′ }) (moved g message) =
+    (rw (n, piece-is at log h) at call) ∙ right s p message size₁ size₂ in
+    let number-is = ap (λ (x : Left). x .returned) did in
+    let small = number-small (heldIn s) p in
+    record {
+      answer = rw number-is (answer-of (g .number) (g .received) small);
+      received = rw number-is (received-of (g .number) (g .received) small);
+      state = ap (λ (x : Left). heldIn (x .state)) did;
+      output = ap (λ (x : Left). x .output) did;
+    }
+
+-- what holds between two pieces, where a line is no longer than wide and the text's memory is of a size: the text so far and the lines to come are the listing
+pub record Listed (f : ℕ → Given → List ℕ) (wide size : ℕ) (s₀ : List ℕ) (first : ℕ) (log s text : List ℕ) (at number end : ℕ) : Type 0 where
+  pub state-size : length s ≡ 90
+  pub text-size : length text ≡ size
+  pub inside : at ≤ length log
+  pub room : end + wide * left at log ≤ size
+  pub few : number + left at log ≤ first + 1024
+  pub told : listing f (heldIn s₀) first (cut log) ≡ take end text ++ listing f (heldIn s) number (pieces (left at log) at log)
+  pub states : after (heldIn s₀) (cut log) ≡ after (heldIn s) (pieces (left at log) at log)
+
+module _ (f : ℕ → Given → List ℕ) (wide size : ℕ) (s₀ : List ℕ) (first : ℕ) (log s text : List ℕ) (at number end : ℕ) where
+  module _ (l : Listed f wide size s₀ first log s text at number end) where
+    -- there is room for a line where a piece is left
+    pub line-room : at < length log → end + wide ≤ size
+    line-room h =
+        let n = one-less at log h in
+        let w : wide * left at log ≡ wide * left (ended at log) log + wide = rw n (mul-suc wide (left (ended at log) log)) in
+        omega (arith, l .room)
+
+    -- one piece more: its line behind the text so far
+    pub listed-turn : at < length log → (next e : ℕ) (s′ text′ : List ℕ) → next ≡ ended at log
+        → length s′ ≡ length s → length text′ ≡ length text → heldIn s′ ≡ answerAt s at log .next
+        → Puts (f number (answerAt s at log)) wide end text text′ e
+        → Listed f wide size s₀ first log s′ text′ next (number + 1) e
+    unfolding listing after
+    listed-turn h next e s′ text′ n size₁ size₂ state put =
+        let g = answerAt s at log in
+        let rest = pieces (left (ended at log) log) (ended at log) log in
+        let less = one-less at log h in
+        let w : wide * left at log ≡ wide * left (ended at log) log + wide = rw less (mul-suc wide (left (ended at log) log)) in
+        let told : listing f (heldIn s₀) first (cut log) ≡ take end text ++ (f number g ++ listing f (g .next) (number + 1) rest) =
+        rw (pieces-split at log h) at (l .told) in
+        let states : after (heldIn s₀) (cut log) ≡ after (g .next) rest = rw (pieces-split at log h) at (l .states) in
+        record {
+          state-size = size₁ ∙ l .state-size;
+          text-size = size₂ ∙ l .text-size;
+          inside = rw n (omega arith);
+          room = rw n (omega (arith, l .room, put .room));
+          few = rw n (omega (arith, l .few));
+          told = rw (n, state, put .text) (told ∙ sym (append-assoc (take end text) (f number g) (listing f (g .next) (number + 1) rest)));
+          states = rw (n, state) states;
+        }
+
+    -- at the end of the log everything is told
+    pub listed-end : length log ≤ at
+        → (take end text ≡ listing f (heldIn s₀) first (cut log)) × (s ≡ lent (after (heldIn s₀) (cut log))) × (end ≤ size)
+    unfolding listing after pieces
+    listed-end h =
+        let none : left at log ≡ 0 = omega arith in
+        let told = rw (none, append-nil) at (l .told) in
+        let states = rw none at (l .states) in
+        (sym told, rw states (sym (lent-held s (l .state-size))), omega (arith, l .room))
+
+-- before the first piece nothing is told
+pub listed-start : (f : ℕ → Given → List ℕ) (wide size : ℕ) (s : List ℕ) (first : ℕ) (log text : List ℕ) → length s ≡ 90 → length log ≤ 23552 → wide * 1024 ≤ size → length text ≡ size
+    → Listed f wide size s first log s text 0 first 0
+listed-start f wide size s first log text size₁ most wides size₂ =
+    let few : left 0 log ≤ 1024 = omega arith in
+    record {
+      state-size = size₁;
+      text-size = size₂;
+      inside = omega arith;
+      room = omega (arith, mul-le-mul-left wide few);
+      few = omega arith;
+      told = rw (sub-zero (length log));
+      states = rw (sub-zero (length log));
+    }

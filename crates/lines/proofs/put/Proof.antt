@@ -1,0 +1,49 @@
+-- `lines::put` meets its contract: octets that fit are copied over the part that is lent for them.
+use mathlib.Core.Path.{refl, sym, _∙_}
+use Prim.Native.Nat.{_+_, _≤_, _<_}
+use native.Mathlib.Omega.{arith}
+use lib.ListN.{length}
+use borrow.Author.Needs.{needs}
+use borrow.Author.Tests.{leb-true, leb-false, not-true, not-false}
+use Rattle.lines.proofs.Behind.{behind-full, behind-copy}
+use Rattle.lines.proofs.put.Statement.{statement}
+use Rattle.lines.proofs.put.Tie as tie
+
+abbrev start : tie.After-has-room → tie.Start
+start c = c .before .before .before
+
+-- past the test the octets fit
+room : (c : tie.Else1) → start (c .before) .args .at + length (start (c .before) .args .octets .now) ≤ length (start (c .before) .args .text .now)
+room c = leb-true _ _ (sym (c .before .has-room .ensures) ∙ not-false _ (c .if1 .left))
+
+returns : tie.Need-returns
+returns c =
+    let a = start (c .before) .args in
+    let over : length (a .text .now) < a .at + length (a .octets .now) = leb-false _ _ (sym (c .before .has-room .ensures) ∙ not-true _ (c .if1 .taken)) in
+    sym (behind-full (a .octets .now) (a .at) (a .text .now) over)
+
+add-end : tie.Need-add-end
+add-end c = omega (arith, room c)
+
+part-copy-end : tie.Need-part-copy-end
+part-copy-end c = omega (arith, room c)
+
+returns-2 : tie.Need-returns-2
+returns-2 c =
+    let b = c .before .before .before .before in
+    let a = start (b .before) .args in
+    behind-copy (a .octets .now) (a .at) (a .text .now) (c .before .before .copy .last .1 .0) (a .at + length (a .octets .now)) (room b) refl (c .before .before .copy .ensures .1)
+
+pub put-spec : {M : Type 1} → statement M
+put-spec =
+    tie.close
+    (tie.spec
+    (λ c κs. search needs)
+    returns
+    add-end
+    (λ c. search needs)
+    (λ c. search needs)
+    part-copy-end
+    (λ c κs. search needs)
+    (λ c. search needs)
+    returns-2)

@@ -1,0 +1,32 @@
+-- `lines::put_number` meets its contract: the fewest digits of a number are its decimal.
+use mathlib.Core.Path.{ap, _∙_}
+use mathlib.Core.List.{List}
+use Prim.Native.Nat.{ℕ, _≤_}
+use borrow.Author.Needs.{needs}
+use Rattle.lines.specs.Paper.{behind}
+use Rattle.lines.proofs.Numbers.{spelled-digits, twenty-digits}
+use Rattle.lines.proofs.put_number.Statement.{statement}
+use Rattle.lines.proofs.put_number.Tie as tie
+
+-- the digits are few
+few : (c : tie.After-decimal) → c .decimal .result ≤ 20
+few c = let s = c .before .before .before in twenty-digits (c .decimal .result) (s .args .number) (s .fits .number .fits) (c .decimal .ensures .1 .0)
+
+returns : tie.Need-returns
+returns c =
+    let d = c .before .before .before .before .before in
+    let a = d .before .before .before .args in
+    let digits = d .decimal .ensures in
+    let number = digits .1 .1 ∙ spelled-digits 19 (d .decimal .result) (a .number) (few d) (digits .1 .0) in
+    c .before .before .put .ensures ∙ ap (λ (l : List ℕ). behind l (a .at) (a .text .now)) number
+
+pub put-number-spec : {M : Type 1} → statement M
+put-number-spec =
+    tie.close
+    (tie.spec
+    (λ c κs. search needs)
+    (λ c. search needs)
+    (λ c. search needs)
+    (λ c κs. search needs)
+    (λ c. search needs)
+    returns)

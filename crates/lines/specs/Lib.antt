@@ -1,0 +1,3 @@
+-- What `lines` defines.
+pub mod Inner
+pub mod Paper
