@@ -1,1 +1,2 @@
 -- What `planfile` proves.
+pub mod Ends

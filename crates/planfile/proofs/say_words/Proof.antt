@@ -1,42 +1,30 @@
+-- `planfile::say_words` is safe: the words end within the memory for them.
+use mathlib.Core.Path.{_≡_, sym}
+use Prim.Native.Nat.{_≤_}
+use native.Mathlib.Omega.{arith}
+use lib.ListN.{length}
+use lib.Seq.{length-take-le}
 use borrow.Author.Needs.{needs}
+use Rattle.planfile.proofs.Ends.{ends-inside}
 use Rattle.planfile.proofs.say_words.Statement.{statement}
 use Rattle.planfile.proofs.say_words.Tie as tie
-use Rattle.planfile.proofs.say_words.Reads as reads
-use Rattle.planfile.proofs.say_words.Lts as lts
-use Rattle.io.proofs.write_all.Reads as write-all-reads
-use Rattle.words.proofs.put_words.Reads as put-words-reads
 
--- src/lib.rt:54:41
-slice-aggregate-put-words : tie.Need-slice-aggregate-put-words
-slice-aggregate-put-words c = search needs
+few : (c : tie.After-put-words) → c .put-words .result ≤ 80
+few c = ends-inside _ _ _ _ (omega arith) (c .put-words .ensures)
 
--- src/lib.rt:54:9
-put-words-requires : tie.Need-put-words-requires
-put-words-requires c κs = search needs
-
--- src/lib.rt:55:34
 array-share-prefix-text : tie.Need-array-share-prefix-text
-array-share-prefix-text c = ?
+array-share-prefix-text c = omega (arith, few (c .before))
 
--- src/lib.rt:55:34
 slice-aggregate-write-all : tie.Need-slice-aggregate-write-all
-slice-aggregate-write-all c = ?
-
--- src/lib.rt:55:5
-write-all-requires : tie.Need-write-all-requires
-write-all-requires c κs = search needs
-
--- src/lib.rt:52:1
-returns : tie.Need-returns
-returns c = search needs
+slice-aggregate-write-all c = sym (length-take-le _ _ (omega (arith, few (c .before .before))))
 
 pub say-words-spec : {M : Type 1} → statement M
 say-words-spec =
     tie.close
     (tie.spec
-    slice-aggregate-put-words
-    put-words-requires
+    (λ c. search needs)
+    (λ c κs. search needs)
     array-share-prefix-text
     slice-aggregate-write-all
-    write-all-requires
-    returns)
+    (λ c κs. search needs)
+    (λ c. search needs))
