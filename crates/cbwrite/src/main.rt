@@ -1,4 +1,9 @@
 // Writes the four blocks of the schedule message of a plan file, beside the plan file before it: cbwrite CURRENT PREVIOUS BEGIN.
+ghost use mathlib.Core.Path.{_≡_};
+ghost use Prim.Native.Nat.{min};
+ghost use Rattle.block.specs.Coded.{sentOf};
+ghost use Rattle.plan.specs.Coded.{planOf};
+ghost use Rattle.cbwrite.specs.Paper.{composed};
 use block::Kind;
 use block::Sent;
 use libc::STDERR_FILENO;
@@ -41,6 +46,15 @@ fn begin_argument() -> Begin {
     begin_of(&text[..length])
 }
 
+fn capped(number: usize) -> usize
+    ensures { λ r. ⌜ r ≡ min number 1000 ⌝ }
+{
+    if number > MOST {
+        return MOST;
+    }
+    number
+}
+
 // Begin in decimal.
 fn begin_of(digits: &[u8]) -> Begin {
     if digits.len() == 0 {
@@ -56,10 +70,7 @@ fn begin_of(digits: &[u8]) -> Begin {
         if digit > b'9' {
             return Begin::NoNumber;
         }
-        number = 10 * number + (digit - b'0') as usize;
-        if number > MOST {
-            number = MOST;
-        }
+        number = capped(10 * number + (digit - b'0') as usize);
         i += 1;
     }
     Begin::Number(number)
@@ -94,7 +105,9 @@ fn write(current: Plan, previous: Plan, begin: usize) {
 }
 
 // The blocks of the schedule message of a plan, or a refusal.
-fn compose(current: Plan, previous: Plan, begin: usize, out: &mut [u8]) -> Sent {
+fn compose(current: Plan, previous: Plan, begin: usize, out: &mut [u8]) -> Sent
+    ensures { λ r. ⌜ sentOf r (now (out .exit)) ≡ composed (planOf current) (planOf previous) begin (now (out .entry)) ⌝ }
+{
     let mut message = [0u8; 88];
     let answer = sender::write_schedule(current, previous, begin, &mut message);
     match answer {
