@@ -67,7 +67,15 @@ fn list_all(current: Plan, previous: Plan) {
     let mut message = [0u8; 88];
     let mut number: u64 = 1;
     while number < LAST {
-        if !list_some(current, previous, &mut state, number, &mut log, &mut message, &mut out) {
+        if !list_some(
+            current,
+            previous,
+            &mut state,
+            number,
+            &mut log,
+            &mut message,
+            &mut out,
+        ) {
             return;
         }
         number += PIECES;
@@ -87,7 +95,15 @@ fn list_some(
     requires { ⌜ (length (now state) ≡ 90) × (length (now message) ≡ 88) × (length (now log) ≡ 65536) × (length (now out) ≡ 146432) × (number < 1000000000000000000) ⌝ }
 {
     let count = lines::read_whole(&mut log[..CHUNK]);
-    let end = list(current, previous, state, number, &log[..count], message, out);
+    let end = list(
+        current,
+        previous,
+        state,
+        number,
+        &log[..count],
+        message,
+        out,
+    );
     if !io::write_all(STDOUT_FILENO, &out[..end]) {
         os::fail(b"standard output");
         return false;
