@@ -1,1 +1,2 @@
 -- What `words` proves.
+pub mod Determined
