@@ -1,2 +1,3 @@
 -- What `planfile` proves.
 pub mod Ends
+pub mod Good

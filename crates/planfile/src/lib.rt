@@ -1,6 +1,9 @@
 // Plan files that a program's arguments name. What is wrong with one is said in a line on standard error.
+ghost use mathlib.Core.Path.{_≡_};
 ghost use Prim.Native.Nat.{_≤_};
 ghost use lib.ListN.{length};
+ghost use Rattle.plan.specs.Paper.{planNumber};
+ghost use Rattle.plan.specs.Coded.{planOf};
 ghost use Rattle.planfile.specs.Filled.{filled};
 use answer::Refusal;
 use libc::STDERR_FILENO;
@@ -55,7 +58,9 @@ fn say_words(refusal: Refusal) {
     io::write_all(STDERR_FILENO, &text[..end]);
 }
 
-fn none_taken() -> Taken {
+fn none_taken() -> Taken
+    ensures { λ r. ⌜ planNumber (planOf (r .plan)) ≡ 0 ⌝ }
+{
     Taken {
         good: false,
         plan: plan::empty_plan(),
@@ -63,7 +68,9 @@ fn none_taken() -> Taken {
 }
 
 // Takes the plan of a file's octets.
-fn take_octets(program: &[u8], about: &[u8], file: &[u8]) -> Taken {
+fn take_octets(program: &[u8], about: &[u8], file: &[u8]) -> Taken
+    ensures { λ r. ⌜ planNumber (planOf (r .plan)) ≡ 0 ⌝ }
+{
     let reading = plan::read_plan(file);
     let verdict = reading.verdict;
     let plan = reading.plan;
@@ -77,7 +84,9 @@ fn take_octets(program: &[u8], about: &[u8], file: &[u8]) -> Taken {
 }
 
 // Takes the plan of an open file. A plan file has at most 294 octets; one more is read, so that a longer file is seen to be long.
-fn take_open(program: &[u8], about: &[u8], fd: i32, path: &[u8]) -> Taken {
+fn take_open(program: &[u8], about: &[u8], fd: i32, path: &[u8]) -> Taken
+    ensures { λ r. ⌜ planNumber (planOf (r .plan)) ≡ 0 ⌝ }
+{
     let mut file = [0u8; 295];
     let got = fill(fd, &mut file);
     match got {
@@ -89,8 +98,10 @@ fn take_open(program: &[u8], about: &[u8], fd: i32, path: &[u8]) -> Taken {
     }
 }
 
-// Takes the plan of the file that argument i names.
-pub fn take(program: &[u8], about: &[u8], i: usize) -> Taken {
+// Takes the plan of the file that argument i names. Whatever the file holds, the plan is a good one.
+pub fn take(program: &[u8], about: &[u8], i: usize) -> Taken
+    ensures { λ r. ⌜ planNumber (planOf (r .plan)) ≡ 0 ⌝ }
+{
     let mut path = io::buffer();
     let length = os::arg(i, &mut path);
     if os::errno() != 0 {
