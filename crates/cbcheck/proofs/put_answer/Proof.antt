@@ -1,0 +1,24 @@
+-- `cbcheck::put_answer` meets its contract: only the number 7 has a line.
+use Prim.Native.Nat.{_%_}
+use native.Mathlib.Omega.{arith}
+use borrow.Author.Needs.{needs}
+use borrow.Author.Tests.{eq-eqb, ne-eqb}
+use denote.Ref.{now}
+use Rattle.lines.proofs.Behind.{puts-none}
+use Rattle.cbcheck.proofs.Said.{puts-wider}
+use Rattle.cbcheck.proofs.put_answer.Statement.{statement}
+use Rattle.cbcheck.proofs.put_answer.Tie as tie
+
+returns : tie.Need-returns
+returns c =
+    let a = c .before .before .before .args in
+    rw (ne-eqb (a .returned % 256) 7 (c .if1 .taken)) (puts-wider 143 (omega arith) (puts-none (a .at) (now (a .out))))
+
+returns-2 : tie.Need-returns-2
+returns-2 c =
+    let checked = c .before .before .before .before in
+    let a = checked .before .before .before .before .args in
+    rw (eq-eqb (a .returned % 256) 7 (checked .before .if1 .left), ← (checked .check-schedule .ensures)) (c .before .before .put-checking .ensures)
+
+pub put-answer-spec : {M : Type 1} → statement M
+put-answer-spec = tie.close (tie.spec returns (λ c. search needs) (λ c κs. search needs) (λ c κs. search needs) (λ c. search needs) returns-2)

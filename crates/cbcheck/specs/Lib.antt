@@ -1,0 +1,2 @@
+-- What `cbcheck` defines.
+pub mod Listing

@@ -1,0 +1,28 @@
+-- The cases of `composed`, by what the schedule writer answers.
+use mathlib.Core.Path.{_≡_, sym, ap, _∙_}
+use mathlib.Core.List.{List}
+use Prim.Native.Nat.{ℕ}
+use lib.ListN.{replicate}
+use borrow.Author.Tests.{ne-eqb}
+use Rattle.answer.specs.Number.{numberOf}
+use Rattle.answer.specs.declared.Refusal.{Refusal}
+use Rattle.answer.proofs.Inverse.{numberOf-positive}
+use Rattle.block.specs.Paper.{Left, schedule, written}
+use Rattle.plan.specs.Paper.{Plan}
+use Rattle.sender.specs.Paper.{Writing, write}
+use Rattle.sender.specs.Coded.{writingOf}
+use Rattle.sender.specs.declared.Writing.{Writing as Answer}
+use Rattle.sender.specs.declared.Writing.the-variants.{Written, Refused}
+use Rattle.cbwrite.specs.Paper.{sentBy, composed}
+
+module _ (c p : Plan) (b : ℕ) (o m : List ℕ) (answer : Answer) (wrote : writingOf answer m ≡ write c p b (replicate 88 0)) where
+  -- what the output is by a known answer
+  by : (known : Answer) → answer ≡ known → sentBy (writingOf known m) o ≡ composed c p b o
+  unfolding composed
+  by known told = ap (λ (w : Writing). sentBy w o) (ap (λ (a : Answer). writingOf a m) (sym told) ∙ wrote)
+
+  pub written-composed : (used : ℕ) → answer ≡ Written used → written m schedule used o ≡ composed c p b o
+  written-composed used told = by (Written used) told
+
+  pub refused-composed : (why : Refusal) → answer ≡ Refused why → record { number = numberOf why; output = o } ≡ composed c p b o
+  refused-composed why told = (rw (ne-eqb (numberOf why) 0 (numberOf-positive why)) at (by (Refused why) told))

@@ -1,0 +1,2 @@
+-- What `cbwrite` proves.
+pub mod Composed

@@ -1,0 +1,2 @@
+-- What `cbwrite` defines.
+pub mod Paper

@@ -1,0 +1,3 @@
+-- What `planfile` proves.
+pub mod Ends
+pub mod Good

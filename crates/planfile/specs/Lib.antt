@@ -1,0 +1,2 @@
+-- What `planfile` defines.
+pub mod Filled

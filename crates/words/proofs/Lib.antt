@@ -1,0 +1,2 @@
+-- What `words` proves.
+pub mod Determined

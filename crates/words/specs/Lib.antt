@@ -1,0 +1,2 @@
+-- What `words` defines.
+pub mod Words
