@@ -9,7 +9,7 @@ ghost use Rattle.schedule.specs.Parts.{Picks};
 use super::SLOTS;
 
 // Whether slot i, counted from 0, has its new bit set.
-pub fn is_new(message: &[u8], i: usize) -> bool
+pub(crate) fn is_new(message: &[u8], i: usize) -> bool
     requires { ⌜ (length (now message) ≡ 88) × (i < 48) ⌝ }
     ensures { λ r. ⌜ r ≡ newOf (now (message .entry)) i ⌝ }
 {
@@ -17,7 +17,7 @@ pub fn is_new(message: &[u8], i: usize) -> bool
 }
 
 // Whether the new bit of a slot past End is set.
-pub fn has_new_past(message: &[u8], end: usize) -> bool
+pub(crate) fn has_new_past(message: &[u8], end: usize) -> bool
     requires { ⌜ (length (now message) ≡ 88) × (end ≡ endOf (now message)) × (end ≤ 48) ⌝ }
     ensures { λ r. ⌜ r ≡ some (newPast (now (message .entry))) 48 ⌝ }
 {
@@ -32,7 +32,7 @@ pub fn has_new_past(message: &[u8], end: usize) -> bool
 }
 
 // The slot, counted from 0, whose description stands after the given number of others.
-pub fn slot_at(message: &[u8], end: usize, place: usize) -> usize
+pub(crate) fn slot_at(message: &[u8], end: usize, place: usize) -> usize
     requires { ⌜ (length (now message) ≡ 88) × (end ≡ endOf (now message)) × (end ≤ 48) × (place < end) ⌝ }
     ensures { λ r. ⌜ (r ≡ slotOf (now (message .entry)) place) × (r < end) ⌝ }
 {

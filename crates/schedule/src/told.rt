@@ -10,12 +10,12 @@ use super::Description;
 use super::Slot;
 
 // A description with the place after it, or one that passes the received octets.
-pub enum Step {
+pub(crate) enum Step {
     Took(Description, usize),
     Past,
 }
 
-pub fn step_at(message: &[u8], received: usize, at: usize) -> Step
+pub(crate) fn step_at(message: &[u8], received: usize, at: usize) -> Step
     requires { ⌜ (length (now message) ≡ 88) × (received ≤ 88) ⌝ }
     ensures { λ r. ⌜ steppedOf r ≡ step (now (message .entry)) received at ⌝ }
 {
@@ -59,7 +59,7 @@ fn is_first(description: Description) -> bool
 }
 
 // Whether a slot up to End repeats what is no first transmission in a slot below it.
-pub fn has_false_repeat(slots: [Slot; 48], end: usize) -> bool
+pub(crate) fn has_false_repeat(slots: [Slot; 48], end: usize) -> bool
     requires { ⌜ end ≤ 48 ⌝ }
     ensures { λ r. ⌜ r ≡ some (falseRepeat (tellsOf slots)) end ⌝ }
 {
