@@ -1,19 +1,41 @@
--- A plan that was read is good, and so is the empty one.
-use mathlib.Core.Path.{_≡_, ap, _∙_}
+-- A plan that was taken is good, and so is the empty one.
+use mathlib.Core.Path.{_≡_, sym, ap, _∙_}
+use mathlib.Core.Bool.{true, false}
 use mathlib.Core.List.{List, []}
 use Prim.Native.Nat.{ℕ}
-use Rattle.plan.specs.declared.Plan.{Plan as PlanCode}
+use lib.Dec.{eqb}
+use borrow.Author.Tests.{eq-eqb, ne-eqb}
+use Rattle.answer.specs.Number.{numberOf}
+use Rattle.answer.proofs.Inverse.{numberOf-positive}
+use Rattle.answer.specs.declared.Refusal.{Refusal}
 use Rattle.plan.specs.declared.Reading.{Reading}
-use Rattle.plan.specs.Paper.{Plan, Read, empty, planNumber, readPlan}
-use Rattle.plan.specs.Coded.{planOf, readingOf}
+use Rattle.plan.specs.declared.Verdict.the-variants as verdicts
+use Rattle.plan.specs.Paper.{Read, empty, planNumber, readPlan}
+use Rattle.plan.specs.Coded.{planOf, verdictOf, readingOf}
 use Rattle.plan.proofs.ReadGood.{read-is-good}
+use Rattle.planfile.specs.Taken.{Taken, taken, untaken}
 
-empty-good : planNumber empty ≡ 0
-unfolding readPlan
-empty-good = read-is-good []
+module _ (t : Taken) where
+  pub untaken-good : t ≡ untaken → planNumber (t .plan) ≡ 0
+  unfolding readPlan
+  untaken-good e = ap (λ (x : Taken). planNumber (x .plan)) e ∙ read-is-good []
 
-pub none-good : (p : PlanCode) → planOf p ≡ empty → planNumber (planOf p) ≡ 0
-none-good p e = ap planNumber e ∙ empty-good
+  pub taken-good : (f : List ℕ) → t ≡ taken f → planNumber (t .plan) ≡ 0
+  unfolding taken
+  taken-good f e = ap (λ (x : Taken). planNumber (x .plan)) e ∙ read-is-good f
 
-pub read-good : (f : List ℕ) (r : Reading) → readingOf r ≡ readPlan f → planNumber (planOf (r .plan)) ≡ 0
-read-good f r e = ap (λ (x : Read). planNumber (x .plan)) e ∙ read-is-good f
+module _ (f : List ℕ) (r : Reading) (e : readingOf r ≡ readPlan f) where
+  number : verdictOf (r .verdict) ≡ readPlan f .number
+  number = ap (λ (x : Read). x .number) e
+
+  pub takes-good : r .verdict ≡ verdicts.Good → record { good = true; plan = planOf (r .plan) } ≡ taken f
+  unfolding taken
+  takes-good v =
+      rw (eq-eqb (readPlan f .number) 0 (sym number ∙ ap verdictOf v))
+      (ap (λ (p : _). record { good = true; plan = p }) (ap (λ (x : Read). x .plan) e))
+
+  pub takes-refused : (why : Refusal) → r .verdict ≡ verdicts.Refused why → record { good = false; plan = planOf (r .plan) } ≡ taken f
+  unfolding taken
+  takes-refused why v =
+      rw (ne-eqb (readPlan f .number) 0 (λ z. numberOf-positive why (sym (ap verdictOf v) ∙ number ∙ z)))
+      (ap (λ (p : _). record { good = false; plan = p }) (ap (λ (x : Read). x .plan) e))

@@ -1,2 +1,3 @@
 -- What `planfile` defines.
 pub mod Filled
+pub mod Taken

@@ -5,6 +5,7 @@ ghost use lib.ListN.{length};
 ghost use Rattle.plan.specs.Paper.{planNumber};
 ghost use Rattle.plan.specs.Coded.{planOf};
 ghost use Rattle.planfile.specs.Filled.{filled};
+ghost use Rattle.planfile.specs.Taken.{takenOf, taken, untaken};
 use answer::Refusal;
 use libc::STDERR_FILENO;
 use plan::Plan;
@@ -59,7 +60,7 @@ fn say_words(refusal: Refusal) {
 }
 
 fn none_taken() -> Taken
-    ensures { λ r. ⌜ planNumber (planOf (r .plan)) ≡ 0 ⌝ }
+    ensures { λ r. ⌜ takenOf r ≡ untaken ⌝ }
 {
     Taken {
         good: false,
@@ -69,7 +70,7 @@ fn none_taken() -> Taken
 
 // Takes the plan of a file's octets.
 fn take_octets(program: &[u8], about: &[u8], file: &[u8]) -> Taken
-    ensures { λ r. ⌜ planNumber (planOf (r .plan)) ≡ 0 ⌝ }
+    ensures { λ r. ⌜ takenOf r ≡ taken (now (file .entry)) ⌝ }
 {
     let reading = plan::read_plan(file);
     let verdict = reading.verdict;

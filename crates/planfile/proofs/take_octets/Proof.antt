@@ -1,6 +1,6 @@
--- `planfile::take_octets` meets its contract: what is read is a good plan.
+-- `planfile::take_octets` meets its contract: good and the plan are what reading the file gives.
 use borrow.Author.Needs.{needs}
-use Rattle.planfile.proofs.Good.{read-good}
+use Rattle.planfile.proofs.Good.{takes-good, takes-refused}
 use Rattle.planfile.proofs.take_octets.Statement.{statement}
 use Rattle.planfile.proofs.take_octets.Tie as tie
 
@@ -17,10 +17,10 @@ say-refused-requires : tie.Need-say-refused-requires
 say-refused-requires c κs = search needs
 
 returns : tie.Need-returns
-returns c = let r = c .before .before .before .read-plan in read-good _ (r .result) (r .ensures)
+returns c = let r = c .before .before .before .read-plan in takes-good _ (r .result) (r .ensures) (c .enum-told .given .1)
 
 returns-2 : tie.Need-returns-2
-returns-2 c = let r = c .before .before .before .before .before .read-plan in read-good _ (r .result) (r .ensures)
+returns-2 c = let r = c .before .before .before .before .before .read-plan in takes-refused _ (r .result) (r .ensures) _ (c .before .before .verdict .given .1)
 
 pub take-octets-spec : {M : Type 1} → statement M
 take-octets-spec =

@@ -1,4 +1,4 @@
--- `planfile::take_open` is safe: what was read lies in the memory for it.
+-- `planfile::take_open` meets its contract, and what was read lies in the memory for it.
 use mathlib.Core.Path.{_≡_, sym, ap, _∙_}
 use Prim.Native.Nat.{ℕ, _≤_}
 use native.Mathlib.Omega.{arith}
@@ -6,6 +6,8 @@ use lib.ListN.{length, replicate, length-replicate}
 use lib.Seq.{length-take-le}
 use borrow.Author.Needs.{needs}
 use Rattle.planfile.specs.Filled.{filled}
+use Rattle.planfile.specs.Taken.{takenOf}
+use Rattle.planfile.proofs.Good.{untaken-good, taken-good}
 use Rattle.planfile.proofs.take_open.Statement.{statement}
 use Rattle.planfile.proofs.take_open.Tie as tie
 
@@ -38,5 +40,5 @@ take-open-spec =
     (λ c. search needs)
     (λ c κs. search needs)
     (λ c κs. search needs)
-    (λ c. search needs)
-    (λ c. search needs))
+    (λ c. taken-good (takenOf (c .take-octets .result)) _ (c .take-octets .ensures))
+    (λ c. untaken-good (takenOf (c .none-taken .result)) (c .none-taken .ensures)))
