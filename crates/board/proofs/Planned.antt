@@ -9,7 +9,7 @@ use Rattle.schedule.specs.Paper.{first, again, optional, advised, tells, shown}
 use Rattle.plan.specs.Paper.{Plan, entryAt, lowestAt, low15At}
 use Rattle.plan.proofs.Lowest.{leading}
 use Rattle.checker.specs.Truthful.{TrueAt, Truthful}
-use Rattle.checker.proofs.GoodPlan.{kind-few}
+use Rattle.plan.proofs.GoodPlan.{kind-few}
 
 -- a slot by its plan, with what may be told of it
 pub data Planned (c : Plan) (m : List ℕ) (i : ℕ) : Type 0 where

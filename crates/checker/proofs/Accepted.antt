@@ -18,7 +18,7 @@ use Rattle.plan.specs.Paper.{Plan, planNumber}
 use Rattle.checker.specs.Paper.{Checked, unchecked, untrueAt, untrue, isTrue, verdict, faults, check}
 use Rattle.checker.specs.Truthful.{Truthful, Names, end-differs, slot-untrue, AcceptedExactly, NeverObeyed}
 use Rattle.checker.proofs.Answers.{good-compared, all-true}
-use Rattle.checker.proofs.GoodPlan.{plan-low}
+use Rattle.plan.proofs.GoodPlan.{plan-low}
 use Rattle.checker.proofs.TrueAt.{true-keeps, keeps-true}
 
 read-low : (m : List ℕ) (received n : ℕ) → Among n (readFaults m received) → n < 40

@@ -3,6 +3,5 @@ pub mod Accepted
 pub mod Answers
 pub mod Comparing
 pub mod Determined
-pub mod GoodPlan
 pub mod Telling
 pub mod TrueAt

@@ -13,7 +13,7 @@ use Rattle.plan.specs.Paper.{Plan, planNumber, entryAt, lowestAt, low15At}
 use Rattle.plan.proofs.Lowest.{leading}
 use Rattle.checker.specs.Paper.{leads, repeats, mayTell, newFor, isTrue}
 use Rattle.checker.specs.Truthful.{TrueAt}
-use Rattle.checker.proofs.GoodPlan.{kind-few}
+use Rattle.plan.proofs.GoodPlan.{kind-few}
 
 beq-true : (a b : Bool) → Bool·beq a b ≡ true → a ≡ b
 beq-true true true e = refl

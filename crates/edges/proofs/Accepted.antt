@@ -15,6 +15,7 @@ use Rattle.laws.proofs.Ruled.{ruled-map, none-holds, ruled-none, unless0-number
 use Rattle.laws.proofs.Tests.{both}
 use Rattle.laws.proofs.Upto.{some-none}
 use Rattle.plan.specs.Paper.{Plan, planNumber}
+use Rattle.plan.proofs.GoodPlan.{good-counted}
 use Rattle.schedule.specs.Paper.{Shown, shown, end, tells, new, falseIn, falseRepeat, newPast, Read, unread, good, read}
 use Rattle.schedule.specs.Paper as schedule
 use Rattle.sender.specs.Paper.{planned, descriptions, messageOf, Writing, unwritten, message, write}
@@ -25,7 +26,7 @@ use Rattle.block.specs.Paper.{lastUsed}
 use Rattle.edges.specs.ReadsBack.{Fits, Reads}
 use Rattle.edges.specs.Accepted.{OursAccepted}
 use Rattle.edges.proofs.ReadsBack.{reads-back}
-use Rattle.edges.proofs.Planned.{few, planned-tellable, planned-true, planned-repeats}
+use Rattle.edges.proofs.Planned.{planned-tellable, planned-true, planned-repeats}
 
 -- no test of the writer's order held
 pub record Written (c p : Plan) (b : ℕ) (o : List ℕ) : Type 0 where
@@ -53,7 +54,7 @@ written c p b o z =
           record {
             some = leb-true 1 b (between .0);
             begins = leb-true b (c .count) (between .1);
-            few = few c current;
+            few = good-counted c current;
             tellable = λ i l. planned-tellable c current i l;
             short = ltb-false 80 (length (descriptions (planned c p) (c .count))) (h .1 .1 .1 .1 .1 .0);
           };

@@ -12,36 +12,14 @@ use Rattle.laws.specs.Search.{some}
 use Rattle.laws.proofs.Ruled.{none-holds}
 use Rattle.laws.proofs.Search.{some-found}
 use Rattle.plan.specs.Paper.{Entry, Plan, free, within, bad, planNumber, hasPage, entryAt, pageAt, lowestAt, low15At}
+use Rattle.plan.proofs.GoodPlan.{good-counted, kind-few}
 use Rattle.plan.proofs.Lowest.{Leading, leading}
 use Rattle.schedule.specs.Paper.{Told, first, again, optional, advised, isFirst, falseIn}
 use Rattle.sender.specs.Paper.{plannedAt, newAt, planned}
 use Rattle.checker.specs.Paper.{isTrue}
 use Rattle.edges.specs.ReadsBack.{Tellable}
 
--- a good plan has at most 48 slots, of no kind but 0, 1 and 2
 module _ (c : Plan) (good : planNumber c ≡ 0) where
-  none : (ltb 48 (c .count) ≡ false) × (some bad (within c) ≡ false)
-  unfolding planNumber
-  none =
-      let h = none-holds ((ltb 48 (c .count), 32) ∷ (some bad (within c), 33) ∷ []) 0 ((λ t e. omega arith), ((λ t e. omega arith), tt)) good in
-      (h .0, h .1 .0)
-
-  pub few : c .count ≤ 48
-  few = ltb-false 48 (c .count) (none .0)
-
-  kind-small : (i : ℕ) → i < c .count → entryAt c i .kind ≤ 2
-  unfolding bad
-  kind-small i l = go (ltb 2 (entryAt c i .kind)) refl
-    where
-      go : (b : Bool) → ltb 2 (entryAt c i .kind) ≡ b → entryAt c i .kind ≤ 2
-      go false e = ltb-false 2 (entryAt c i .kind) e
-      go true e =
-          let high = ltb-true 2 (entryAt c i .kind) e in
-          let inside : i < length (c .entries) =
-          by-contra (suc i) (length (c .entries))
-          (λ far. let free-kind : entryAt c i .kind ≡ 0 = ap (λ (x : Entry). x .kind) (List·getD-eq-default (c .entries) free (omega arith)) in omega arith) in
-          absurd (false≢true (sym (none .1) ∙ some-found bad free (c .count) (c .entries) i l inside (rw e)))
-
   module _ (i : ℕ) (l : i < c .count) where
     abbrev kind : ℕ
     kind = entryAt c i .kind
@@ -52,7 +30,7 @@ module _ (c : Plan) (good : planNumber c ≡ 0) where
       where
         go : (a b d : Bool) → eqb kind 2 ≡ a → Tellable (cond a (cond b (first (low15At c i)) (again (lowestAt c i))) (cond d advised optional))
         go true true d e = mod-lt (entryAt c i .id) (omega arith)
-        go true false d e = let h = leading c i l (eqb-true kind 2 e) in omega (arith, few)
+        go true false d e = let h = leading c i l (eqb-true kind 2 e) in omega (arith, good-counted c good)
         go false b true e = tt
         go false b false e = tt
 
@@ -69,7 +47,7 @@ module _ (c : Plan) (good : planNumber c ≡ 0) where
         go true false d e f g = simp (e, f, eq-eqb (lowestAt c i) (lowestAt c i) refl) (beq-own (not (hasPage p (pageAt c i))))
         go false b true e f g = rw (e, g, eqb-true kind 1 g)
         go false b false e f g =
-            let zero-kind : kind ≡ 0 = omega (arith, kind-small i l, eqb-false kind 2 e, eqb-false kind 1 g) in
+            let zero-kind : kind ≡ 0 = omega (arith, kind-few c good i l, eqb-false kind 2 e, eqb-false kind 1 g) in
             rw (e, g, zero-kind)
 
     -- the lowest slot of a page is told as a first transmission

@@ -3,6 +3,7 @@ pub mod Answers
 pub mod Determined
 pub mod Entries
 pub mod FileBack
+pub mod GoodPlan
 pub mod Lowest
 pub mod ReadGood
 pub mod Slots

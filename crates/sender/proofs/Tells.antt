@@ -60,15 +60,6 @@ lowest-counted c x = go (lowest-slot c x)
     go (absent e none) = omega arith
     go (lowest k e own none) = omega (arith, own .inside, length-take (c .count) (c .entries))
 
--- a good plan has no more than 48 slots
-pub good-counted : (c : Plan) → planNumber c ≡ 0 → c .count ≤ 48
-unfolding planNumber
-good-counted c e = go (ltb 48 (c .count)) refl e
-  where
-    go : (b : Bool) → ltb 48 (c .count) ≡ b → _≡_ {A = ℕ} (cond b 32 (cond (some bad (within c)) 33 0)) 0 → c .count ≤ 48
-    go true q h = absurd (omega arith)
-    go false q h = ltb-false 48 (c .count) q
-
 -- what is told as planned has 15 bits where it is a first transmission
 pub planned-low : (c p : Plan) (n : ℕ) → AllLow (planned c p) n
 unfolding plannedAt

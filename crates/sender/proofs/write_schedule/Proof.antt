@@ -17,7 +17,8 @@ use Rattle.sender.specs.Paper.{planned, descriptions, messageOf}
 use Rattle.sender.specs.Coded.{shownIn}
 use Rattle.sender.proofs.Agree.{low-agree, descriptions-agree, message-agree}
 use Rattle.sender.proofs.Cases.{write-15, write-current, write-previous, write-35, write-21, write-34, write-0}
-use Rattle.sender.proofs.Tells.{good-counted, planned-low}
+use Rattle.plan.proofs.GoodPlan.{good-counted}
+use Rattle.sender.proofs.Tells.{planned-low}
 use borrow.Author.Needs.{needs}
 use Rattle.sender.proofs.write_schedule.Statement.{statement}
 use Rattle.sender.proofs.write_schedule.Tie as tie

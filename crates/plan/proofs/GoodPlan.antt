@@ -3,23 +3,23 @@ use mathlib.Core.Path.{_≡_, sym, ap, _∙_}
 use mathlib.Core.Bool.{true, false, false≢true}
 use mathlib.Core.List.{[], _∷_}
 use mathlib.Core.Logic.{inl, inr}
-use Prim.Native.Nat.{ℕ, suc, _<_}
+use Prim.Native.Nat.{ℕ, suc, _≤_, _<_}
 use native.Mathlib.Omega.{arith, by-contra}
 use lib.Dec.{ltb}
 use lib.ListN.{length, List·getD-eq-default}
-use borrow.Author.Tests.{lt-ltb}
+use borrow.Author.Tests.{lt-ltb, ltb-false}
 use Rattle.laws.specs.Search.{some}
 use Rattle.laws.proofs.Search.{some-found}
 use Rattle.laws.proofs.Ruled.{Ruling, refuses, passes, ruling}
 use Rattle.plan.specs.Paper.{Entry, Plan, free, within, bad, planNumber, entryAt}
 
 over-bad : (e : Entry) → 2 < e .kind → bad e ≡ true
 unfolding bad
 over-bad e h = simp (lt-ltb 2 (e .kind) h)
 
--- a plan's number is 0 and none of its entries within the count is bad, or 32 or 33
+-- a plan's number is 0, its count is up to 48 and none of its entries within the count is bad; or 32 or 33
 data Numbered (c : Plan) (n : ℕ) : Type 0 where
-  good : n ≡ 0 → some bad (within c) ≡ false → Numbered c n
+  good : n ≡ 0 → c .count ≤ 48 → some bad (within c) ≡ false → Numbered c n
   refused : 0 < n → n < 40 → Numbered c n
 
 numbered : (c : Plan) → Numbered c (planNumber c)
@@ -30,14 +30,14 @@ numbered c = go (ruling (λ (n : ℕ). n) ((ltb 48 (c .count), 32) ∷ (some bad
     go (refuses n (inl a) e) = refused (omega arith) (omega arith)
     go (refuses n (inr (inl a)) e) = refused (omega arith) (omega arith)
     go (refuses n (inr (inr a)) e) = absurd a
-    go (passes h e) = good e (h .1 .0)
+    go (passes h e) = good e (ltb-false 48 (c .count) (h .0)) (h .1 .0)
 
 -- a plan has no number as high as 40
 pub plan-low : (c : Plan) → planNumber c < 40
 plan-low c = go (numbered c)
   where
     go : {n : ℕ} → Numbered c n → n < 40
-    go (good z none) = omega arith
+    go (good z few none) = omega arith
     go (refused some low) = low
 
 module _ (c : Plan) (g : planNumber c ≡ 0) where
@@ -45,7 +45,15 @@ module _ (c : Plan) (g : planNumber c ≡ 0) where
   none-bad = go g (numbered c)
     where
       go : {n : ℕ} → n ≡ 0 → Numbered c n → some bad (within c) ≡ false
-      go z (good e none) = none
+      go z (good e few none) = none
+      go z (refused l low) = absurd (omega arith)
+
+  -- a good plan has no more than 48 slots
+  pub good-counted : c .count ≤ 48
+  good-counted = go g (numbered c)
+    where
+      go : {n : ℕ} → n ≡ 0 → Numbered c n → c .count ≤ 48
+      go z (good e few none) = few
       go z (refused l low) = absurd (omega arith)
 
   -- a kind within the count of a good plan is 0, 1 or 2
