@@ -56,7 +56,7 @@ static void make_plan(uint64_t *row, uint8_t pages[POOL][ENTRY], unsigned differ
 }
 
 /* The plans that are timed: two slots in three have a page of their own, each third repeats one before it. */
-static void make_timed(uint64_t *row, int at)
+static void make_timed(uint64_t *row, int at, bool counting_plain)
 {
     uint8_t pages[POOL][ENTRY];
     unsigned given = 0;
@@ -70,8 +70,9 @@ static void make_timed(uint64_t *row, int at)
         if (i % 2 == 0)
             memcpy(previous[at] + 6 + ENTRY * (i / 2), page, ENTRY);
     }
-    plain_write_schedule(currents[at], 6 + ENTRY * slots, previous[at], 6 + ENTRY * (slots / 2), 1,
-                         messages[at], CB_OUTPUT);
+    /* never by the writer that is counted */
+    (counting_plain ? cb_write_schedule : plain_write_schedule)(currents[at], 6 + ENTRY * slots, previous[at],
+                                                                6 + ENTRY * (slots / 2), 1, messages[at], CB_OUTPUT);
     for (unsigned i = 0; i < WANTED; i++)
         wanted[at][i] = (uint16_t)draw(row);
     const uint8_t *last = currents[at] + 6 + ENTRY * (slots - 1);
@@ -203,6 +204,7 @@ static enum job job_named(const char *name)
 int main(int argc, char **argv)
 {
     uint64_t row = 1;
+    bool counting_plain = argc >= 4 && strcmp(argv[3], "plain") == 0;
 
     if (argc == 5)
         slots = (unsigned)strtoul(argv[4], NULL, 10);
@@ -211,7 +213,7 @@ int main(int argc, char **argv)
         return 2;
     }
     for (int i = 0; i < INPUTS; i++)
-        make_timed(&row, i);
+        make_timed(&row, i, counting_plain);
     if (argc == 2 && strcmp(argv[1], "check") == 0)
         return check();
     if (argc == 3 && strcmp(argv[1], "time") == 0)
