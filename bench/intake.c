@@ -5,16 +5,14 @@
  *   intake time               prints nanoseconds a call, Rattle and plain C, and their ratio
  *   intake pass rattle|plain  goes once over the blocks and prints how many, for a counter of instructions
  */
-#define _POSIX_C_SOURCE 199309L
-
 #include <stdbool.h>
 #include <stdio.h>
 #include <stdlib.h>
 #include <string.h>
-#include <time.h>
 
 #include "blocks.h"
 #include "csobvarit.h"
+#include "measure.h"
 #include "plain.h"
 
 typedef uint32_t intake_call(uint8_t *, size_t, const uint8_t *, size_t, uint8_t *, size_t);
@@ -24,16 +22,13 @@ enum { BLOCKS = 1 << 16 };           /* 1.5 MB: past the first cache, and too ma
 enum { ROUNDS = 101 };               /* of each, in turn */
 enum { ROOM = 128 };                 /* what is lent lies in more, so that a write past its end is seen */
 
+static uint8_t blocks[BLOCKS * BLOCK_OCTETS];
+
 /* All that a call can reach. */
 struct lent {
     uint8_t state[ROOM], piece[ROOM], output[ROOM];
     size_t state_len, piece_len, output_len;
 };
-
-static bool one_in(uint64_t *row, unsigned n)
-{
-    return draw(row) % n == 0;
-}
 
 static void make_state(uint8_t *state, uint64_t *row)
 {
@@ -85,7 +80,7 @@ static uint32_t run_call(intake_call *intake, struct lent *call)
     return intake(call->state, call->state_len, call->piece, call->piece_len, call->output, call->output_len);
 }
 
-static void differ(const char *what, unsigned long at, uint32_t rattle, uint32_t plain)
+static void calls_differ(const char *what, unsigned long at, uint32_t rattle, uint32_t plain)
 {
     fprintf(stderr, "intake: %s %lu differs: Rattle %lu, plain C %lu%s\n", what, at, (unsigned long)rattle,
             (unsigned long)plain, rattle == plain ? ", with other memory" : "");
@@ -106,7 +101,7 @@ static int check(void)
         uint32_t a = cb_start(rattle.state, length);
         uint32_t b = plain_start(plain.state, length);
         if (a != b || memcmp(&rattle, &plain, sizeof plain) != 0)
-            differ("a start at length", length, a, b);
+            calls_differ("a start at length", length, a, b);
     }
     for (unsigned long i = 0; i < CALLS; i++) {
         make_call(&rattle, &row);
@@ -114,71 +109,39 @@ static int check(void)
         uint32_t a = run_call(cb_intake, &rattle);
         uint32_t b = run_call(plain_intake, &plain);
         if (a != b || memcmp(&rattle, &plain, sizeof plain) != 0)
-            differ("call", i, a, b);
+            calls_differ("call", i, a, b);
         seen[CB_ANSWER(a)]++;
     }
-    for (size_t i = 0; i < sizeof answers; i++) {
-        if (seen[answers[i]] == 0) {
-            fprintf(stderr, "intake: no call was answered %d\n", answers[i]);
-            return 1;
-        }
-    }
+    if (!all_seen("intake", seen, answers, sizeof answers))
+        return 1;
     printf("intake: the same in %d calls, every answer among them\n", CALLS);
     return 0;
 }
 
-static void pass(intake_call *intake, const uint8_t *blocks)
+/* There is one job, whatever its number. */
+static void pass(int job, bool rattle)
 {
+    intake_call *intake = rattle ? cb_intake : plain_intake;
     uint8_t state[CB_STATE];
     uint8_t output[CB_OUTPUT];
 
+    (void)job;
     plain_start(state, sizeof state);
     for (size_t i = 0; i < BLOCKS; i++)
         intake(state, sizeof state, blocks + BLOCK_OCTETS * i, BLOCK_OCTETS, output, sizeof output);
 }
 
-/* Time of the processor, so that other programs' turns aren't counted. */
-static double timed_pass(intake_call *intake, const uint8_t *blocks)
-{
-    struct timespec from, to;
-
-    clock_gettime(CLOCK_PROCESS_CPUTIME_ID, &from);
-    pass(intake, blocks);
-    clock_gettime(CLOCK_PROCESS_CPUTIME_ID, &to);
-    return ((double)(to.tv_sec - from.tv_sec) * 1e9 + (double)(to.tv_nsec - from.tv_nsec)) / BLOCKS;
-}
-
-/* The least of all rounds is the one that was disturbed least. */
-static void time_both(const uint8_t *blocks)
-{
-    double rattle = 1e9;
-    double plain = 1e9;
-
-    for (int i = 0; i < ROUNDS; i++) {
-        double a = timed_pass(cb_intake, blocks);
-        double b = timed_pass(plain_intake, blocks);
-        if (a < rattle)
-            rattle = a;
-        if (b < plain)
-            plain = b;
-    }
-    printf("%.1f %.1f %.2f\n", rattle, plain, rattle / plain);
-}
-
 int main(int argc, char **argv)
 {
-    static uint8_t blocks[BLOCKS * BLOCK_OCTETS];
     const char *task = argc > 1 ? argv[1] : "";
 
     make_blocks(blocks, BLOCKS);
     if (strcmp(task, "check") == 0)
         return check();
-    if (strcmp(task, "time") == 0) {
-        time_both(blocks);
-        return 0;
-    }
+    if (strcmp(task, "time") == 0)
+        return time_both(pass, 0, BLOCKS, ROUNDS);
     if (strcmp(task, "pass") == 0 && argc == 3) {
-        pass(strcmp(argv[2], "rattle") == 0 ? cb_intake : plain_intake, blocks);
+        pass(0, strcmp(argv[2], "rattle") == 0);
         printf("%d\n", BLOCKS);
         return 0;
     }

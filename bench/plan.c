@@ -9,15 +9,13 @@
  * different, beside a previous plan with half of them; the messages that are written from these; and decisions for a slot
  * with a repeat that isn't held, of a page that is the last of 64 wanted ones.
  */
-#define _POSIX_C_SOURCE 199309L
-
 #include <stdio.h>
 #include <stdlib.h>
 #include <string.h>
-#include <time.h>
 
 #include "blocks.h"
 #include "csobvarit.h"
+#include "measure.h"
 #include "plain_plan.h"
 
 enum { CALLS = 200000, INPUTS = 512, ROUNDS = 51, SLOTS = 48, ENTRY = 6, WANTED = 64, POOL = 96 };
@@ -27,11 +25,6 @@ enum job { WRITE_SCHEDULE, CHECK_SCHEDULE, DECIDE };
 static unsigned slots = SLOTS;
 static uint8_t currents[INPUTS][CB_PLAN], previous[INPUTS][CB_PLAN], messages[INPUTS][CB_OUTPUT];
 static uint16_t wanted[INPUTS][WANTED];
-
-static bool one_in(uint64_t *row, unsigned n)
-{
-    return draw(row) % n == 0;
-}
 
 static void make_pages(uint64_t *row, uint8_t pages[POOL][ENTRY])
 {
@@ -63,7 +56,7 @@ static void make_plan(uint64_t *row, uint8_t pages[POOL][ENTRY], unsigned differ
 }
 
 /* The plans that are timed: two slots in three have a page of their own, each third repeats one before it. */
-static void make_timed(uint64_t *row, int at)
+static void make_timed(uint64_t *row, int at, bool counting_plain)
 {
     uint8_t pages[POOL][ENTRY];
     unsigned given = 0;
@@ -77,8 +70,9 @@ static void make_timed(uint64_t *row, int at)
         if (i % 2 == 0)
             memcpy(previous[at] + 6 + ENTRY * (i / 2), page, ENTRY);
     }
-    plain_write_schedule(currents[at], 6 + ENTRY * slots, previous[at], 6 + ENTRY * (slots / 2), 1,
-                         messages[at], CB_OUTPUT);
+    /* never by the writer that is counted */
+    (counting_plain ? cb_write_schedule : plain_write_schedule)(currents[at], 6 + ENTRY * slots, previous[at],
+                                                                6 + ENTRY * (slots / 2), 1, messages[at], CB_OUTPUT);
     for (unsigned i = 0; i < WANTED; i++)
         wanted[at][i] = (uint16_t)draw(row);
     const uint8_t *last = currents[at] + 6 + ENTRY * (slots - 1);
@@ -109,12 +103,6 @@ static void damage_message(uint64_t *row, uint8_t *message)
         message[draw(row) % CB_OUTPUT] ^= (uint8_t)(1 << draw(row) % 8);
 }
 
-static void differ(const char *what, int at)
-{
-    fprintf(stderr, "plan: %s %d differs\n", what, at);
-    abort();
-}
-
 static void check_decision(uint64_t *row, int at, const uint8_t *message, size_t length, size_t received,
                            const uint8_t *plan, unsigned long *seen)
 {
@@ -130,7 +118,7 @@ static void check_decision(uint64_t *row, int at, const uint8_t *message, size_t
     }
     uint32_t a = cb_decide(known, message, length, received, slot, list, count, held);
     if (a != plain_decide(known, message, length, received, slot, list, count, held))
-        differ("decision", at);
+        differ("plan", "decision", at);
     seen[CB_NUMBER(a)]++;
 }
 
@@ -157,12 +145,12 @@ static void check_call(uint64_t *row, int at, unsigned long *seen)
     uint32_t a = cb_write_schedule(current, length, before, length_before, begin, rattle, room);
     uint32_t b = plain_write_schedule(current, length, before, length_before, begin, plain, room);
     if (a != b || memcmp(rattle, plain, sizeof plain) != 0)
-        differ("writing", at);
+        differ("plan", "writing", at);
     seen[CB_NUMBER(a)]++;
     damage_message(row, message);
     a = cb_check_schedule(current, length, before, length_before, message, message_length, received);
     if (a != plain_check_schedule(current, length, before, length_before, message, message_length, received))
-        differ("checking", at);
+        differ("plan", "checking", at);
     seen[CB_NUMBER(a)]++;
     check_decision(row, at, message, message_length, received, current, seen);
 }
@@ -183,10 +171,10 @@ static void call(enum job job, bool rattle, int i)
         returned = (rattle ? cb_decide : plain_decide)(true, messages[i], CB_OUTPUT, CB_OUTPUT, slots,
                                                        wanted[i], WANTED, 0);
     if (CB_NUMBER(returned) != 0 || (job == DECIDE && CB_COUNT(returned) != 1))
-        differ("timed input", i);
+        differ("plan", "timed input", i);
 }
 
-static void pass(enum job job, bool rattle)
+static void pass(int job, bool rattle)
 {
     for (int i = 0; i < INPUTS; i++)
         call(job, rattle, i);
@@ -200,38 +188,9 @@ static int check(void)
 
     for (int i = 0; i < CALLS; i++)
         check_call(&row, i, seen);
-    for (size_t i = 0; i < sizeof answers; i++) {
-        if (seen[answers[i]] == 0) {
-            fprintf(stderr, "plan: no call was answered %d\n", answers[i]);
-            return 1;
-        }
-    }
+    if (!all_seen("plan", seen, answers, sizeof answers))
+        return 1;
     printf("plan: the same in %d calls, every answer among them\n", 3 * CALLS);
-    return 0;
-}
-
-static double timed_pass(enum job job, bool rattle)
-{
-    struct timespec from, to;
-
-    clock_gettime(CLOCK_PROCESS_CPUTIME_ID, &from);
-    pass(job, rattle);
-    clock_gettime(CLOCK_PROCESS_CPUTIME_ID, &to);
-    return ((double)(to.tv_sec - from.tv_sec) * 1e9 + (double)(to.tv_nsec - from.tv_nsec)) / INPUTS;
-}
-
-static int time_both(enum job job)
-{
-    double least[2] = {1e9, 1e9};
-
-    for (int i = 0; i < ROUNDS; i++) {
-        for (int plain = 0; plain < 2; plain++) {
-            double t = timed_pass(job, !plain);
-            if (t < least[plain])
-                least[plain] = t;
-        }
-    }
-    printf("%.1f %.1f %.2f\n", least[0], least[1], least[0] / least[1]);
     return 0;
 }
 
@@ -245,6 +204,7 @@ static enum job job_named(const char *name)
 int main(int argc, char **argv)
 {
     uint64_t row = 1;
+    bool counting_plain = argc >= 4 && strcmp(argv[3], "plain") == 0;
 
     if (argc == 5)
         slots = (unsigned)strtoul(argv[4], NULL, 10);
@@ -253,11 +213,11 @@ int main(int argc, char **argv)
         return 2;
     }
     for (int i = 0; i < INPUTS; i++)
-        make_timed(&row, i);
+        make_timed(&row, i, counting_plain);
     if (argc == 2 && strcmp(argv[1], "check") == 0)
         return check();
     if (argc == 3 && strcmp(argv[1], "time") == 0)
-        return time_both(job_named(argv[2]));
+        return time_both(pass, job_named(argv[2]), INPUTS, ROUNDS);
     if (argc >= 4 && strcmp(argv[1], "pass") == 0) {
         pass(job_named(argv[2]), strcmp(argv[3], "rattle") == 0);
         printf("%d\n", INPUTS);

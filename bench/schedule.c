@@ -10,16 +10,13 @@
  * What is timed are messages of 39 slots with all 88 octets received. cb_read_schedule reads every slot of the message
  * on its way to Begin and End; cb_description does that too, and then gives one slot.
  */
-#define _POSIX_C_SOURCE 199309L
-
 #include <stdbool.h>
 #include <stdio.h>
-#include <stdlib.h>
 #include <string.h>
-#include <time.h>
 
 #include "blocks.h"
 #include "csobvarit.h"
+#include "measure.h"
 #include "plain_schedule.h"
 
 typedef uint32_t reader(const uint8_t *, size_t, size_t);
@@ -28,11 +25,6 @@ typedef uint64_t describer(const uint8_t *, size_t, size_t, size_t);
 enum { CALLS = 1000000, MESSAGES = 4096, SLOTS = 48, TIMED_SLOTS = 39, ROUNDS = 51, ROOM = 112 };
 
 static uint8_t messages[MESSAGES][CB_OUTPUT];
-
-static bool one_in(uint64_t *row, unsigned n)
-{
-    return draw(row) % n == 0;
-}
 
 /* The octets of a slot's description, which are two only where there is room: how many. */
 static size_t describe(uint64_t *row, unsigned slot, const bool *first, bool room, uint8_t *octets)
@@ -94,12 +86,6 @@ static void damage(uint64_t *row, uint8_t *message)
         message[2 + draw(row) % 6] ^= (uint8_t)(1 << draw(row) % 8);
 }
 
-static void differ(const char *what, int at)
-{
-    fprintf(stderr, "schedule: %s %d differs\n", what, at);
-    abort();
-}
-
 /* Every place of one message in sixteen, and one place of the others. */
 static void check_descriptions(uint64_t *row, int at, const uint8_t *message, size_t length, size_t received)
 {
@@ -108,7 +94,7 @@ static void check_descriptions(uint64_t *row, int at, const uint8_t *message, si
     for (size_t i = 0; i < (all ? 50 : 1); i++) {
         size_t place = all ? i : draw(row) % 50;
         if (cb_description(message, length, received, place) != plain_description(message, length, received, place))
-            differ("a description of message", at);
+            differ("schedule", "a description of message", at);
     }
 }
 
@@ -118,11 +104,11 @@ static void check_timed(void)
     for (int i = 0; i < MESSAGES; i++) {
         uint32_t a = cb_read_schedule(messages[i], CB_OUTPUT, CB_OUTPUT);
         if (a != plain_read_schedule(messages[i], CB_OUTPUT, CB_OUTPUT) || CB_NUMBER(a) != 0 || CB_END(a) != TIMED_SLOTS)
-            differ("timed message", i);
+            differ("schedule", "timed message", i);
         for (size_t place = 0; place <= TIMED_SLOTS; place++)
             if (cb_description(messages[i], CB_OUTPUT, CB_OUTPUT, place) !=
                 plain_description(messages[i], CB_OUTPUT, CB_OUTPUT, place))
-                differ("a description of timed message", i);
+                differ("schedule", "a description of timed message", i);
     }
 }
 
@@ -142,16 +128,12 @@ static int check(void)
         damage(&row, message);
         uint32_t a = cb_read_schedule(message, length, received);
         if (a != plain_read_schedule(message, length, received))
-            differ("message", i);
+            differ("schedule", "message", i);
         check_descriptions(&row, i, message, length, received);
         seen[CB_NUMBER(a)]++;
     }
-    for (size_t i = 0; i < sizeof answers; i++) {
-        if (seen[answers[i]] == 0) {
-            fprintf(stderr, "schedule: no call was answered %d\n", answers[i]);
-            return 1;
-        }
-    }
+    if (!all_seen("schedule", seen, answers, sizeof answers))
+        return 1;
     printf("schedule: the same for %d messages, every answer among them\n", CALLS);
     return 0;
 }
@@ -168,37 +150,12 @@ static void describe_all(describer *description)
         description(messages[i], CB_OUTPUT, CB_OUTPUT, (size_t)i % TIMED_SLOTS);
 }
 
-static void pass(bool reading, bool rattle)
+static void pass(int reading, bool rattle)
 {
     if (reading)
         read_all(rattle ? cb_read_schedule : plain_read_schedule);
     else
         describe_all(rattle ? cb_description : plain_description);
-}
-
-static double timed_pass(bool reading, bool rattle)
-{
-    struct timespec from, to;
-
-    clock_gettime(CLOCK_PROCESS_CPUTIME_ID, &from);
-    pass(reading, rattle);
-    clock_gettime(CLOCK_PROCESS_CPUTIME_ID, &to);
-    return ((double)(to.tv_sec - from.tv_sec) * 1e9 + (double)(to.tv_nsec - from.tv_nsec)) / MESSAGES;
-}
-
-static int time_both(bool reading)
-{
-    double least[2] = {1e9, 1e9};
-
-    for (int i = 0; i < ROUNDS; i++) {
-        for (int plain = 0; plain < 2; plain++) {
-            double t = timed_pass(reading, !plain);
-            if (t < least[plain])
-                least[plain] = t;
-        }
-    }
-    printf("%.1f %.1f %.2f\n", least[0], least[1], least[0] / least[1]);
-    return 0;
 }
 
 int main(int argc, char **argv)
@@ -210,7 +167,7 @@ int main(int argc, char **argv)
     if (argc == 2 && strcmp(argv[1], "check") == 0)
         return check();
     if (argc == 3 && strcmp(argv[1], "time") == 0)
-        return time_both(strcmp(argv[2], "read_schedule") == 0);
+        return time_both(pass, strcmp(argv[2], "read_schedule") == 0, MESSAGES, ROUNDS);
     if (argc == 4 && strcmp(argv[1], "pass") == 0) {
         pass(strcmp(argv[2], "read_schedule") == 0, strcmp(argv[3], "rattle") == 0);
         printf("%d\n", MESSAGES);

@@ -8,15 +8,12 @@
  * JOB is content, write_blocks or read_plan. What is timed are whole pages, and plan files of 48 slots, two in three of
  * them pages.
  */
-#define _POSIX_C_SOURCE 199309L
-
 #include <stdio.h>
-#include <stdlib.h>
 #include <string.h>
-#include <time.h>
 
 #include "blocks.h"
 #include "csobvarit.h"
+#include "measure.h"
 #include "plain_simple.h"
 
 enum { CALLS = 1000000, INPUTS = 4096, ROUNDS = 51, SLOTS = 48, PLAN = 6 + 6 * SLOTS, ROOM = PLAN + 18 };
@@ -25,11 +22,6 @@ enum job { CONTENT, WRITE_BLOCKS, READ_PLAN };
 
 static uint8_t messages[INPUTS][CB_OUTPUT];
 static uint8_t plans[INPUTS][PLAN];
-
-static bool one_in(uint64_t *row, unsigned n)
-{
-    return draw(row) % n == 0;
-}
 
 /* A good plan file. */
 static void make_plan(uint64_t *row, unsigned count, uint8_t *file)
@@ -42,12 +34,6 @@ static void make_plan(uint64_t *row, unsigned count, uint8_t *file)
         for (unsigned j = 1; j < 6; j++)
             entry[j] = entry[0] == 2 ? (uint8_t)draw(row) : 0;
     }
-}
-
-static void differ(const char *what, int at)
-{
-    fprintf(stderr, "simple: %s %d differs\n", what, at);
-    abort();
 }
 
 static void check_blocks(uint64_t *row, int at, unsigned long *seen)
@@ -66,11 +52,11 @@ static void check_blocks(uint64_t *row, int at, unsigned long *seen)
     uint32_t a = cb_write_blocks(message, length, schedule, used, rattle, room);
     uint32_t b = plain_write_blocks(message, length, schedule, used, plain, room);
     if (a != b || memcmp(rattle, plain, sizeof plain) != 0)
-        differ("writing blocks", at);
+        differ("simple", "writing blocks", at);
     seen[a]++;
     a = cb_content(message, length, received);
     if (a != plain_content(message, length, received))
-        differ("content", at);
+        differ("simple", "content", at);
     seen[a]++;
 }
 
@@ -87,7 +73,7 @@ static void check_plan(uint64_t *row, int at, unsigned long *seen)
         file[6 + draw(row) % (6 * SLOTS)] = (uint8_t)(draw(row) % 4);
     uint32_t a = cb_read_plan(file, length);
     if (a != plain_read_plan(file, length))
-        differ("plan", at);
+        differ("simple", "plan", at);
     seen[CB_NUMBER(a)]++;
 }
 
@@ -101,17 +87,13 @@ static int check(void)
         check_blocks(&row, i, seen);
         check_plan(&row, i, seen);
     }
-    for (size_t i = 0; i < sizeof answers; i++) {
-        if (seen[answers[i]] == 0) {
-            fprintf(stderr, "simple: no call was answered %d\n", answers[i]);
-            return 1;
-        }
-    }
+    if (!all_seen("simple", seen, answers, sizeof answers))
+        return 1;
     printf("simple: the same in %d calls, every answer among them\n", 3 * CALLS);
     return 0;
 }
 
-static void pass(enum job job, bool rattle)
+static void pass(int job, bool rattle)
 {
     static uint8_t out[CB_BLOCKS];
 
@@ -124,31 +106,6 @@ static void pass(enum job job, bool rattle)
         else
             (rattle ? cb_read_plan : plain_read_plan)(plans[i], PLAN);
     }
-}
-
-static double timed_pass(enum job job, bool rattle)
-{
-    struct timespec from, to;
-
-    clock_gettime(CLOCK_PROCESS_CPUTIME_ID, &from);
-    pass(job, rattle);
-    clock_gettime(CLOCK_PROCESS_CPUTIME_ID, &to);
-    return ((double)(to.tv_sec - from.tv_sec) * 1e9 + (double)(to.tv_nsec - from.tv_nsec)) / INPUTS;
-}
-
-static int time_both(enum job job)
-{
-    double least[2] = {1e9, 1e9};
-
-    for (int i = 0; i < ROUNDS; i++) {
-        for (int plain = 0; plain < 2; plain++) {
-            double t = timed_pass(job, !plain);
-            if (t < least[plain])
-                least[plain] = t;
-        }
-    }
-    printf("%.1f %.1f %.2f\n", least[0], least[1], least[0] / least[1]);
-    return 0;
 }
 
 static enum job job_named(const char *name)
@@ -170,7 +127,7 @@ int main(int argc, char **argv)
     if (argc == 2 && strcmp(argv[1], "check") == 0)
         return check();
     if (argc == 3 && strcmp(argv[1], "time") == 0)
-        return time_both(job_named(argv[2]));
+        return time_both(pass, job_named(argv[2]), INPUTS, ROUNDS);
     if (argc == 4 && strcmp(argv[1], "pass") == 0) {
         pass(job_named(argv[2]), strcmp(argv[3], "rattle") == 0);
         printf("%d\n", INPUTS);

@@ -5,16 +5,13 @@
  *   text time write|read            prints nanoseconds a call, Rattle and plain C, and their ratio
  *   text pass write|read rattle|plain   goes over the pages once and prints how many, for a counter of instructions
  */
-#define _POSIX_C_SOURCE 199309L
-
 #include <stdbool.h>
 #include <stdio.h>
-#include <stdlib.h>
 #include <string.h>
-#include <time.h>
 
 #include "blocks.h"
 #include "csobvarit.h"
+#include "measure.h"
 #include "plain_text.h"
 
 typedef uint32_t writer(uint16_t, uint16_t, uint8_t, uint8_t, const uint16_t *, size_t, uint8_t *, size_t);
@@ -24,11 +21,6 @@ enum { CALLS = 1000000, PAGES = 4096, ROUNDS = 51, ROOM = 112 };
 
 static uint16_t texts[PAGES][CB_TEXT];
 static uint8_t pages[PAGES][CB_OUTPUT];
-
-static bool one_in(uint64_t *row, unsigned n)
-{
-    return draw(row) % n == 0;
-}
 
 /* A character that can be written, most often. */
 static uint16_t character(uint64_t *row)
@@ -40,12 +32,6 @@ static uint16_t character(uint64_t *row)
     if (one_in(row, 8))
         return some[draw(row) % (sizeof some / sizeof *some)];
     return (uint16_t)('A' + draw(row) % 26);
-}
-
-static void differ(const char *what, int at)
-{
-    fprintf(stderr, "text: %s %d differs\n", what, at);
-    abort();
 }
 
 static void check_write(uint64_t *row, int at, unsigned long *seen)
@@ -66,7 +52,7 @@ static void check_write(uint64_t *row, int at, unsigned long *seen)
     uint32_t a = cb_write_text(serial, identifier, scheme, parameter, text, length, rattle, room);
     uint32_t b = plain_write_text(serial, identifier, scheme, parameter, text, length, plain, room);
     if (a != b || memcmp(rattle, plain, sizeof plain) != 0)
-        differ("writing", at);
+        differ("text", "writing", at);
     seen[CB_NUMBER(a)]++;
 }
 
@@ -90,7 +76,7 @@ static void check_read(uint64_t *row, int at, unsigned long *seen)
     uint32_t a = cb_read_text(page, length, received, rattle, room);
     uint32_t b = plain_read_text(page, length, received, plain, room);
     if (a != b || memcmp(rattle, plain, sizeof plain) != 0)
-        differ("reading", at);
+        differ("text", "reading", at);
     seen[CB_NUMBER(a)]++;
 }
 
@@ -104,12 +90,8 @@ static int check(void)
         check_write(&row, i, seen);
         check_read(&row, i, seen);
     }
-    for (size_t i = 0; i < sizeof answers; i++) {
-        if (seen[answers[i]] == 0) {
-            fprintf(stderr, "text: no call was answered %d\n", answers[i]);
-            return 1;
-        }
-    }
+    if (!all_seen("text", seen, answers, sizeof answers))
+        return 1;
     printf("text: the same in %d calls, every answer among them\n", 2 * CALLS);
     return 0;
 }
@@ -130,7 +112,7 @@ static void read_all(reader *read)
         read(pages[i], CB_OUTPUT, CB_OUTPUT, text, CB_TEXT);
 }
 
-static void pass(bool writing, bool rattle)
+static void pass(int writing, bool rattle)
 {
     if (writing)
         write_all(rattle ? cb_write_text : plain_write_text);
@@ -138,45 +120,22 @@ static void pass(bool writing, bool rattle)
         read_all(rattle ? cb_read_text : plain_read_text);
 }
 
-static double timed_pass(bool writing, bool rattle)
-{
-    struct timespec from, to;
-
-    clock_gettime(CLOCK_PROCESS_CPUTIME_ID, &from);
-    pass(writing, rattle);
-    clock_gettime(CLOCK_PROCESS_CPUTIME_ID, &to);
-    return ((double)(to.tv_sec - from.tv_sec) * 1e9 + (double)(to.tv_nsec - from.tv_nsec)) / PAGES;
-}
-
-static int time_both(bool writing)
-{
-    double least[2] = {1e9, 1e9};
-
-    for (int i = 0; i < ROUNDS; i++) {
-        for (int plain = 0; plain < 2; plain++) {
-            double t = timed_pass(writing, !plain);
-            if (t < least[plain])
-                least[plain] = t;
-        }
-    }
-    printf("%.1f %.1f %.2f\n", least[0], least[1], least[0] / least[1]);
-    return 0;
-}
-
 int main(int argc, char **argv)
 {
     uint64_t row = 1;
+    bool counting_plain = argc == 4 && strcmp(argv[3], "plain") == 0;
+    writer *prepare = counting_plain ? cb_write_text : plain_write_text; /* never the one that is counted */
 
     plain_text_init();
     for (int i = 0; i < PAGES; i++) {
         for (int j = 0; j < CB_TEXT; j++)
             texts[i][j] = (uint16_t)(j % 7 == 6 ? 0xE0 : 'A' + draw(&row) % 26);
-        plain_write_text(0x10, 0x8001, 0, 0x11, texts[i], CB_TEXT, pages[i], CB_OUTPUT);
+        prepare(0x10, 0x8001, 0, 0x11, texts[i], CB_TEXT, pages[i], CB_OUTPUT);
     }
     if (argc == 2 && strcmp(argv[1], "check") == 0)
         return check();
     if (argc == 3 && strcmp(argv[1], "time") == 0)
-        return time_both(strcmp(argv[2], "write") == 0);
+        return time_both(pass, strcmp(argv[2], "write") == 0, PAGES, ROUNDS);
     if (argc == 4 && strcmp(argv[1], "pass") == 0) {
         pass(strcmp(argv[2], "write") == 0, strcmp(argv[3], "rattle") == 0);
         printf("%d\n", PAGES);
