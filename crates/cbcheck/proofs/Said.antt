@@ -13,10 +13,6 @@ use Rattle.lines.specs.Inner.{Puts}
 use Rattle.lines.specs.Paper.{decimal}
 use Rattle.cbcheck.specs.Listing.{trueWord, slotWord, untrueWords, reason, said}
 
--- room for more does not hurt
-pub puts-wider : {s : List ℕ} {m n r : ℕ} {t t′ : List ℕ} (more : ℕ) → m ≤ more → Puts s m n t t′ r → Puts s more n t t′ r
-puts-wider more h p = record { text = p .text; onward = p .onward; room = omega (arith, p .room) }
-
 -- every entry of a table is short
 unfoldable short : List (ℕ × List ℕ) → Bool
 short [] = true

@@ -3,13 +3,11 @@ use mathlib.Core.Path.{_≡_, refl, sym, ap, _∙_}
 use mathlib.Core.Bool.{Bool, true, false, cond}
 use mathlib.Core.List.{List, []}
 use Prim.Native.Nat.{ℕ}
-use native.Mathlib.Omega.{arith}
 use lib.ListN.{length}
 use lib.Dec.{eqb}
-use borrow.Author.Tests.{eqb-true, ne-eqb}
-use Rattle.laws.proofs.Received.{whole-bounds}
+use borrow.Author.Tests.{eqb-true}
 use Rattle.block.specs.Paper.{Given}
-use Rattle.lines.proofs.Complete.{Complete}
+use Rattle.lines.proofs.Complete.{Complete, handed-output}
 use Rattle.lines.proofs.Listed.{Taken}
 use Rattle.cbtext.specs.Listing.{lineOf, pageLine}
 use Rattle.cbtext.specs.Inner.{Handed, lineFor}
@@ -17,9 +15,7 @@ use Rattle.cbtext.specs.Inner.{Handed, lineFor}
 module _ (g : Given) (returned : ℕ) (s p p′ : List ℕ) (t : Taken g returned s p p′) (whole : g .number ≡ 0 → Complete g) where
   -- a page complete is what the call leaves in the output
   output : g .number ≡ 0 → p′ ≡ g .octets
-  output z =
-      let some : g .received ≡ 0 → ⊥ = λ e. omega (arith, whole-bounds (g .received) (whole z .blocks)) in
-      t .output ∙ rw (ne-eqb (g .received) 0 some)
+  output z = handed-output g returned s p p′ t (whole z)
 
   pub handed : Handed returned p′
   handed z =

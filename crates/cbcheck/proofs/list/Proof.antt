@@ -7,9 +7,11 @@ use denote.Ref.{now}
 use lib.ListN.{length, take, drop}
 use Rattle.firmware.specs.Paper.{heldIn}
 use Rattle.plan.specs.Coded.{planOf}
+use Rattle.block.specs.Paper.{schedule}
+use Rattle.lines.proofs.Complete.{complete}
 use Rattle.lines.proofs.Listed.{Listed, Taken, answerAt, taken, line-room, listed-start, listed-turn, listed-end}
 use Rattle.cbcheck.specs.Listing.{lineOf}
-use Rattle.cbcheck.proofs.Handed.{received-some, line-for}
+use Rattle.cbcheck.proofs.Handed.{line-for}
 use Rattle.cbcheck.proofs.list.Statement.{statement}
 use Rattle.cbcheck.proofs.list.Tie as tie
 
@@ -53,8 +55,8 @@ loop-again c =
     let a = c .before .before .before .before .before .before .before .before .before .before .before .before .before .before .before .before .before .before .before .before .args in
     let g = answerAt (l .state) (l .at) (now (a .log)) in
     let t = called call in
-    let some = received-some (heldIn (l .state)) (take 23 (drop (l .at) (now (a .log)))) in
-    let line = line-for (planOf (a .current)) (planOf (a .previous)) g (call .cb-intake .result) (call .cb-intake .last .0) (l .message) (call .cb-intake .last .1 .1 .0) t some (l .number) in (
+    let whole = complete schedule (heldIn (l .state)) (take 23 (drop (l .at) (now (a .log)))) in
+    let line = line-for (planOf (a .current)) (planOf (a .previous)) g (call .cb-intake .result) (call .cb-intake .last .0) (l .message) (call .cb-intake .last .1 .1 .0) t whole (l .number) in (
       listed-turn (lineOf (planOf (a .current)) (planOf (a .previous))) 143 146432 (now (a .state)) (a .first) (now (a .log)) (l .state) (l .out) (l .at) (l .number) (l .end) (l .inv .0) turn
           (next .result) (put .result) (call .cb-intake .last .0) (put .last .1 .1 .1 .1 .1 .0) (next .ensures) (call .cb-intake .kept .0) (put .kept .1 .1 .1 .1 .1 .0) (t .state)
           (rw line at (put .ensures)),

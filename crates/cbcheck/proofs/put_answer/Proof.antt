@@ -4,8 +4,7 @@ use native.Mathlib.Omega.{arith}
 use borrow.Author.Needs.{needs}
 use borrow.Author.Tests.{eq-eqb, ne-eqb}
 use denote.Ref.{now}
-use Rattle.lines.proofs.Behind.{puts-none}
-use Rattle.cbcheck.proofs.Said.{puts-wider}
+use Rattle.lines.proofs.Behind.{puts-none, puts-wider}
 use Rattle.cbcheck.proofs.put_answer.Statement.{statement}
 use Rattle.cbcheck.proofs.put_answer.Tie as tie
 

@@ -4,9 +4,9 @@ use native.Mathlib.Omega.{arith}
 use lib.ListN.{length}
 use borrow.Author.Needs.{needs}
 use Rattle.lines.specs.Inner.{Puts}
-use Rattle.lines.proofs.Behind.{puts-behind, puts-then}
+use Rattle.lines.proofs.Behind.{puts-behind, puts-then, puts-wider}
 use Rattle.cbcheck.specs.Listing.{trueWord}
-use Rattle.cbcheck.proofs.Said.{puts-wider, said-true}
+use Rattle.cbcheck.proofs.Said.{said-true}
 use Rattle.cbcheck.proofs.put_checking.Statement.{statement}
 use Rattle.cbcheck.proofs.put_checking.Tie as tie
 

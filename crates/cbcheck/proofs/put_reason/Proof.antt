@@ -7,11 +7,11 @@ use borrow.Author.Needs.{needs}
 use Rattle.answer.specs.Number.{numberOf}
 use Rattle.lines.specs.Paper.{decimal}
 use Rattle.lines.specs.Inner.{Puts}
-use Rattle.lines.proofs.Behind.{puts-behind, puts-then}
+use Rattle.lines.proofs.Behind.{puts-behind, puts-then, puts-wider}
 use Rattle.lines.proofs.Numbers.{length-spelled}
 use Rattle.words.specs.Words.{words}
 use Rattle.cbcheck.specs.Listing.{slotWord, untrueWords}
-use Rattle.cbcheck.proofs.Said.{puts-wider, words-few, reason-words, reason-slot}
+use Rattle.cbcheck.proofs.Said.{words-few, reason-words, reason-slot}
 use Rattle.cbcheck.proofs.put_reason.Statement.{statement}
 use Rattle.cbcheck.proofs.put_reason.Tie as tie
 

@@ -6,6 +6,7 @@ use borrow.Author.Needs.{needs}
 use denote.Ref.{now}
 use lib.ListN.{length, take, drop}
 use Rattle.firmware.specs.Paper.{heldIn}
+use Rattle.block.specs.Paper as block
 use Rattle.lines.proofs.Complete.{complete}
 use Rattle.lines.proofs.Listed.{Listed, Taken, answerAt, taken, line-room, listed-start, listed-turn, listed-end}
 use Rattle.cbtext.specs.Listing.{lineOf}
@@ -40,7 +41,7 @@ put-answer-requires c κs =
     let call = c .before .before .before .before .before .before in
     let l = c .before .before .before .before .before .before .before .before .before .before .before .before .loop in
     let a = c .before .before .before .before .before .before .before .before .before .before .before .before .before .before .before .before .before .args in
-    let whole = complete (heldIn (l .state)) (take 23 (drop (l .at) (now (a .log)))) in
+    let whole = complete block.page (heldIn (l .state)) (take 23 (drop (l .at) (now (a .log)))) in
     let wide =
     line-room lineOf 358 366592 (now (a .state)) (a .first) (now (a .log)) (l .state) (l .out) (l .at) (l .number) (l .end) (l .inv .0) (c .before .before .before .before .before .before .before .before .before .before .before .loop-test .taken) in
     let room : l .end + 358 ≤ length (l .out) = omega (arith, l .inv .0 .text-size) in
@@ -56,7 +57,7 @@ loop-again c =
     let a = c .before .before .before .before .before .before .before .before .before .before .before .before .before .before .before .before .before .before .before .before .args in
     let g = answerAt (l .state) (l .at) (now (a .log)) in
     let t = called call in
-    let whole = complete (heldIn (l .state)) (take 23 (drop (l .at) (now (a .log)))) in
+    let whole = complete block.page (heldIn (l .state)) (take 23 (drop (l .at) (now (a .log)))) in
     let line = line-for g (call .cb-intake .result) (call .cb-intake .last .0) (l .page) (call .cb-intake .last .1 .1 .0) t whole (l .number) in (
       listed-turn lineOf 358 366592 (now (a .state)) (a .first) (now (a .log)) (l .state) (l .out) (l .at) (l .number) (l .end) (l .inv .0) turn
           (next .result) (put .result) (call .cb-intake .last .0) (put .last .1 .1 .1 .0) (next .ensures) (call .cb-intake .kept .0) (put .kept .1 .1 .1 .0) (t .state)
