@@ -11,7 +11,7 @@ use Rattle.laws.proofs.Upto.{below-suc}
 use Rattle.schedule.specs.Paper.{Told, first, again, optional, advised, Shown}
 use Rattle.plan.specs.Paper.{Plan, planNumber, entryAt, lowestAt, low15At}
 use Rattle.plan.proofs.Lowest.{leading}
-use Rattle.checker.specs.Paper.{leads, repeats, mayTell, newFor, isTrue}
+use Rattle.checker.specs.Paper.{Planned, plannedAt, leads, repeats, mayTell, newFor, isTrue}
 use Rattle.checker.specs.Truthful.{TrueAt}
 use Rattle.plan.proofs.GoodPlan.{kind-few}
 
@@ -26,6 +26,10 @@ beq-refl true = refl
 beq-refl false = refl
 
 module _ (c p : Plan) (i : ℕ) where
+  -- what the plans say of the slot
+  abbrev v : Planned
+  v = plannedAt c p i
+
   -- what is known of a slot of which a description may be told
   abbrev Tells : Told → Type 0
   Tells (first x) = (entryAt c i .kind ≡ 2) × (lowestAt c i ≡ suc i) × (x ≡ low15At c i)
@@ -33,32 +37,32 @@ module _ (c p : Plan) (i : ℕ) where
   Tells optional = (entryAt c i .kind ≡ 0) ⊎ ((entryAt c i .kind ≡ 2) × (lowestAt c i ≡ suc i → ⊥))
   Tells advised = (entryAt c i .kind ≡ 1) ⊎ (entryAt c i .kind ≡ 2)
 
-  leads-is : leads c i ≡ true → (entryAt c i .kind ≡ 2) × (lowestAt c i ≡ suc i)
+  leads-is : leads v i ≡ true → (entryAt c i .kind ≡ 2) × (lowestAt c i ≡ suc i)
   leads-is e =
       let b = both (eqb (entryAt c i .kind) 2) (eqb (lowestAt c i) (suc i)) e in
       (eqb-true (entryAt c i .kind) 2 (b .0), eqb-true (lowestAt c i) (suc i) (b .1))
 
-  repeats-is : repeats c i ≡ true → (entryAt c i .kind ≡ 2) × (lowestAt c i ≡ suc i → ⊥)
+  repeats-is : repeats v i ≡ true → (entryAt c i .kind ≡ 2) × (lowestAt c i ≡ suc i → ⊥)
   repeats-is e =
       let b = both (eqb (entryAt c i .kind) 2) (not (eqb (lowestAt c i) (suc i))) e in
       (eqb-true (entryAt c i .kind) 2 (b .0), eqb-false (lowestAt c i) (suc i) (not-true (eqb (lowestAt c i) (suc i)) (b .1)))
 
-  may-tells : (t : Told) → mayTell c i t ≡ true → Tells t
+  may-tells : (t : Told) → mayTell v i t ≡ true → Tells t
   may-tells (first x) e =
-      let b = both (leads c i) (eqb x (low15At c i)) e in
+      let b = both (leads v i) (eqb x (low15At c i)) e in
       let l = leads-is (b .0) in
       (l .0, l .1, eqb-true x (low15At c i) (b .1))
   may-tells (again n) e =
-      let b = both (repeats c i) (eqb n (lowestAt c i)) e in
+      let b = both (repeats v i) (eqb n (lowestAt c i)) e in
       let l = repeats-is (b .0) in
       (l .0, l .1, eqb-true n (lowestAt c i) (b .1))
   may-tells optional e =
-      ⊎-elim (λ a. inl (eqb-true (entryAt c i .kind) 0 a)) (λ b. inr (repeats-is b)) (either (eqb (entryAt c i .kind) 0) (repeats c i) e)
+      ⊎-elim (λ a. inl (eqb-true (entryAt c i .kind) 0 a)) (λ b. inr (repeats-is b)) (either (eqb (entryAt c i .kind) 0) (repeats v i) e)
   may-tells advised e =
       ⊎-elim (λ a. inl (eqb-true (entryAt c i .kind) 1 a)) (λ b. inr (eqb-true (entryAt c i .kind) 2 b))
       (either (eqb (entryAt c i .kind) 1) (eqb (entryAt c i .kind) 2) e)
 
-  tells-may : (t : Told) → Tells t → mayTell c i t ≡ true
+  tells-may : (t : Told) → Tells t → mayTell v i t ≡ true
   tells-may (first x) w =
       simp (eq-eqb (entryAt c i .kind) 2 (w .0), eq-eqb (lowestAt c i) (suc i) (w .1), eq-eqb x (low15At c i) (w .2))
   tells-may (again n) w =
@@ -100,23 +104,23 @@ module _ (c p : Plan) (i : ℕ) where
     pub true-keeps : isTrue c p i s ≡ true → TrueAt c p i s
     unfolding isTrue
     true-keeps e =
-        let b = both (mayTell c i (s .told)) (Bool·beq (s .new) (newFor c p i (s .told))) e in
+        let b = both (mayTell v i (s .told)) (Bool·beq (s .new) (newFor v (s .told))) e in
         let w = may-tells (s .told) (b .0) in
-        let new = beq-true (s .new) (newFor c p i (s .told)) (b .1) in
+        let new = beq-true (s .new) (newFor v (s .told)) (b .1) in
         record {
           lowest-slot = lowest-tells (s .told) w;
           later-slot = later-tells (s .told) w;
           planned-optional = optional-tells (s .told) w;
           planned-advised = advised-tells (s .told) w;
-          new-advised = λ q. new ∙ ap (newFor c p i) q;
-          new-optional = λ q. new ∙ ap (newFor c p i) q;
-          new-first = λ x q. new ∙ ap (newFor c p i) q;
-          new-repeat = λ n q. new ∙ ap (newFor c p i) q;
+          new-advised = λ q. new ∙ ap (newFor v) q;
+          new-optional = λ q. new ∙ ap (newFor v) q;
+          new-first = λ x q. new ∙ ap (newFor v) q;
+          new-repeat = λ n q. new ∙ ap (newFor v) q;
         }
 
-    passes : (t : Told) → s .told ≡ t → Tells t → s .new ≡ newFor c p i t → isTrue c p i s ≡ true
+    passes : (t : Told) → s .told ≡ t → Tells t → s .new ≡ newFor v t → isTrue c p i s ≡ true
     unfolding isTrue
-    passes t e w n = rw (e, n, tells-may t w) (beq-refl (newFor c p i t))
+    passes t e w n = rw (e, n, tells-may t w) (beq-refl (newFor v t))
 
     module _ (g : planNumber c ≡ 0) (l : i < c .count) (t : TrueAt c p i s) where
       page-passes : entryAt c i .kind ≡ 2 → isTrue c p i s ≡ true
@@ -133,11 +137,11 @@ module _ (c p : Plan) (i : ℕ) where
           let other : lowestAt c i ≡ suc i → ⊥ = λ q. omega arith in
           ⊎-elim
           (λ e. passes (again (lowestAt c i)) e (k, other, refl) (t .new-repeat (lowestAt c i) e))
-          (λ v.
+          (λ o.
           ⊎-elim
           (λ e. passes advised e (inr k) (t .new-advised e))
           (λ e. passes optional e (inr (k, other)) (t .new-optional e))
-          v)
+          o)
           (t .later-slot k below))
           (below-suc near)
 

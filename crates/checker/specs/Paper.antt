@@ -8,31 +8,46 @@ use Rattle.laws.specs.Upto.{lowest}
 use Rattle.schedule.specs.Paper.{Told, first, again, optional, advised, Shown, shown, end, read}
 use Rattle.plan.specs.Paper.{Plan, planNumber, hasPage, entryAt, pageAt, lowestAt, low15At}
 
+-- 01 Truthful: what the plans say of a slot: its kind; of its page the low 15 bits of the identifier, the lowest slot with it, and whether the previous plan lacks it
+pub record Planned : Type 0 where
+  pub kind : ℕ
+  pub low : ℕ
+  pub lowest : ℕ
+  pub fresh : Bool
+
+-- 01 Truthful: what the current plan c and the previous plan p say of slot i
+abbrev pub plannedAt : Plan → Plan → ℕ → Planned
+plannedAt c p i = record { kind = entryAt c i .kind; low = low15At c i; lowest = lowestAt c i; fresh = not (hasPage p (pageAt c i)) }
+
 -- 01 Truthful: the lowest slot with a page
-abbrev pub leads : Plan → ℕ → Bool
-leads c i = eqb (entryAt c i .kind) 2 && eqb (lowestAt c i) (suc i)
+abbrev pub leads : Planned → ℕ → Bool
+leads v i = eqb (v .kind) 2 && eqb (v .lowest) (suc i)
 
 -- 01 Truthful: a later slot with that page
-abbrev pub repeats : Plan → ℕ → Bool
-repeats c i = eqb (entryAt c i .kind) 2 && not (eqb (lowestAt c i) (suc i))
+abbrev pub repeats : Planned → ℕ → Bool
+repeats v i = eqb (v .kind) 2 && not (eqb (v .lowest) (suc i))
 
 -- 01 Truthful: what may be told of a slot, by what is told; reserved descriptions are read as optional
-abbrev pub mayTell : Plan → ℕ → Told → Bool
-mayTell c i (first x) = leads c i && eqb x (low15At c i)
-mayTell c i (again n) = repeats c i && eqb n (lowestAt c i)
-mayTell c i optional = eqb (entryAt c i .kind) 0 || repeats c i
-mayTell c i advised = eqb (entryAt c i .kind) 1 || eqb (entryAt c i .kind) 2
+abbrev pub mayTell : Planned → ℕ → Told → Bool
+mayTell v i (first x) = leads v i && eqb x (v .low)
+mayTell v i (again n) = repeats v i && eqb n (v .lowest)
+mayTell v i optional = eqb (v .kind) 0 || repeats v i
+mayTell v i advised = eqb (v .kind) 1 || eqb (v .kind) 2
 
 -- 01 Truthful: the new bit beside a description: 1 for advised, 0 for optional, and for first and repeat 1 exactly if the previous plan lacks the page
-abbrev pub newFor : Plan → Plan → ℕ → Told → Bool
-newFor c p i (first x) = not (hasPage p (pageAt c i))
-newFor c p i (again n) = not (hasPage p (pageAt c i))
-newFor c p i optional = false
-newFor c p i advised = true
+abbrev pub newFor : Planned → Told → Bool
+newFor v (first x) = v .fresh
+newFor v (again n) = v .fresh
+newFor v optional = false
+newFor v advised = true
+
+-- 01 Truthful: a slot is told truly, by what the plans say of it
+abbrev pub trueBy : Planned → ℕ → Shown → Bool
+trueBy v i s = mayTell v i (s .told) && Bool·beq (s .new) (newFor v (s .told))
 
 -- 01 Truthful: a slot is told truly
 unfoldable pub isTrue : Plan → Plan → ℕ → Shown → Bool
-isTrue c p i s = mayTell c i (s .told) && Bool·beq (s .new) (newFor c p i (s .told))
+isTrue c p i s = trueBy (plannedAt c p i) i s
 
 -- 01 Numbers given, 40: what a message shows of a slot is untrue
 abbrev pub untrue : Plan → Plan → List ℕ → ℕ → Bool

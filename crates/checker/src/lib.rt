@@ -4,9 +4,9 @@ ghost use Prim.Native.Nat.{_≤_, _<_};
 ghost use Rattle.laws.specs.Upto.{lowest as lowestOf};
 ghost use Rattle.schedule.specs.Coded.{toldOf, shownOf};
 ghost use Rattle.plan.specs.Coded.{planOf};
-ghost use Rattle.checker.specs.Paper.{check};
+ghost use Rattle.checker.specs.Paper.{leads, repeats, mayTell, newFor, trueBy, check};
 ghost use Rattle.checker.specs.Coded.{untrueIn, checkedOf};
-ghost use Rattle.checker.specs.Parts.{plannedOf, plannedAt, leadsBy, repeatsBy, mayTellBy, newBy, trueBy, compared};
+ghost use Rattle.checker.specs.Parts.{plannedOf, givenAt, compared};
 use answer::Refusal;
 use page::PageName;
 use plan::Plan;
@@ -35,7 +35,7 @@ struct Planned {
 // What the plans say of slot i, counted from 0.
 fn planned_at(current: Plan, previous: Plan, i: usize) -> Planned
     requires { ⌜ i < 48 ⌝ }
-    ensures { λ r. ⌜ plannedOf r ≡ plannedAt (planOf current) (planOf previous) i ⌝ }
+    ensures { λ r. ⌜ plannedOf r ≡ givenAt (planOf current) (planOf previous) i ⌝ }
 {
     let entries = current.entries;
     let entry = entries[i];
@@ -65,7 +65,7 @@ fn planned_at(current: Plan, previous: Plan, i: usize) -> Planned
 // Whether slot i is the lowest with its page.
 fn leads(planned: Planned, i: usize) -> bool
     requires { ⌜ i < 48 ⌝ }
-    ensures { λ r. ⌜ r ≡ leadsBy (plannedOf planned) i ⌝ }
+    ensures { λ r. ⌜ r ≡ leads (plannedOf planned) i ⌝ }
 {
     if planned.kind != 2 {
         return false;
@@ -76,7 +76,7 @@ fn leads(planned: Planned, i: usize) -> bool
 // Whether slot i is a later one with its page.
 fn repeats(planned: Planned, i: usize) -> bool
     requires { ⌜ i < 48 ⌝ }
-    ensures { λ r. ⌜ r ≡ repeatsBy (plannedOf planned) i ⌝ }
+    ensures { λ r. ⌜ r ≡ repeats (plannedOf planned) i ⌝ }
 {
     if planned.kind != 2 {
         return false;
@@ -87,7 +87,7 @@ fn repeats(planned: Planned, i: usize) -> bool
 // Whether a description may be told of slot i.
 fn may_tell(planned: Planned, i: usize, description: Description) -> bool
     requires { ⌜ i < 48 ⌝ }
-    ensures { λ r. ⌜ r ≡ mayTellBy (plannedOf planned) i (toldOf description) ⌝ }
+    ensures { λ r. ⌜ r ≡ mayTell (plannedOf planned) i (toldOf description) ⌝ }
 {
     match description {
         Description::First(low) => {
@@ -119,7 +119,7 @@ fn may_tell(planned: Planned, i: usize, description: Description) -> bool
 
 // The new bit that belongs to a description.
 fn new_for(planned: Planned, description: Description) -> bool
-    ensures { λ r. ⌜ r ≡ newBy (plannedOf planned) (toldOf description) ⌝ }
+    ensures { λ r. ⌜ r ≡ newFor (plannedOf planned) (toldOf description) ⌝ }
 {
     match description {
         Description::First(_) => planned.fresh,

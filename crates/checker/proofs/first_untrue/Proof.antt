@@ -10,7 +10,7 @@ use Rattle.laws.proofs.Lowest.{lowest-at, lowest-none}
 use Rattle.plan.specs.Coded.{planOf}
 use Rattle.checker.specs.Coded.{untrueIn}
 use Rattle.checker.specs.Parts.{plannedOf}
-use Rattle.checker.proofs.Telling.{untrue-planned}
+use Rattle.checker.proofs.Telling.{untrue-given}
 use Rattle.checker.proofs.first_untrue.Statement.{statement}
 use Rattle.checker.proofs.first_untrue.Tie as tie
 
@@ -49,7 +49,7 @@ returns c =
     rw add-one
     (sym
     (lowest-at (untrueIn (planOf (a .current)) (planOf (a .previous)) (a .t3)) (a .count) (l .i) (omega arith)
-    (untrue-planned (planOf (a .current)) (planOf (a .previous)) (l .i) (plannedOf (said .result)) _ (told .result) _ (said .ensures) (told .ensures) (c .if1 .taken))
+    (untrue-given (planOf (a .current)) (planOf (a .previous)) (l .i) (plannedOf (said .result)) _ (told .result) _ (said .ensures) (told .ensures) (c .if1 .taken))
     (l .inv .1)))
 
 add-i : tie.Need-add-i Inv-loop μ-loop
@@ -67,7 +67,7 @@ loop-again c =
     let told = c .before .is-true in (
       omega arith,
       below-more _ _ (l .inv .1)
-          (untrue-planned (planOf (a .current)) (planOf (a .previous)) (l .i) (plannedOf (said .result)) _ (told .result) _ (said .ensures) (told .ensures) (c .if1 .left)),
+          (untrue-given (planOf (a .current)) (planOf (a .previous)) (l .i) (plannedOf (said .result)) _ (told .result) _ (said .ensures) (told .ensures) (c .if1 .left)),
     )
 
 returns-2 : tie.Need-returns-2 Inv-loop μ-loop

@@ -1,7 +1,6 @@
 -- `checker::is_true` meets its contract: the description decides, and else the new bit.
 use mathlib.Core.Path.{sym, _∙_}
 use borrow.Author.Tests.{not-true, not-false}
-use Rattle.checker.specs.Parts.{trueBy}
 use borrow.Author.Needs.{needs}
 use Rattle.checker.proofs.is_true.Statement.{statement}
 use Rattle.checker.proofs.is_true.Tie as tie
@@ -10,7 +9,6 @@ may-tell-requires : tie.Need-may-tell-requires
 may-tell-requires c κs = search needs
 
 returns : tie.Need-returns
-unfolding trueBy
 returns c =
     let e = sym (c .before .may-tell .ensures) ∙ not-true (c .before .may-tell .result) (c .if1 .taken) in
     rw e
@@ -19,7 +17,6 @@ new-for-requires : tie.Need-new-for-requires
 new-for-requires c κs = search needs
 
 returns-2 : tie.Need-returns-2
-unfolding trueBy
 returns-2 c =
     let b = c .before .before in
     let e = sym (b .may-tell .ensures) ∙ not-false (b .may-tell .result) (c .before .if1 .left) in
