@@ -1,4 +1,10 @@
-/* The calls of Csobvarit for C: cell broadcast blocks, text, schedules and plans, on memory that the caller lends. */
+/*
+ * The calls of Csobvarit for C: cell broadcast blocks, text, schedules and plans, on memory that the caller lends.
+ *
+ * Every call takes every input of every length and ends; what it doesn't take it refuses by a number. No pointer may be
+ * null, even at length 0, and memory that a call is lent to write may not overlap anything else that it is given.
+ * cb_start and cb_intake are in libfirmware.a, the others in libcapi.a.
+ */
 #ifndef CSOBVARIT_H
 #define CSOBVARIT_H
 
@@ -59,19 +65,12 @@ uint32_t cb_start(uint8_t *state, size_t state_len);
  * A first block begins a message anew, whatever is held; a message is complete at the last-block mark or at
  * its fourth block (GSM 04.12, 3.3.1).
  *
- * The state and the output may not overlap, nor may the piece with either, and no pointer may be null, even
- * at length 0. Give each call the state as the call before left it. Nothing is kept elsewhere, so two channels
- * take two states.
+ * Give each call the state as the call before left it. Nothing is kept elsewhere, so two channels take two states.
  */
 uint32_t cb_intake(uint8_t *state, size_t state_len, const uint8_t *piece, size_t piece_len,
                    uint8_t *output, size_t output_len);
 
-/*
- * Text and blocks: the entries from here on are in libcapi.a.
- *
- * A code point is 16 bits; the default alphabet is GSM 03.38's. Memory that a call is lent to write may not overlap
- * anything else that it is given.
- */
+/* Text and blocks. A code point is 16 bits; the default alphabet is GSM 03.38's. */
 #define CB_TEXT 93 /* characters of a page, and code points that cb_read_text writes */
 
 #define CB_TEXT_LENGTH      10 /* refused: over 93 characters */
