@@ -11,8 +11,8 @@ use Rattle.page.specs.Paper.{samePage}
 use Rattle.plan.specs.Paper.{Plan, held, bad, planNumber, holds, lowestSlot, hasPage, pageAt, lowestAt}
 use Rattle.schedule.specs.Paper.{new, place, tells, read}
 use Rattle.checker.specs.Paper.{check, isTrue}
 use Rattle.board.specs.Paper.{Wanted, isWanted, isHeld, enter, tellsOf, reads, decide, enteredUnder}
-use Rattle.board.specs.Claims.{obeyed, Obeys, WantedPage, after}
+use Rattle.obeyed.specs.Claims.{obeyed, Obeys, WantedPage, after}
 use Rattle.laws.specs.Upto as upto
 
 -- a page of serial number 0010 and identifier 8001 in slots 1 and 2, advised, one of 0020 and 0005, optional

@@ -15,11 +15,11 @@ use Rattle.laws.proofs.Tests.{both}
 use Rattle.schedule.specs.Paper.{shown, begin, end, Read, unread, good, within, read, faults as readFaults}
 use Rattle.schedule.proofs.Givens.{faults-some}
 use Rattle.plan.specs.Paper.{Plan, planNumber}
 use Rattle.checker.specs.Paper.{Checked, unchecked, untrueAt, untrue, isTrue, verdict, faults, check}
-use Rattle.checker.specs.Truthful.{Truthful, Names, end-differs, slot-untrue, AcceptedExactly, NeverObeyed}
+use Rattle.truth.specs.Truthful.{Truthful, Names, end-differs, slot-untrue, AcceptedExactly, NeverObeyed}
 use Rattle.checker.proofs.Answers.{good-compared, all-true}
 use Rattle.plan.proofs.GoodPlan.{plan-low}
-use Rattle.checker.proofs.TrueAt.{true-keeps, keeps-true}
+use Rattle.truth.proofs.TrueAt.{true-keeps, keeps-true}
 
 read-low : (m : List ℕ) (received n : ℕ) → Among n (readFaults m received) → n < 40
 read-low m received n (inl e) = omega arith

@@ -8,7 +8,7 @@ use native.Mathlib.Omega.{arith}
 use Rattle.schedule.specs.Paper.{first, again, optional, advised, tells, shown}
 use Rattle.plan.specs.Paper.{Plan, entryAt, lowestAt, low15At}
 use Rattle.plan.proofs.Lowest.{leading}
-use Rattle.checker.specs.Truthful.{TrueAt, Truthful}
+use Rattle.truth.specs.Truthful.{TrueAt, Truthful}
 use Rattle.plan.proofs.GoodPlan.{kind-few}
 
 -- a slot by its plan, with what may be told of it

@@ -15,11 +15,11 @@ use Rattle.page.specs.Paper.{Name, samePage}
 use Rattle.page.proofs.Sameness.{same-reflexive, same-symmetric, same-transitive}
 use Rattle.plan.specs.Paper.{Plan, entryAt, pageAt, lowestAt}
 use Rattle.plan.proofs.Lowest.{leading}
-use Rattle.checker.specs.Truthful.{Truthful}
+use Rattle.truth.specs.Truthful.{Truthful}
 use Rattle.board.specs.Paper.{Wanted, Decided, isHeld, enter, decide, enteredUnder}
-use Rattle.board.specs.Claims.{obeyed, WantedPage, Board, passing, after, Period}
+use Rattle.obeyed.specs.Claims.{obeyed, WantedPage, Board, passing, after, Period}
 use Rattle.board.proofs.Sets.{held-entered, held-kept}
-use Rattle.board.proofs.Wakes.{slot-number, entered-own, wakes-truthful}
+use Rattle.obeyed.proofs.Wakes.{slot-number, entered-own, wakes-truthful}
 
 -- a board has the page of a slot, and holds a slot's number
 record Has (x : Name) (n : ℕ) (b : Board) : Type 0 where

@@ -10,14 +10,14 @@ use Rattle.laws.proofs.Tests.{both}
 use Rattle.schedule.specs.Paper.{first, optional, tells, end, read}
 use Rattle.plan.specs.Paper.{Plan, entryAt, lowestAt, low15At}
 use Rattle.plan.proofs.Lowest.{leading}
-use Rattle.checker.specs.Truthful.{Truthful}
+use Rattle.truth.specs.Truthful.{Truthful}
 use Rattle.board.specs.Paper.{Wanted, isWanted, isHeld, firstMatches, readsFor, tellsOf, decide, enteredUnder, entryFor}
-use Rattle.board.specs.Claims.{obeyed, Wakes, Why, marked, led, repeated, WakesOnly}
+use Rattle.obeyed.specs.Claims.{obeyed, Wakes, Why, marked, led, repeated, WakesOnly}
 use Rattle.board.proofs.Cases.{decide-reads, reads-told, entered-told}
 use Rattle.board.proofs.Matching.{low15-wanted, wanted-matches}
-use Rattle.board.proofs.Planned.{Planned, free-slot, advised-slot, lowest-slot, later-slot, planned}
+use Rattle.obeyed.proofs.Planned.{Planned, free-slot, advised-slot, lowest-slot, later-slot, planned}
 use Rattle.board.proofs.Sets.{Slot}
 use Rattle.board.proofs.Telling.{is-read}
 
 module _ (c p : Plan) (m : List ℕ) (received : ℕ) (t : Truthful c p m received) where
   -- the schedule tells of every slot of the plan

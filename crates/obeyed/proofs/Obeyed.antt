@@ -2,12 +2,12 @@
 use mathlib.Core.List.{List}
 use Prim.Native.Nat.{ℕ}
 use Rattle.plan.specs.Paper.{Plan}
-use Rattle.checker.specs.Truthful.{Truthful}
-use Rattle.checker.proofs.Accepted.{accepted-exactly}
+use Rattle.truth.specs.Truthful.{Truthful}
+use Rattle.truth.proofs.Accepted.{accepted-exactly}
 use Rattle.board.specs.Paper.{Wanted}
-use Rattle.board.specs.Claims.{Obeys, Wakes, WakesOnly, Period}
-use Rattle.board.proofs.Wakes.{wakes-truthful, wakes-only-truthful}
-use Rattle.board.proofs.Period.{period-truthful}
+use Rattle.obeyed.specs.Claims.{Obeys, Wakes, WakesOnly, Period}
+use Rattle.obeyed.proofs.Wakes.{wakes-truthful, wakes-only-truthful}
+use Rattle.obeyed.proofs.Period.{period-truthful}
 
 module _ (c p : Plan) (m : List ℕ) (received : ℕ) (w : Wanted) (o : Obeys c p m received w) where
   truthful : Truthful c p m received

@@ -11,8 +11,8 @@ use Rattle.laws.proofs.Upto.{below-suc}
 use Rattle.schedule.specs.Paper.{Told, first, again, optional, advised, Shown}
 use Rattle.plan.specs.Paper.{Plan, planNumber, entryAt, lowestAt, low15At}
 use Rattle.plan.proofs.Lowest.{leading}
 use Rattle.checker.specs.Paper.{Planned, plannedAt, leads, repeats, mayTell, newFor, isTrue}
-use Rattle.checker.specs.Truthful.{TrueAt}
+use Rattle.truth.specs.Truthful.{TrueAt}
 use Rattle.plan.proofs.GoodPlan.{kind-few}
 
 beq-true : (a b : Bool) → Bool·beq a b ≡ true → a ≡ b

@@ -1,0 +1,6 @@
+-- What `obeyed` proves.
+pub mod Example
+pub mod Obeyed
+pub mod Period
+pub mod Planned
+pub mod Wakes

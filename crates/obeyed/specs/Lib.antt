@@ -1,0 +1,2 @@
+-- What `obeyed` defines.
+pub mod Claims

@@ -1,0 +1,1 @@
+// A board that obeys an accepted schedule. No code of its own.

@@ -1,0 +1,3 @@
+-- What `truth` proves.
+pub mod Accepted
+pub mod TrueAt

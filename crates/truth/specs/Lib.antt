@@ -1,0 +1,2 @@
+-- What `truth` defines.
+pub mod Truthful
