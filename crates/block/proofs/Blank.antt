@@ -2,7 +2,7 @@
 use mathlib.Core.Path.{_≡_, refl, sym, ap, _∙_}
 use mathlib.Core.Bool.{Bool, true, false, _&&_, and-false, false≢true}
 use mathlib.Core.List.{List, [], _∷_}
-use Prim.Native.Nat.{ℕ, zero, suc, _+_, _≤_, _<_}
+use Prim.Native.Nat.{ℕ, _+_, _≤_, _<_}
 use native.Mathlib.Numerals.{add-one}
 use lib.ListN.{length, drop, getD, replicate, drop-of-length-le}
 use lib.Seq.{drop-cons}
@@ -39,8 +39,3 @@ allBlank-is (x ∷ xs) e = go (λ h. allBlank-is xs h) (eqb x 43) refl e
     go : (allBlank xs ≡ true → xs ≡ replicate (length xs) 43) → (b : Bool) → eqb x 43 ≡ b → (b && allBlank xs) ≡ true → x ∷ xs ≡ 43 ∷ replicate (length xs) 43
     go rest true q h = rw (eqb-true x 43 q) (ap (λ (l : List ℕ). 43 ∷ l) (rest h))
     go rest false q h = absurd (false≢true h)
-
-pub allBlank-replicate : (n : ℕ) → allBlank (replicate n 43) ≡ true
-unfolding allBlank
-allBlank-replicate zero = refl
-allBlank-replicate (suc n) = allBlank-replicate n

@@ -2,4 +2,3 @@
 pub mod Paper
 pub mod Place
 pub mod Coded
-pub mod History

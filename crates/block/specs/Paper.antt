@@ -36,11 +36,6 @@ abbrev pub kindNumber : Kind → ℕ
 kindNumber page = 1
 kindNumber schedule = 2
 
--- 01 Numbers given: the answer to the piece that completes a message
-abbrev pub completes : Kind → ℕ
-completes page = 0
-completes schedule = 7
-
 -- 01 Blocks, 000 Table 1: the sequence code of block i of a message, counted from 0
 abbrev pub codeOf : Kind → ℕ → ℕ
 codeOf k i = cond (eqb i 0) (firstCode k) i

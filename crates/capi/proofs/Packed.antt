@@ -13,8 +13,8 @@ use Rattle.text.specs.declared.Got.{Got}
 use Rattle.text.specs.declared.Got.the-variants as got
 use Rattle.text.specs.Paper.{Writing, Reading, written, reading}
 use Rattle.text.specs.Coded.{writingOf, readingOf}
-use Rattle.text.proofs.Back.{used-bounds}
-use Rattle.text.proofs.Reader.{characters-bounded}
+use Rattle.readback.proofs.Back.{used-bounds}
+use Rattle.readback.proofs.Reader.{characters-bounded}
 use Rattle.capi.specs.Paper.{Left, packed, writeCall, readCall}
 
 -- a number alone, and another that goes with 0

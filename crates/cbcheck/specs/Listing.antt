@@ -6,7 +6,7 @@ use Prim.Native.Nat.{ℕ, _+_, _*_, _/_, _%_}
 use lib.ListN.{length}
 use lib.Dec.{eqb}
 use Rattle.block.specs.Paper.{Held, Given}
-use Rattle.block.specs.History.{after}
+use Rattle.history.specs.History.{after}
 use Rattle.plan.specs.Paper.{Plan}
 use Rattle.checker.specs.Paper.{Checked, check}
 use Rattle.lines.specs.Paper.{decimal, cut, listing}

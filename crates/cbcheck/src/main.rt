@@ -3,7 +3,7 @@ ghost use mathlib.Core.Path.{_≡_};
 ghost use Prim.Native.Nat.{_+_, _≤_, _<_};
 ghost use lib.ListN.{length, take};
 ghost use Rattle.answer.specs.Number.{numberOf};
-ghost use Rattle.block.specs.History.{after};
+ghost use Rattle.history.specs.History.{after};
 ghost use Rattle.firmware.specs.Paper.{lent, heldIn};
 ghost use Rattle.plan.specs.Coded.{planOf};
 ghost use Rattle.checker.specs.Coded.{checkedOf};

@@ -13,7 +13,7 @@ use Rattle.alphabet.specs.Paper.{codePoint}
 use Rattle.page.specs.Paper.{header, octet}
 use Rattle.text.specs.Paper.{Reading, received, trimmed, shown, reading}
 use Rattle.text.proofs.Cases.{reading-13, reading-0}
-use Rattle.text.proofs.Reader.{characters-bounded}
+use Rattle.readback.proofs.Reader.{characters-bounded}
 use Rattle.cbtext.specs.Listing.{textPart, hexPart, body}
 
 -- the header is in the first six octets

@@ -6,7 +6,7 @@ use Prim.Native.Nat.{ℕ, _+_, _*_, _-_, _/_, _%_}
 use lib.ListN.{length, take, drop}
 use lib.Dec.{eqb, ltb}
 use Rattle.block.specs.Paper.{Held, Given}
-use Rattle.block.specs.History.{after}
+use Rattle.history.specs.History.{after}
 use Rattle.alphabet.specs.Paper.{codePoint}
 use Rattle.page.specs.Paper.{header, octet}
 use Rattle.text.specs.Paper.{received, trimmed}

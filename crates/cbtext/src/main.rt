@@ -4,7 +4,7 @@ ghost use mathlib.Core.Bool.{true};
 ghost use Prim.Native.Nat.{_+_, _*_, _≤_, _<_};
 ghost use lib.ListN.{length, take};
 ghost use Rattle.laws.specs.Received.{wholeBlocks};
-ghost use Rattle.block.specs.History.{after};
+ghost use Rattle.history.specs.History.{after};
 ghost use Rattle.firmware.specs.Paper.{lent, heldIn};
 ghost use Rattle.lines.specs.Paper.{hexadecimal, cut};
 ghost use Rattle.lines.specs.Inner.{Puts};

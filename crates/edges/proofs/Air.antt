@@ -10,12 +10,12 @@ use lib.Dec.{eqb}
 use borrow.Author.Tests.{eq-eqb, ne-eqb, lt-ltb, le-ltb}
 use Rattle.laws.specs.Upto.{each}
 use Rattle.laws.proofs.Parts.{take-replicate}
-use Rattle.block.specs.Paper.{Kind, page, schedule, kindNumber, completes, lastUsed, blocks, Held, Given, Left, filled, start, proper, step, written}
-use Rattle.block.specs.History.{after, piece, pieces, expected}
-use Rattle.block.proofs.History.{standing, standing-proper}
-use Rattle.block.proofs.Taken.{blocks-taken}
+use Rattle.block.specs.Paper.{Kind, page, schedule, kindNumber, lastUsed, blocks, Held, Given, Left, filled, start, proper, step, written}
+use Rattle.history.specs.History.{after, piece, pieces, expected}
+use Rattle.history.proofs.History.{standing, standing-proper, number-handed}
+use Rattle.history.proofs.Taken.{blocks-taken}
 use Rattle.text.specs.Paper as text
-use Rattle.text.proofs.Back.{written-length, used-bounds as text-used, text-back-blocks}
+use Rattle.readback.proofs.Back.{written-length, used-bounds as text-used, text-back-blocks}
 use Rattle.sender.specs.Paper.{usedOctets, padded, planned, Writing, write}
 use Rattle.checker.specs.Paper.{check}
 use Rattle.edges.specs.Air.{blockOf, takenAt, StartedProper, Carried, OverTheAir, OursDelivered}
@@ -67,15 +67,11 @@ module _ (k : Kind) (m : List ℕ) (used : ℕ) (o : List ℕ) (h : Held) (whole
         taken = λ i l. ap (λ (g : Given). g .number) (taken-expected i (omega arith)) ∙ rw (lt-ltb (suc i) j l);
         handed =
             taken-expected (j - 1) (omega arith) ∙ handed-last
-            ∙ ap (λ (n : ℕ). record { number = n; received = 22 * j; octets = filled (take (22 * j) m); next = start }) (completing k);
+            ∙ ap (λ (n : ℕ). record { number = n; received = 22 * j; octets = filled (take (22 * j) m); next = start }) (number-handed k);
         ignored =
             λ i l f. ap (λ (g : Given). g .number) (taken-expected i f)
             ∙ rw (le-ltb (suc i) j (omega arith), ne-eqb (suc i) j (omega arith));
       }
-    where
-      completing : (k : Kind) → cond (eqb (kindNumber k) 2) 7 0 ≡ completes k
-      completing page = refl
-      completing schedule = refl
 
 pub over-the-air : OverTheAir
 over-the-air heading t p o u h z room size good =

@@ -7,8 +7,8 @@ use lib.ListN.{length, take, drop, replicate}
 use Rattle.laws.specs.Upto.{each}
 use Rattle.page.specs.Paper.{Heading}
 use Rattle.text.specs.Paper as text
-use Rattle.block.specs.Paper.{Kind, page, schedule, completes, lastUsed, Held, Given, filled, start, proper, step, written}
-use Rattle.block.specs.History.{after}
+use Rattle.block.specs.Paper.{Kind, page, schedule, lastUsed, Held, Given, filled, start, proper, step, written}
+use Rattle.history.specs.History.{completes, after}
 use Rattle.plan.specs.Paper.{Plan}
 use Rattle.sender.specs.Paper.{write}
 use Rattle.checker.specs.Paper.{check, unchecked}

@@ -8,8 +8,8 @@ use lib.ListN.{length}
 use lib.Dec.{eqb}
 use borrow.Author.Tests.{eq-eqb, ne-eqb, eqb-true}
 use Rattle.block.specs.Paper.{Given, start, step}
-use Rattle.block.specs.History.{after, answered}
-use Rattle.block.proofs.History.{standing, standing-proper, after-append, number-small, complete-exactly, complete-gives}
+use Rattle.history.specs.History.{after, answered}
+use Rattle.history.proofs.History.{standing, standing-proper, after-append, number-small, complete-exactly, complete-gives}
 use Rattle.block.proofs.Steps.{proper-facts}
 use Rattle.firmware.specs.Paper.{Left, lent, heldIn, moved, startCall, intakeCall}
 use Rattle.firmware.specs.History.{Call, on, off, afterCalls, counted, called, LentHistory}

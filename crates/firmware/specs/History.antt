@@ -6,8 +6,8 @@ use mathlib.Core.Logic.{_↔_}
 use Prim.Native.Nat.{ℕ, _+_, _*_, _%_}
 use lib.ListN.{length}
 use lib.Dec.{eqb}
-use Rattle.block.specs.Paper.{Kind, completes, start, filled}
-use Rattle.block.specs.History.{Latest, Run, contents}
+use Rattle.block.specs.Paper.{Kind, start, filled}
+use Rattle.history.specs.History.{completes, Latest, Run, contents}
 use Rattle.firmware.specs.Paper.{Left, lent, startCall, intakeCall}
 
 -- 01 Intake: a call of the intake: on the state as the call before left it, or on memory that is not 90 octets

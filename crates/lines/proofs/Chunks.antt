@@ -6,7 +6,7 @@ use native.Mathlib.Nat.{add-zero}
 use native.Mathlib.Omega.{arith}
 use lib.ListN.{length}
 use Rattle.block.specs.Paper.{Held, Given, step}
-use Rattle.block.specs.History.{after}
+use Rattle.history.specs.History.{after}
 use Rattle.lines.specs.Paper.{listing, cut, InChunks}
 use Rattle.lines.proofs.Pieces.{length-pieces, cut-append}
 

@@ -10,8 +10,9 @@ use borrow.Author.Tests.{eqb-true, ne-eqb, not-false}
 use Rattle.laws.specs.Received.{wholeBlocks}
 use Rattle.laws.proofs.Received.{whole-times, whole-bounds}
 use Rattle.laws.proofs.Ruled.{ruling, Ruling, refuses, passes, Among, NoneHolds}
-use Rattle.block.specs.Paper.{Kind, page, schedule, completes, Held, Given, proper, refusal, code, follows, faults, last, begun, added, made, handed, kept, step}
+use Rattle.block.specs.Paper.{Kind, page, schedule, Held, Given, proper, refusal, code, follows, faults, last, begun, added, made, handed, kept, step}
 use Rattle.block.proofs.Steps.{Proper, proper-facts}
+use Rattle.history.specs.History.{completes}
 use Rattle.lines.proofs.Listed.{Taken}
 
 -- a message complete

@@ -8,8 +8,8 @@ use native.Mathlib.Omega.{arith}
 use lib.ListN.{length, take, drop}
 use lib.Dec.{eqb}
 use Rattle.block.specs.Paper.{Given, step}
-use Rattle.block.specs.History.{after}
-use Rattle.block.proofs.History.{number-small}
+use Rattle.history.specs.History.{after}
+use Rattle.history.proofs.History.{number-small}
 use Rattle.firmware.specs.Paper.{Left, lent, heldIn, moved, intakeCall}
 use Rattle.firmware.proofs.History.{right, answer-of}
 use Rattle.lines.specs.Paper.{listing, pieces, cut}

@@ -6,7 +6,7 @@ use Prim.Native.Nat.{ℕ, zero, suc, _+_, _*_, _/_, _%_}
 use lib.ListN.{length, take, drop}
 use lib.Dec.{leb, ltb}
 use Rattle.block.specs.Paper.{Held, Given, step}
-use Rattle.block.specs.History.{after}
+use Rattle.history.specs.History.{after}
 
 -- the decimal digits of a number that has at most k + 1 of them, in ASCII
 unfoldable pub spelled : ℕ → ℕ → List ℕ

@@ -16,10 +16,6 @@ empty : (s : List ℕ) → length s ≡ 0 → s ≡ []
 empty [] e = refl
 empty (x ∷ s) e = absurd (omega arith)
 
-pub trim-nil : trimmed [] ≡ []
-unfolding trimmed
-trim-nil = refl
-
 -- a CR at the end is dropped
 pub trim-cr : (s : List ℕ) → trimmed (s ++ (cr ∷ [])) ≡ trimmed s
 unfolding trimmed

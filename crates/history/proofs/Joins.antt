@@ -2,19 +2,18 @@
 use mathlib.Core.Path.{_≡_, refl, sym, ap, _∙_}
 use mathlib.Core.Bool.{Bool, true, false, cond, not, _&&_}
 use mathlib.Core.List.{List, [], _∷_, _++_, append-assoc, append-nil}
-use Prim.Native.Nat.{ℕ, suc, _*_, _-_, _≤_}
+use Prim.Native.Nat.{ℕ, zero, suc, _*_, _-_, _≤_}
 use native.Mathlib.Omega.{arith}
 use lib.ListN.{length, take, drop, replicate, length-append, length-drop, length-replicate}
 use lib.Seq.{take-at, drop-at}
 use lib.Dec.{eqb, leb, lit≤}
 use borrow.Author.Tests.{eq-eqb, ne-eqb, le-leb}
 use Rattle.laws.proofs.Snoc.{length-snoc}
 use Rattle.block.specs.Paper.{Kind, page, schedule, kindNumber, mark, code, last, filled, Held, start, proper, allBlank, refusal, added, step}
 use Rattle.block.specs.Place.{none, first, next, placeOf}
 use Rattle.block.specs.Coded.{held, outcome}
-use Rattle.block.specs.History.{IsBlock, contents}
-use Rattle.block.proofs.Blank.{allBlank-replicate}
 use Rattle.block.proofs.Steps.{step-met, met}
+use Rattle.history.specs.History.{IsBlock, contents}
 
 -- unmarked blocks of a message of kind k, in order from the first, none or up to three
 pub data Part (k : Kind) : List (List ℕ) → Type 0 where
@@ -46,6 +45,11 @@ added-holding : {k : Kind} {u : List (List ℕ)} (p : List ℕ) → Part k u →
 added-holding {k} {u} p part =
     let front : take (22 * length u) (filled (contents u)) ≡ contents u = take-at (contents u) _ (22 * length u) (length-contents part) in
     rw (front, length-snoc u p, contents-snoc u p)
+
+allBlank-replicate : (n : ℕ) → allBlank (replicate n 43) ≡ true
+unfolding allBlank
+allBlank-replicate zero = refl
+allBlank-replicate (suc n) = allBlank-replicate n
 
 -- a state that holds blocks is proper
 pub proper-holding : {k : Kind} {u : List (List ℕ)} → Part k u → 1 ≤ length u → proper (holding k u) ≡ true

@@ -20,11 +20,11 @@ use Rattle.alphabet.specs.Paper.{codePoint, septetOf, noSeptet}
 use Rattle.alphabet.proofs.Laws.{Writes, reads-cr}
 use Rattle.page.specs.Paper.{Heading, headerOctets, octet}
 use Rattle.page.proofs.HeaderBack.{header-length, header-scheme}
 use Rattle.text.specs.Paper.{Writing, cr, septets, packed, pageOf, usedOctets, foreign, endsInCr, written, wholeOf, received, trimmed, shown, reading}
-use Rattle.text.proofs.Accepted.{writer-accepts}
 use Rattle.text.proofs.Cases.{reading-0}
 use Rattle.text.proofs.Septets.{known, septets-count, septets-below}
-use Rattle.text.proofs.Trim.{trim-nil, trim-cr, trim-other, take-last}
+use Rattle.text.proofs.Trim.{trim-cr, trim-other, take-last}
+use Rattle.readback.proofs.Accepted.{writer-accepts}
 
 -- 128 ^ k divides 256 ^ m where k septets are no more bits than m octets
 bits-kept : (k m : ℕ) → 7 * k ≤ 8 * m → 128 ^ k * 2 ^ (8 * m - 7 * k) ≡ 256 ^ m
@@ -66,6 +66,10 @@ trim-last t pos f ends =
     let last : foreign (c ∷ []) ≡ false = neither (foreign front) (foreign (c ∷ [])) (sym (foreign-append front (c ∷ [])) ∙ sym (ap foreign split) ∙ f) .1 in
     let w : Writes c (septetOf c) = known c (neither (eqb (septetOf c) noSeptet) false last .0) in
     ap trimmed m ∙ trim-other (map septetOf front) (septetOf c) (no-cr c w (eqb-false c cr ends)) ∙ sym m
+
+trim-nil : trimmed [] ≡ []
+unfolding trimmed
+trim-nil = refl
 
 trim-found : (t : List ℕ) → foreign t ≡ false → endsInCr t ≡ false → trimmed (map septetOf t) ≡ map septetOf t
 trim-found [] f ends = trim-nil

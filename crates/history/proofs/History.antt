@@ -13,10 +13,10 @@ use borrow.Author.Tests.{eq-eqb, ne-eqb, eqb-true, eqb-false, leb-true, le-leb, 
 use Rattle.laws.proofs.Ruled.{ruling, Ruling, refuses, passes, Among, NoneHolds}
 use Rattle.laws.proofs.Snoc.{length-snoc, snoc-injective, each-snoc}
 use Rattle.laws.proofs.Tests.{both, neither, either}
-use Rattle.block.specs.Paper.{Kind, page, schedule, kindNumber, completes, codeOf, link, mark, code, last, follows, reserved, faults, filled, Held, Given, start, proper, refusal, made, step}
+use Rattle.block.specs.Paper.{Kind, page, schedule, kindNumber, codeOf, link, mark, code, last, follows, reserved, faults, filled, Held, Given, start, proper, refusal, made, step}
 use Rattle.block.specs.Coded.{outcome}
-use Rattle.block.specs.History.{IsBlock, Run, Latest, contents, after, answered, CompleteExactly, CompleteGives, NeverFinishesLeftovers}
-use Rattle.block.proofs.Joins.{Part, nothing, more, Base, fresh, holds, join, holding, length-part, proper-holding, proper-start}
+use Rattle.history.specs.History.{completes, IsBlock, Run, Latest, contents, after, answered, CompleteExactly, CompleteGives, NeverFinishesLeftovers}
+use Rattle.history.proofs.Joins.{Part, nothing, more, Base, fresh, holds, join, holding, length-part, proper-holding, proper-start}
 
 pub after-append : (h : Held) (ps qs : List (List ℕ)) → after h (ps ++ qs) ≡ after (after h ps) qs
 unfolding after
@@ -176,7 +176,7 @@ run-of {k} {u} {p} part b e =
     }
 
 -- the number of a message handed out is its kind's
-number-handed : (k : Kind) → cond (eqb (kindNumber k) 2) 7 0 ≡ completes k
+pub number-handed : (k : Kind) → cond (eqb (kindNumber k) 2) 7 0 ≡ completes k
 number-handed page = refl
 number-handed schedule = refl
 

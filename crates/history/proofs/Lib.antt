@@ -1,0 +1,4 @@
+-- What `history` proves.
+pub mod History
+pub mod Joins
+pub mod Taken

@@ -1,0 +1,2 @@
+-- What `history` states.
+pub mod History

@@ -1,0 +1,5 @@
+-- What `readback` proves.
+pub mod Accepted
+pub mod Back
+pub mod Bits
+pub mod Reader
