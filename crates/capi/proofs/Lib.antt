@@ -1,5 +1,4 @@
 -- What `capi` proves.
-pub mod Codes
 pub mod Decided
 pub mod Determined
 pub mod Filed
@@ -7,4 +6,3 @@ pub mod Packed
 pub mod Planned
 pub mod Scheduled
 pub mod Sent
-pub mod Unpacked

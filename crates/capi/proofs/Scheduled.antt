@@ -15,10 +15,9 @@ use Rattle.schedule.specs.declared.Reading.{Reading}
 use Rattle.schedule.specs.declared.Reading.the-variants as readings
 use Rattle.schedule.specs.declared.Given.{Given as GivenCode}
 use Rattle.schedule.specs.declared.Given.the-variants as givens
-use Rattle.schedule.specs.Paper.{end, faults, Read, unread, good, read, slotOf, Given, next, noMore, refusal, givenAt, given}
+use Rattle.schedule.specs.Paper.{end, faults, Read, unread, good, read, Given, next, noMore, refusal, givenAt, given}
 use Rattle.schedule.specs.Coded.{toldOf, readOf, givenOf}
-use Rattle.schedule.proofs.Order.{order-rank}
-use Rattle.schedule.proofs.Once.{rank-onto}
+use Rattle.order.proofs.Ranks.{order-below}
 use Rattle.capi.specs.Paper.{bitOf, codeOf, packedRead, scheduleCall, packedGiven, descriptionCall}
 
 -- a bool as a number
@@ -47,14 +46,8 @@ module _ (m : List ℕ) (received : ℕ) where
       go (passes h e) = rw e (omega arith, omega arith)
 
   -- a slot that is given is not past End, which has six bits
-  pub slot-below : (k : ℕ) → k < end m → slotOf m k < end m
-  slot-below k l =
-      let w = rank-onto m k l in
-      let here : slotOf m k ≡ w .slot = ap (slotOf m) (sym (w .ranks)) ∙ order-rank m (w .slot) (w .below) in
-      rw here (w .below)
-
   slot-at-small : (k : ℕ) (b : Bool) → ltb k (end m) ≡ b → slotNumber (givenAt m k) < 64
-  slot-at-small k true e = rw e (omega (arith, slot-below k (ltb-true k (end m) e)))
+  slot-at-small k true e = rw e (omega (arith, order-below m k (ltb-true k (end m) e)))
   slot-at-small k false e = rw e (omega arith)
 
   pub slot-small : (k : ℕ) → slotNumber (given m received k) < 64

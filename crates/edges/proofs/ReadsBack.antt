@@ -10,12 +10,10 @@ use lib.Seq.{take-at, take-suc, split-at, getD-append-seam, getD-append-add, tak
 use lib.Dec.{eqb, ltb}
 use borrow.Author.Tests.{ltb-true, ltb-false, lt-ltb, le-ltb, le-leb, lt-leb}
 use Rattle.laws.specs.Radix.{Below}
-use Rattle.laws.specs.Upto.{picked}
 use Rattle.laws.proofs.Radix.{below-nil, below-cons, below-append, below-replicate}
-use Rattle.laws.proofs.Upto.{picked-agree, picked-length, each-length, each-at}
+use Rattle.laws.proofs.Upto.{picked-agree, each-length, each-at}
 use Rattle.schedule.specs.Paper.{Told, first, again, optional, advised, Shown, octet, bitmap, end, new, width, told, place, order, rank, tells, grouped}
-use Rattle.schedule.proofs.Order.{groups-whole, order-rank}
-use Rattle.schedule.proofs.Once.{rank-below, rank-onto}
+use Rattle.order.proofs.Ranks.{length-order, order-rank, order-below, rank-below}
 use Rattle.sender.specs.Paper.{octetsOf, octetsOfAll, groupedIn, group, descriptions, newBit, newBits, bitmapOf, usedOctets, padded, messageOf}
 use Rattle.edges.specs.ReadsBack.{Tellable, Fits, ReadsBack}
 
@@ -136,19 +134,6 @@ module _ (s : ℕ → Shown) (n : ℕ) where
       let small = newBit-bit (8 * j + (suc k + r)) .0 in
       let half : (2 * x + bit) / 2 ≡ x = omega arith in
       rw (add-suc, pow-succ', ← div-div-eq-div-mul (2 * x + bit) 2 (2 ^ r), half) (newBits-bit j k r)
-
-length-order : (m : List ℕ) → length (order m) ≡ end m
-unfolding order
-length-order m =
-    length-append (picked (grouped m true) (end m)) (picked (grouped m false) (end m))
-    ∙ rw (picked-length (grouped m true) (end m), picked-length (grouped m false) (end m)) (groups-whole m)
-
--- what the order has is a slot up to End
-order-below : (m : List ℕ) (k : ℕ) → k < end m → getD (order m) k 0 < end m
-order-below m k l =
-    let w = rank-onto m k l in
-    let here : getD (order m) k 0 ≡ w .slot = ap (λ (j : ℕ). getD (order m) j 0) (sym (w .ranks)) ∙ order-rank m (w .slot) (w .below) in
-    rw here (w .below)
 
 module _ (b : ℕ) (s : ℕ → Shown) (n : ℕ) (f : Fits b s n) where
   front : List ℕ

@@ -1,6 +1,5 @@
 -- What `schedule` proves.
 pub mod Givens
-pub mod Giving
 pub mod Header
 pub mod Listing
 pub mod News
@@ -8,6 +7,4 @@ pub mod Order
 pub mod Places
 pub mod Determined
 pub mod Fills
-pub mod Once
 pub mod Repeats
-pub mod Slides

@@ -1,5 +1,5 @@
--- The order of the descriptions: each slot up to End stands in it once, at its rank.
-use mathlib.Core.Path.{_≡_, refl}
+-- The order of the descriptions: the slots of one group after those of the other.
+use mathlib.Core.Path.{_≡_}
 use mathlib.Core.Bool.{Bool, true, false}
 use mathlib.Core.List.{List}
 use Prim.Native.Nat.{ℕ, _+_, _<_}
@@ -9,9 +9,9 @@ use lib.ListN.{length, List·getD-append}
 use lib.Seq.{getD-append-add}
 use Rattle.laws.specs.Upto.{count, picked}
 use Rattle.laws.proofs.Upto.{count-grows, count-rest, picked-length, picked-at}
-use Rattle.schedule.specs.Paper.{end, new, grouped, base, rank, order, slotOf}
+use Rattle.schedule.specs.Paper.{end, grouped, base, order, slotOf}
 use Rattle.schedule.specs.Parts.{Picks}
-use Rattle.schedule.proofs.News.{grouped-flip, grouped-own}
+use Rattle.schedule.proofs.News.{grouped-flip}
 
 module _ (m : List ℕ) where
   -- the two groups make up the slots up to End
@@ -30,7 +30,3 @@ module _ (m : List ℕ) where
       let news = picked (grouped m true) (end m) in
       rw (← picked-length (grouped m true) (end m), getD-append-add news (picked (grouped m false) (end m)) k 0, ← w .before)
       (picked-at (grouped m false) (end m) i (w .below) (w .passes))
-
-  -- a slot's rank is its place in the order
-  pub order-rank : (i : ℕ) → i < end m → slotOf m (rank m i) ≡ i
-  order-rank i l = order-picks (new m i) (count (grouped m (new m i)) i) i (record { below = l; passes = grouped-own m i; before = refl })

@@ -1,6 +1,5 @@
 -- The code's values as document 01's numbers and lists.
 use mathlib.Core.List.{map}
-use Prim.Native.Nat.{ℕ}
 use Rattle.answer.specs.Number.{numberOf}
 use Rattle.schedule.specs.declared.Description.{Description}
 use Rattle.schedule.specs.declared.Description.the-variants.{First, Repeat, Optional, Advised}
@@ -8,13 +7,9 @@ use Rattle.schedule.specs.declared.Slot.{Slot}
 use Rattle.schedule.specs.declared.Reading.{Reading}
 use Rattle.schedule.specs.declared.Table.{Table}
 use Rattle.schedule.specs.declared.Given.{Given as GivenCode}
-use Rattle.schedule.specs.declared.Numbered.{Numbered as NumberedCode}
-use Rattle.schedule.specs.declared.Counted.{Counted}
-use Rattle.schedule.specs.declared.Ordered.{Ordered as OrderedCode}
-use Rattle.schedule.specs.Paper.{Told, first, again, optional, advised, Shown, Read, unread, Listed, Given, next, noMore, refusal, Numbered, Ordered}
+use Rattle.schedule.specs.Paper.{Told, first, again, optional, advised, Shown, Read, unread, Listed, Given, next, noMore, refusal}
 use Rattle.schedule.specs.declared.Reading.the-variants as readings
 use Rattle.schedule.specs.declared.Given.the-variants as givens
-use Rattle.schedule.specs.declared.Counted.the-variants.{Count, Refused}
 
 -- the four kinds of description
 abbrev pub toldOf : Description → Told
@@ -39,15 +34,3 @@ abbrev pub givenOf : GivenCode → Given
 givenOf (givens.Next n s) = next n (shownOf s)
 givenOf givens.NoMore = noMore
 givenOf (givens.Refused r) = refusal (numberOf r)
-
-abbrev pub numberedOf : NumberedCode → Numbered
-numberedOf x = record { number = x .number; shown = shownOf (x .slot) }
-
--- 0 with the number of slots given, or the refusal's number with 0
-abbrev pub countOf : Counted → ℕ × ℕ
-countOf (Count k) = (0, k)
-countOf (Refused r) = (numberOf r, 0)
-
-abbrev pub orderedOf : OrderedCode → Ordered
-orderedOf o =
-    record { number = countOf (o .answer) .0; count = countOf (o .answer) .1; given = map numberedOf (o .given) }

@@ -2,4 +2,3 @@
 pub mod Paper
 pub mod Coded
 pub mod Parts
-pub mod Claims

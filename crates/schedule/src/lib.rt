@@ -1,11 +1,11 @@
-// Schedule messages read: their header, their slots all at once, and their descriptions one by one.
+// Schedule messages read: their header, their slots all at once, and their descriptions by place.
 mod groups;
 mod told;
 
 ghost use mathlib.Core.Path.{_≡_};
 ghost use Prim.Native.Nat.{_≤_};
-ghost use Rattle.schedule.specs.Paper.{place as placeOf, base, read, listed, given, ordered};
-ghost use Rattle.schedule.specs.Coded.{readOf, listedOf, givenOf, orderedOf};
+ghost use Rattle.schedule.specs.Paper.{place as placeOf, base, read, listed, given};
+ghost use Rattle.schedule.specs.Coded.{readOf, listedOf, givenOf};
 ghost use Rattle.schedule.specs.Parts.{Readable, headRead, Group, unlistedBy};
 use answer::Refusal;
 use answer::whole_blocks;
@@ -51,24 +51,6 @@ pub enum Given {
     Next(usize, Slot),
     NoMore,
     Refused(Refusal),
-}
-
-// A slot by its number.
-pub struct Numbered {
-    pub number: usize,
-    pub slot: Slot,
-}
-
-// How many slots are given, or a refusal.
-pub enum Counted {
-    Count(usize),
-    Refused(Refusal),
-}
-
-// All that the description reader gives, in the message's order.
-pub struct Ordered {
-    pub answer: Counted,
-    pub given: [Numbered; 48],
 }
 
 // Begin and End of a message whose header is good.
@@ -215,91 +197,5 @@ pub fn description_at(message: &[u8], received: usize, place: usize) -> Given
             let slots = table.slots;
             Given::Next(i + 1, slots[i])
         }
-    }
-}
-
-// The lent message, the octets received of it, and how many of its descriptions are given already.
-pub struct Descriptions<'a> {
-    pub message: &'a [u8],
-    pub received: usize,
-    pub place: usize,
-}
-
-// The descriptions of a message, none given yet.
-pub fn open<'a>(message: &'a [u8], received: usize) -> Descriptions<'a>
-    ensures { λ r. ⌜ (r .message ≡ message .entry) × (r .received ≡ received) × (r .place ≡ 0) ⌝ }
-{
-    Descriptions {
-        message,
-        received,
-        place: 0,
-    }
-}
-
-// What is given next.
-pub fn next<'a>(descriptions: Descriptions<'a>) -> Given
-    ensures { λ r. ⌜ givenOf r ≡ given (now (descriptions .entry .message)) (descriptions .entry .received) (descriptions .entry .place) ⌝ }
-{
-    description_at(
-        descriptions.message,
-        descriptions.received,
-        descriptions.place,
-    )
-}
-
-// The same descriptions with another number given.
-pub fn moved<'a>(descriptions: Descriptions<'a>, place: usize) -> Descriptions<'a>
-    ensures { λ r. ⌜ (r .message ≡ descriptions .entry .message) × (r .received ≡ descriptions .entry .received) × (r .place ≡ place) ⌝ }
-{
-    Descriptions {
-        message: descriptions.message,
-        received: descriptions.received,
-        place,
-    }
-}
-
-// What is given once k descriptions are.
-fn given_at(message: &[u8], received: usize, k: usize) -> Given
-    ensures { λ r. ⌜ givenOf r ≡ given (now (message .entry)) received k ⌝ }
-{
-    next(moved(open(message, received), k))
-}
-
-// All that is given from opening on. Each step reads the message anew: where the order doesn't matter, `read_slots` is the fast way.
-pub fn all_given(message: &[u8], received: usize) -> Ordered
-    ensures { λ r. ⌜ orderedOf r ≡ ordered (now (message .entry)) received ⌝ }
-{
-    let mut given = [Numbered {
-        number: 0,
-        slot: Slot {
-            new: false,
-            description: Description::Optional,
-        },
-    }; 48];
-    let mut k = 0;
-    while k < SLOTS {
-        let step = given_at(message, received, k);
-        match step {
-            Given::Next(number, slot) => {
-                given[k] = Numbered { number, slot };
-            }
-            Given::NoMore => {
-                return Ordered {
-                    answer: Counted::Count(k),
-                    given,
-                };
-            }
-            Given::Refused(refusal) => {
-                return Ordered {
-                    answer: Counted::Refused(refusal),
-                    given,
-                };
-            }
-        }
-        k += 1;
-    }
-    Ordered {
-        answer: Counted::Count(k),
-        given,
     }
 }

@@ -1,4 +1,4 @@
--- `schedule::open` meets its contract: a walk of its MIR, by hand. A `Descriptions` is made of the slice and the number passed and 0, in the result's local.
+-- `descriptions::open` meets its contract: a walk of its MIR, by hand. A `Descriptions` is made of the slice and the number passed and 0, in the result's local.
 -- A `&[u8]` is Copy, so what it owns is had twice: once for message at exit, and once inside the result, beside the facts of the numbers.
 -- Assumes nothing.
 use mathlib.Core.Path.{refl}
@@ -35,13 +35,13 @@ use denote.Triple.Spec.{Meets, tripleOf}
 use denote.Triple.Table.{entered}
 use denote.Triple.Walked.{says, Stays, stay-none, stay-none-slice, walkOf, goes-none, goes-none-slice, Walks, ends-at, walked, walk-meets}
 use denote.Exit.{yes}
-use Rattle.schedule.specs.declared.Descriptions.{Descriptions}
-use Rattle.schedule.proofs.Descriptions as T
-use Rattle.schedule.proofs.Descriptions.Laws as T′
-use Rattle.schedule.proofs.open.Key.{name as #schedule·open}
-use Rattle.schedule.proofs.open as opens
-use Rattle.schedule.proofs.open.Statement as stated
-use Rattle.schedule.proofs.open.Code as code
+use Rattle.descriptions.specs.declared.Descriptions.{Descriptions}
+use Rattle.descriptions.proofs.Descriptions as T
+use Rattle.descriptions.proofs.Descriptions.Laws as T′
+use Rattle.descriptions.proofs.open.Key.{name as #descriptions·open}
+use Rattle.descriptions.proofs.open as opens
+use Rattle.descriptions.proofs.open.Statement as stated
+use Rattle.descriptions.proofs.open.Code as code
 
 abbrev stayed : Stays (opens.ended .signature .params) (opens.ended .kept)
 stayed = (stay-none-slice (0 ∷ []) tt (plain (λ _. u8)) yes, (stay-none (λ _. usize) yes, tt))
@@ -95,5 +95,5 @@ pub open-spec : {M : Type 1} → stated.statement M
 unfolding code.routine tablesOf
 open-spec 𝓤 H 𝓜 𝓖 𝓡 =
     entered 𝓤 H (tripleOf 𝓤 H (𝓖 .A) opens.signature (opens.spec 𝓤 H (𝓖 .A) (𝓜 .mem) (𝓡 .run)))
-    (tables 𝓤 H 𝓜 𝓡 code.env .C) (tables 𝓤 H 𝓜 𝓡 code.env .Λ) #schedule·open code.function (code.unfolded 𝓤 H 𝓜 𝓡)
+    (tables 𝓤 H 𝓜 𝓡 code.env .C) (tables 𝓤 H 𝓜 𝓡 code.env .Λ) #descriptions·open code.function (code.unfolded 𝓤 H 𝓜 𝓡)
     (open-meets 𝓤 H (𝓖 .A) (givenOf 𝓤 H 𝓜 𝓖) (𝓜 .mem) (𝓡 .run) (tablesOf 𝓤 H 𝓜 (tables 𝓤 H 𝓜 𝓡 code.env)))

@@ -1,13 +1,13 @@
--- `schedule::all_given` meets its contract. The invariant: the slots given so far stand in their places, and none of the answers was the last.
+-- `descriptions::all_given` meets its contract. The invariant: the slots given so far stand in their places, and none of the answers was the last.
 use mathlib.Core.Path.{sym, ap, _∙_}
 use mathlib.Core.Logic.{inl, inr}
 use Prim.Native.Nat.{_≤_, _-_}
 use native.Mathlib.Omega.{arith}
 use borrow.Author.Needs.{needs}
 use Rattle.schedule.specs.Coded.{givenOf}
-use Rattle.schedule.proofs.Giving.{Gave, gave-none, gave-next, gave-refused, gave-all}
-use Rattle.schedule.proofs.all_given.Statement.{statement}
-use Rattle.schedule.proofs.all_given.Tie as tie
+use Rattle.descriptions.proofs.Giving.{Gave, gave-none, gave-next, gave-refused, gave-all}
+use Rattle.descriptions.proofs.all_given.Statement.{statement}
+use Rattle.descriptions.proofs.all_given.Tie as tie
 
 abbrev Inv-loop : tie.InvT-loop
 Inv-loop message received given₀ k₀ given k = (k ≤ 48) × Gave message received k given

@@ -1,4 +1,4 @@
--- `schedule::next` meets its contract: a walk of its MIR, by hand. The struct is taken apart, and `description_at` is called on the slice and the numbers. All that the proof knows of `description_at` is that it meets its contract.
+-- `descriptions::next` meets its contract: a walk of its MIR, by hand. The struct is taken apart, and `description_at` is called on the slice and the numbers. All that the proof knows of `description_at` is that it meets its contract.
 -- The struct is Copy: what it owns is had twice, one copy is kept whole for the exit, and of the other what message owns goes to the callee, beside the lifetime's token, which comes back.
 -- Assumes nothing.
 use mathlib.Core.Path.{_≡_, refl}
@@ -43,22 +43,22 @@ use denote.Triple.Table.{entered, cited}
 use denote.Triple.Walked.{says, Stays, stay-none, walkOf, goes-none, Walks, ends-at, walked, walk-meets}
 use denote.Exit.{yes}
 use denote.Triple.Clauses.{ensured, lasts}
 use Rattle.schedule.specs.Paper.{given as givenAt, Given as Told}
 use Rattle.schedule.specs.Coded.{givenOf as toldOf}
-use Rattle.schedule.specs.declared.Descriptions.{Descriptions}
+use Rattle.descriptions.specs.declared.Descriptions.{Descriptions}
 use Rattle.schedule.specs.declared.Given.{Given as Answer}
-use Rattle.schedule.proofs.Descriptions as T
-use Rattle.schedule.proofs.Descriptions.Laws as T′
+use Rattle.descriptions.proofs.Descriptions as T
+use Rattle.descriptions.proofs.Descriptions.Laws as T′
 use Rattle.schedule.proofs.Given as S
 use Rattle.schedule.proofs.Given.Laws as S′
 use Rattle.schedule.proofs.description_at as step
 use Rattle.schedule.proofs.description_at.Symbol as step-def
 use Rattle.schedule.proofs.description_at.Symbol.{name as #schedule·description-at}
 use Rattle.schedule.proofs.description_at.Met as step-thm
-use Rattle.schedule.proofs.next.Key.{name as #schedule·next}
-use Rattle.schedule.proofs.next as next
-use Rattle.schedule.proofs.next.Statement as stated
-use Rattle.schedule.proofs.next.Code as code
+use Rattle.descriptions.proofs.next.Key.{name as #descriptions·next}
+use Rattle.descriptions.proofs.next as next
+use Rattle.descriptions.proofs.next.Statement as stated
+use Rattle.descriptions.proofs.next.Code as code
 
 -- the struct's type, over the signature's lifetimes
 abbrev B : Lfts 1 → RattleType
@@ -163,6 +163,6 @@ pub next-spec : {M : Type 1} → stated.statement M
 unfolding code.routine tablesOf
 next-spec 𝓤 H 𝓜 𝓖 𝓡 =
     entered 𝓤 H (tripleOf 𝓤 H (𝓖 .A) next.signature (next.spec 𝓤 H (𝓖 .A) (𝓜 .mem) (𝓡 .run)))
-    (tables 𝓤 H 𝓜 𝓡 code.env .C) (tables 𝓤 H 𝓜 𝓡 code.env .Λ) #schedule·next code.function (code.unfolded 𝓤 H 𝓜 𝓡)
+    (tables 𝓤 H 𝓜 𝓡 code.env .C) (tables 𝓤 H 𝓜 𝓡 code.env .Λ) #descriptions·next code.function (code.unfolded 𝓤 H 𝓜 𝓡)
     (next-meets 𝓤 H (𝓖 .A) (givenOf 𝓤 H 𝓜 𝓖) (𝓜 .mem) (𝓡 .run) (tablesOf 𝓤 H 𝓜 (tables 𝓤 H 𝓜 𝓡 code.env))
     (cited 𝓤 H (At 𝓤 H (𝓖 .A) (𝓜 .mem) (𝓡 .run)) 𝓜 𝓡 code.env #schedule·description-at step-def.routine code.calls-schedule·description-at (step-thm.met 𝓤 H 𝓜 𝓖 𝓡)))

@@ -1,4 +1,4 @@
--- `schedule::given_at` meets its contract: a walk of its MIR, by hand. What `open` returns is held in a local and passed to `moved`, and what that returns to `next`. All that the proof knows of the three is that each meets its contract.
+-- `descriptions::given_at` meets its contract: a walk of its MIR, by hand. What `open` returns is held in a local and passed to `moved`, and what that returns to `next`. All that the proof knows of the three is that each meets its contract.
 -- In a local of a body MIR erases the lifetime of the struct's type, so a returned value is shown to have the type at `erased`: what the struct owns does not say the lifetime's name.
 -- Assumes nothing.
 use mathlib.Core.Path.{_≡_, refl, _∙_}
@@ -38,30 +38,30 @@ use denote.Triple.Table.{entered, cited}
 use denote.Triple.Walked.{says, Stays, stay-none, stay-none-slice, walkOf, goes-none, goes-none-slice, Walks, ends-at, walked, walk-meets}
 use denote.Exit.{yes}
 use denote.Triple.Clauses.{ensured, lasts}
 use Rattle.schedule.specs.Paper.{given as givenBy, Given as Told}
 use Rattle.schedule.specs.Coded.{givenOf as toldOf}
-use Rattle.schedule.specs.declared.Descriptions.{Descriptions}
+use Rattle.descriptions.specs.declared.Descriptions.{Descriptions}
 use Rattle.schedule.specs.declared.Given.{Given as Answer}
-use Rattle.schedule.proofs.Descriptions as T
-use Rattle.schedule.proofs.Descriptions.Laws as T′
+use Rattle.descriptions.proofs.Descriptions as T
+use Rattle.descriptions.proofs.Descriptions.Laws as T′
 use Rattle.schedule.proofs.Given as S
 use Rattle.schedule.proofs.Given.Laws as S′
-use Rattle.schedule.proofs.open as opens
-use Rattle.schedule.proofs.open.Symbol as open-def
-use Rattle.schedule.proofs.open.Symbol.{name as #schedule·open}
-use Rattle.schedule.proofs.open.Met as open-thm
-use Rattle.schedule.proofs.moved as moved
-use Rattle.schedule.proofs.moved.Symbol as moved-def
-use Rattle.schedule.proofs.moved.Symbol.{name as #schedule·moved}
-use Rattle.schedule.proofs.moved.Met as moved-thm
-use Rattle.schedule.proofs.next as next
-use Rattle.schedule.proofs.next.Symbol as next-def
-use Rattle.schedule.proofs.next.Symbol.{name as #schedule·next}
-use Rattle.schedule.proofs.next.Met as next-thm
-use Rattle.schedule.proofs.given_at.Key.{name as #schedule·given-at}
-use Rattle.schedule.proofs.given_at as at
-use Rattle.schedule.proofs.given_at.Statement as stated
-use Rattle.schedule.proofs.given_at.Code as code
+use Rattle.descriptions.proofs.open as opens
+use Rattle.descriptions.proofs.open.Symbol as open-def
+use Rattle.descriptions.proofs.open.Symbol.{name as #descriptions·open}
+use Rattle.descriptions.proofs.open.Met as open-thm
+use Rattle.descriptions.proofs.moved as moved
+use Rattle.descriptions.proofs.moved.Symbol as moved-def
+use Rattle.descriptions.proofs.moved.Symbol.{name as #descriptions·moved}
+use Rattle.descriptions.proofs.moved.Met as moved-thm
+use Rattle.descriptions.proofs.next as next
+use Rattle.descriptions.proofs.next.Symbol as next-def
+use Rattle.descriptions.proofs.next.Symbol.{name as #descriptions·next}
+use Rattle.descriptions.proofs.next.Met as next-thm
+use Rattle.descriptions.proofs.given_at.Key.{name as #descriptions·given-at}
+use Rattle.descriptions.proofs.given_at as at
+use Rattle.descriptions.proofs.given_at.Statement as stated
+use Rattle.descriptions.proofs.given_at.Code as code
 
 -- the struct's type, over the signature's lifetimes
 abbrev B : Lfts 1 → RattleType
@@ -156,7 +156,7 @@ module _ {M : Type 1} (𝓤 : URA M) (H : Heap 𝓤) (A : Atoms 𝓤) (W : Given
       suffices ! _ (ends-at 𝓤 H A at.ended stayed (at.clauses 𝓤 H A mem run) W (((κ, tt), (q, tt), tt, (s, (n, (k, tt))), passed), tt) u r (tt, (tt, (tt, tt))) (tt, (tt, (tt, tt)))) $ says ! e $
       move ! (1 ∷ []) $ frame ! $ nothing ! $ owned ! usize (Is usize) (uint-makes 𝓤 H A W w64) k _ (refl, fits) $ fjoin ! $ owned ! usize (Is usize) (uint-makes 𝓤 H A W w64) n _ (refl, few) $ fjoin ! $ move ! (2 ∷ 0 ∷ []) $ fjoin ! $ frame ! $ done !
 
-  module _ (C : Calls 𝓤 H) (Λ : Loops 𝓤 H) (fm : FmC 𝓤 H (W .laws) C) (known-open : Triple 𝓤 (C #schedule·open) (Open 𝓤 H A mem run)) (known-moved : Triple 𝓤 (C #schedule·moved) (Moved 𝓤 H A mem run)) (known-next : Triple 𝓤 (C #schedule·next) (Next 𝓤 H A mem run)) where
+  module _ (C : Calls 𝓤 H) (Λ : Loops 𝓤 H) (fm : FmC 𝓤 H (W .laws) C) (known-open : Triple 𝓤 (C #descriptions·open) (Open 𝓤 H A mem run)) (known-moved : Triple 𝓤 (C #descriptions·moved) (Moved 𝓤 H A mem run)) (known-next : Triple 𝓤 (C #descriptions·next) (Next 𝓤 H A mem run)) where
     walk : Is (ShrSlice (named 0) κ u8) s (v ∷ []) → ent 𝓤 (onEntry 𝓤 H A at.signature (κ, tt) (q, tt) (s, (n, (k, tt))) passed) (WpFn 𝓤 H C Λ code.function (v ∷ vint w64 n ∷ vint w64 k ∷ []) Post)
     walk p =
         qed W (raw (onEntry 𝓤 H A at.signature (κ, tt) (q, tt) (s, (n, (k, tt))) passed) ∷ []) ∵ enter ! C Λ code.function (v ∷ vint w64 n ∷ vint w64 k ∷ []) _ $
@@ -188,13 +188,13 @@ module _ {M : Type 1} (𝓤 : URA M) (H : Heap 𝓤) (A : Atoms 𝓤) (W : Given
         by ! (exits r u″ (c ∙ same d e a b))))))))))))))))))))
 
 module _ {M : Type 1} (𝓤 : URA M) (H : Heap 𝓤) (A : Atoms 𝓤) (W : Given 𝓤 H A) (mem : Memory → SProp 𝓤) (run : Routine → Fun 𝓤) where
-  at-walks : (C : Calls 𝓤 H) (Λ : Loops 𝓤 H) → FmC 𝓤 H (W .laws) C → Triple 𝓤 (C #schedule·open) (Open 𝓤 H A mem run) → Triple 𝓤 (C #schedule·moved) (Moved 𝓤 H A mem run) → Triple 𝓤 (C #schedule·next) (Next 𝓤 H A mem run)
+  at-walks : (C : Calls 𝓤 H) (Λ : Loops 𝓤 H) → FmC 𝓤 H (W .laws) C → Triple 𝓤 (C #descriptions·open) (Open 𝓤 H A mem run) → Triple 𝓤 (C #descriptions·moved) (Moved 𝓤 H A mem run) → Triple 𝓤 (C #descriptions·next) (Next 𝓤 H A mem run)
       → Walks 𝓤 H A at.ended stayed (WpFn 𝓤 H C Λ code.function) (at.clauses 𝓤 H A mem run)
   at-walks C Λ fm known-open known-moved known-next = walked 𝓤 H A at.ended stayed (at.clauses 𝓤 H A mem run) (WpFn 𝓤 H C Λ code.function) (λ κs. (slice-vals, (uint-vals w64, (uint-vals w64, tt)))) (λ κs. (shr-slice-tells (named 0) (κs .0) u8, (uint-tells w64, (uint-tells w64, tt))))
       (λ κs qs bounds a g are. via 𝓤 _ (fst∗ 𝓤 _ (emp 𝓤)) (walk 𝓤 H A W mem run (κs .0) (qs .0) (a .0) (a .1 .0) (a .1 .1 .0) (are .1 .0 .1) (are .1 .1 .0 .1) C Λ fm known-open known-moved known-next (are .0)))
 
 at-meets : {M : Type 1} (𝓤 : URA M) (H : Heap 𝓤) (A : Atoms 𝓤) (W : Given 𝓤 H A) (mem : Memory → SProp 𝓤) (run : Routine → Fun 𝓤) (𝓣 : Tables 𝓤 H)
-    → Triple 𝓤 (𝓣 .C #schedule·open) (Open 𝓤 H A mem run) → Triple 𝓤 (𝓣 .C #schedule·moved) (Moved 𝓤 H A mem run) → Triple 𝓤 (𝓣 .C #schedule·next) (Next 𝓤 H A mem run)
+    → Triple 𝓤 (𝓣 .C #descriptions·open) (Open 𝓤 H A mem run) → Triple 𝓤 (𝓣 .C #descriptions·moved) (Moved 𝓤 H A mem run) → Triple 𝓤 (𝓣 .C #descriptions·next) (Next 𝓤 H A mem run)
     → Meets 𝓤 H A at.signature (WpFn 𝓤 H (𝓣 .C) (𝓣 .Λ) code.function) (at.spec 𝓤 H A mem run)
 at-meets 𝓤 H A W mem run 𝓣 known-open known-moved known-next = walk-meets 𝓤 H A at.ended stayed W (goes-none-slice 𝓤 H A W 1 (0 ∷ []) tt (plain (λ _. u8)) yes, (goes-none 𝓤 H A W 1 (λ _. usize) yes (λ κs x f. refl), (goes-none 𝓤 H A W 1 (λ _. usize) yes (λ κs x f. refl), tt))) (at.clauses 𝓤 H A mem run) (WpFn 𝓤 H (𝓣 .C) (𝓣 .Λ) code.function) (WpFn-mono 𝓤 H (W .laws) 𝓣 code.function)
     (at-walks 𝓤 H A W mem run (𝓣 .C) (𝓣 .Λ) (fmOf 𝓤 H (W .laws) 𝓣) known-open known-moved known-next)
@@ -203,8 +203,8 @@ pub given-at-spec : {M : Type 1} → stated.statement M
 unfolding code.routine tablesOf
 given-at-spec 𝓤 H 𝓜 𝓖 𝓡 =
     entered 𝓤 H (tripleOf 𝓤 H (𝓖 .A) at.signature (at.spec 𝓤 H (𝓖 .A) (𝓜 .mem) (𝓡 .run)))
-    (tables 𝓤 H 𝓜 𝓡 code.env .C) (tables 𝓤 H 𝓜 𝓡 code.env .Λ) #schedule·given-at code.function (code.unfolded 𝓤 H 𝓜 𝓡)
+    (tables 𝓤 H 𝓜 𝓡 code.env .C) (tables 𝓤 H 𝓜 𝓡 code.env .Λ) #descriptions·given-at code.function (code.unfolded 𝓤 H 𝓜 𝓡)
     (at-meets 𝓤 H (𝓖 .A) (givenOf 𝓤 H 𝓜 𝓖) (𝓜 .mem) (𝓡 .run) (tablesOf 𝓤 H 𝓜 (tables 𝓤 H 𝓜 𝓡 code.env))
-    (cited 𝓤 H (Open 𝓤 H (𝓖 .A) (𝓜 .mem) (𝓡 .run)) 𝓜 𝓡 code.env #schedule·open open-def.routine code.calls-schedule·open (open-thm.met 𝓤 H 𝓜 𝓖 𝓡))
-    (cited 𝓤 H (Moved 𝓤 H (𝓖 .A) (𝓜 .mem) (𝓡 .run)) 𝓜 𝓡 code.env #schedule·moved moved-def.routine code.calls-schedule·moved (moved-thm.met 𝓤 H 𝓜 𝓖 𝓡))
-    (cited 𝓤 H (Next 𝓤 H (𝓖 .A) (𝓜 .mem) (𝓡 .run)) 𝓜 𝓡 code.env #schedule·next next-def.routine code.calls-schedule·next (next-thm.met 𝓤 H 𝓜 𝓖 𝓡)))
+    (cited 𝓤 H (Open 𝓤 H (𝓖 .A) (𝓜 .mem) (𝓡 .run)) 𝓜 𝓡 code.env #descriptions·open open-def.routine code.calls-descriptions·open (open-thm.met 𝓤 H 𝓜 𝓖 𝓡))
+    (cited 𝓤 H (Moved 𝓤 H (𝓖 .A) (𝓜 .mem) (𝓡 .run)) 𝓜 𝓡 code.env #descriptions·moved moved-def.routine code.calls-descriptions·moved (moved-thm.met 𝓤 H 𝓜 𝓖 𝓡))
+    (cited 𝓤 H (Next 𝓤 H (𝓖 .A) (𝓜 .mem) (𝓡 .run)) 𝓜 𝓡 code.env #descriptions·next next-def.routine code.calls-descriptions·next (next-thm.met 𝓤 H 𝓜 𝓖 𝓡)))

@@ -1,4 +1,4 @@
--- `schedule::moved` meets its contract: a walk of its MIR, by hand. A struct is made anew of the slice that the one passed holds, and another number.
+-- `descriptions::moved` meets its contract: a walk of its MIR, by hand. A struct is made anew of the slice that the one passed holds, and another number.
 -- The struct is Copy: what it owns is had twice, one copy is kept whole for the exit, and the other, with the facts of the number in those of `place`, is what the result owns.
 -- Assumes nothing.
 use mathlib.Core.Path.{refl}
@@ -34,13 +34,13 @@ use denote.Triple.Spec.{Meets, tripleOf}
 use denote.Triple.Table.{entered}
 use denote.Triple.Walked.{says, Stays, stay-none, walkOf, goes-none, Walks, ends-at, walked, walk-meets}
 use denote.Exit.{yes}
-use Rattle.schedule.specs.declared.Descriptions.{Descriptions}
-use Rattle.schedule.proofs.Descriptions as T
-use Rattle.schedule.proofs.Descriptions.Laws as T′
-use Rattle.schedule.proofs.moved.Key.{name as #schedule·moved}
-use Rattle.schedule.proofs.moved as moved
-use Rattle.schedule.proofs.moved.Statement as stated
-use Rattle.schedule.proofs.moved.Code as code
+use Rattle.descriptions.specs.declared.Descriptions.{Descriptions}
+use Rattle.descriptions.proofs.Descriptions as T
+use Rattle.descriptions.proofs.Descriptions.Laws as T′
+use Rattle.descriptions.proofs.moved.Key.{name as #descriptions·moved}
+use Rattle.descriptions.proofs.moved as moved
+use Rattle.descriptions.proofs.moved.Statement as stated
+use Rattle.descriptions.proofs.moved.Code as code
 
 -- the struct's type, over the signature's lifetimes
 abbrev B : Lfts 1 → RattleType
@@ -97,5 +97,5 @@ pub moved-spec : {M : Type 1} → stated.statement M
 unfolding code.routine tablesOf
 moved-spec 𝓤 H 𝓜 𝓖 𝓡 =
     entered 𝓤 H (tripleOf 𝓤 H (𝓖 .A) moved.signature (moved.spec 𝓤 H (𝓖 .A) (𝓜 .mem) (𝓡 .run)))
-    (tables 𝓤 H 𝓜 𝓡 code.env .C) (tables 𝓤 H 𝓜 𝓡 code.env .Λ) #schedule·moved code.function (code.unfolded 𝓤 H 𝓜 𝓡)
+    (tables 𝓤 H 𝓜 𝓡 code.env .C) (tables 𝓤 H 𝓜 𝓡 code.env .Λ) #descriptions·moved code.function (code.unfolded 𝓤 H 𝓜 𝓡)
     (moved-meets 𝓤 H (𝓖 .A) (givenOf 𝓤 H 𝓜 𝓖) (𝓜 .mem) (𝓡 .run) (tablesOf 𝓤 H 𝓜 (tables 𝓤 H 𝓜 𝓡 code.env)))

@@ -12,9 +12,9 @@ use Rattle.laws.specs.Received.{wholeBlocks}
 use Rattle.laws.specs.Ruled.{ruled}
 use Rattle.laws.specs.Upto.{some, count, picked, each}
 use Rattle.laws.proofs.Tests.{both}
 use Rattle.schedule.specs.Paper.{octet, end, new, bitmap, width, reserved, told, place, rank, order, tells, falseRepeat, faults, unused, unread, read, unlisted, listed, next, noMore, refusal, given}
-use Rattle.schedule.specs.Claims.{made40, Alike}
+use Rattle.order.specs.Claims.{made40, Alike}
 use Rattle.schedule.proofs.Places.{place-mono, place-after}
 
 -- the first description starts after eight octets
 place-least : (m : List ℕ) (k : ℕ) → 8 ≤ place m k

@@ -11,7 +11,7 @@ use Rattle.laws.proofs.Upto.{some-at}
 use Rattle.laws.proofs.Outcome.{Outcome, refuses, passes, outcome}
 use Rattle.laws.proofs.Tests.{both, neither}
 use Rattle.schedule.specs.Paper.{begin, end, within, tells, again, isFirst, falseIn, falseRepeat, faults, slotOf, Shown, shown, Given, next, noMore, refusal, givenAt, given}
-use Rattle.capi.proofs.Scheduled.{slot-below}
+use Rattle.order.proofs.Ranks.{order-below}
 
 module _ (m : List ℕ) where
   -- where no slot up to End has a false repeat, a slot's repeat names a slot below it
@@ -34,7 +34,7 @@ module _ (m : List ℕ) where
       at q none few true h =
           let mine : next (suc (slotOf m k)) (shown m (slotOf m k)) ≡ next i s = rw h at q in
           let same : shown m (slotOf m k) ≡ s = cc in
-          let inside = slot-below m received k (ltb-true k (end m) h) in
+          let inside = order-below m k (ltb-true k (end m) h) in
           let w = names-below none (slotOf m k) n inside (ap (λ (x : Shown). x .told) same ∙ t) in
           (w .0, omega (arith, w .1, inside, few))
       at q none few false h =

@@ -1,0 +1,58 @@
+-- Answers that meet a contract of `descriptions` are equal.
+use mathlib.Core.Path.{_≡_, refl, sym, ap, _∙_}
+use mathlib.Core.Bool.{cond}
+use mathlib.Core.List.{List, map}
+use Prim.Native.Nat.{ℕ}
+use lib.Dec.{eqb}
+use denote.Ref.{RefT, now}
+use borrow.Author.Tests.{ne-eqb}
+use Rattle.answer.specs.Number.{numberOf}
+use Rattle.answer.proofs.Inverse.{refusalOf, refusalOf-numberOf, numberOf-positive}
+use Rattle.schedule.specs.declared.Given.{Given as GivenCode}
+use Rattle.schedule.specs.Paper.{given}
+use Rattle.schedule.specs.Coded.{givenOf}
+use Rattle.schedule.proofs.Determined.{slotFrom, slotFrom-shownOf, map-back, determined-description-at}
+use Rattle.descriptions.specs.declared.Numbered.{Numbered as NumberedCode}
+use Rattle.descriptions.specs.declared.Counted.{Counted}
+use Rattle.descriptions.specs.declared.Counted.the-variants.{Count, Refused}
+use Rattle.descriptions.specs.declared.Ordered.{Ordered as OrderedCode}
+use Rattle.descriptions.specs.declared.Descriptions.{Descriptions}
+use Rattle.descriptions.specs.Paper.{Numbered, Ordered, ordered}
+use Rattle.descriptions.specs.Coded.{numberedOf, countOf, orderedOf}
+
+-- the code's count and numbered slot by the paper's
+abbrev countedFrom : ℕ → ℕ → Counted
+countedFrom n k = cond (eqb n 0) (Count k) (Refused (refusalOf n))
+
+countedFrom-countOf : (a : Counted) → countedFrom (countOf a .0) (countOf a .1) ≡ a
+countedFrom-countOf (Count k) = refl
+countedFrom-countOf (Refused r) = rw (ne-eqb (numberOf r) 0 (numberOf-positive r)) (ap Refused (refusalOf-numberOf r))
+
+abbrev numberedFrom : Numbered → NumberedCode
+numberedFrom x = record { number = x .number; slot = slotFrom (x .shown) }
+
+numberedFrom-numberedOf : (x : NumberedCode) → numberedFrom (numberedOf x) ≡ x
+numberedFrom-numberedOf x = λ i. record { number = x .number; slot = slotFrom-shownOf (x .slot) i }
+
+pub determined-open : (m : RefT (List ℕ)) (received : ℕ) (r s : Descriptions)
+    → (r .message ≡ m) × (r .received ≡ received) × (r .place ≡ 0) → (s .message ≡ m) × (s .received ≡ received) × (s .place ≡ 0) → r ≡ s
+determined-open m received r s a b =
+    λ i. record { message = (a .0 ∙ sym (b .0)) i; received = (a .1 ∙ sym (b .1)) i; place = (a .2 ∙ sym (b .2)) i }
+
+pub determined-next : (d : Descriptions) (r s : GivenCode)
+    → givenOf r ≡ given (now (d .message)) (d .received) (d .place) → givenOf s ≡ given (now (d .message)) (d .received) (d .place) → r ≡ s
+determined-next d r s a b = determined-description-at (now (d .message)) (d .received) (d .place) r s a b
+
+pub determined-moved : (d : Descriptions) (place : ℕ) (r s : Descriptions)
+    → (r .message ≡ d .message) × (r .received ≡ d .received) × (r .place ≡ place)
+    → (s .message ≡ d .message) × (s .received ≡ d .received) × (s .place ≡ place) → r ≡ s
+determined-moved d place r s a b =
+    λ i. record { message = (a .0 ∙ sym (b .0)) i; received = (a .1 ∙ sym (b .1)) i; place = (a .2 ∙ sym (b .2)) i }
+
+pub determined-all-given : (m : List ℕ) (received : ℕ) (r s : OrderedCode) → orderedOf r ≡ ordered m received → orderedOf s ≡ ordered m received → r ≡ s
+determined-all-given m received r s a b =
+    let e = a ∙ sym b in
+    let back = map-back numberedOf numberedFrom numberedFrom-numberedOf in
+    let answer = sym (countedFrom-countOf (r .answer)) ∙ ap (λ (o : Ordered). countedFrom (o .number) (o .count)) e ∙ countedFrom-countOf (s .answer) in
+    let given = sym (back (r .given)) ∙ ap (λ (o : Ordered). map numberedFrom (o .given)) e ∙ back (s .given) in
+    λ i. record { answer = answer i; given = given i }

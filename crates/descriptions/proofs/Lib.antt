@@ -1,0 +1,3 @@
+-- What `descriptions` proves.
+pub mod Determined
+pub mod Giving

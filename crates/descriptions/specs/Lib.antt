@@ -1,0 +1,3 @@
+-- What `descriptions` defines.
+pub mod Paper
+pub mod Coded

@@ -1,0 +1,39 @@
+-- All that the reader of descriptions gives, as document 01 has it, in numbers and lists.
+use mathlib.Core.List.{List}
+use Prim.Native.Nat.{ℕ}
+use Rattle.laws.specs.Ruled.{ruled}
+use Rattle.laws.specs.Upto.{each}
+use Rattle.schedule.specs.Paper.{end, faults, Shown, unused, Given, next, noMore, refusal, givenAt}
+
+-- 01 Schedule message: a slot by its number, and what is shown of it
+pub record Numbered : Type 0 where
+  pub number : ℕ
+  pub shown : Shown
+
+-- 01 Schedule message: all that the reader of descriptions gives, in the message's order: the refusal's number or 0, how many slots are given, and each, with unused ones after them up to 48
+pub record Ordered : Type 0 where
+  pub number : ℕ
+  pub count : ℕ
+  pub given : List Numbered
+
+-- 01 Order: with a refusal the other numbers are 0
+abbrev pub nothing : Numbered
+nothing = record { number = 0; shown = unused }
+
+-- 01 Schedule message: the slot that is given, if one is
+abbrev pub entry : Given → Numbered
+entry (next n s) = record { number = n; shown = s }
+entry noMore = nothing
+entry (refusal n) = nothing
+
+-- 01 Order: with a refusal no slot is given
+abbrev pub unordered : ℕ → Ordered
+unordered n = record { number = n; count = 0; given = each (λ (k : ℕ). nothing) 48 }
+
+-- 01 Schedule message: a message that is not refused gives its slots up to End, each in its place of the order
+abbrev pub inOrder : List ℕ → Ordered
+inOrder m = record { number = 0; count = end m; given = each (λ (k : ℕ). entry (givenAt m k)) 48 }
+
+-- 01 Schedule message, Order: the reader of descriptions, from opening to no more
+unfoldable pub ordered : List ℕ → ℕ → Ordered
+ordered m received = ruled unordered (faults m received) (inOrder m)

@@ -1,0 +1,4 @@
+-- What `order` proves.
+pub mod Once
+pub mod Ranks
+pub mod Slides

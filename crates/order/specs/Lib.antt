@@ -1,0 +1,2 @@
+-- What `order` states.
+pub mod Claims

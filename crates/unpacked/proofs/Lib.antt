@@ -1,0 +1,3 @@
+-- What `unpacked` proves.
+pub mod Codes
+pub mod Unpacked

@@ -1,0 +1,1 @@
+-- What `unpacked` states: nothing beside its theorems.
