@@ -1,10 +1,4 @@
-/*
- * cb_intake beside plain_intake: whether they do the same, and how long they take.
- *
- *   intake check              millions of calls, near good ones, must leave the same number and memory
- *   intake time               prints nanoseconds a call, Rattle and plain C, and their ratio
- *   intake pass rattle|plain  goes once over the blocks and prints how many, for a counter of instructions
- */
+/* cb_start and cb_intake beside plain C: a program of measure.h. */
 #include <stdbool.h>
 #include <stdio.h>
 #include <stdlib.h>
@@ -15,12 +9,13 @@
 #include "measure.h"
 #include "plain.h"
 
+typedef uint32_t start_call(uint8_t *, size_t);
 typedef uint32_t intake_call(uint8_t *, size_t, const uint8_t *, size_t, uint8_t *, size_t);
 
 enum { CALLS = 4000000 };            /* of check */
 enum { BLOCKS = 1 << 16 };           /* 1.5 MB: past the first cache, and too many to learn by heart */
-enum { ROUNDS = 101 };               /* of each, in turn */
 enum { ROOM = 128 };                 /* what is lent lies in more, so that a write past its end is seen */
+enum call { START, INTAKE };
 
 static uint8_t blocks[BLOCKS * BLOCK_OCTETS];
 
@@ -87,13 +82,9 @@ static void calls_differ(const char *what, unsigned long at, uint32_t rattle, ui
     abort();
 }
 
-static int check(void)
+static void check_starts(void)
 {
-    static const uint8_t answers[] = {0, 1, 2, 3, 4, 5, 6, 7, 8, 15};
-    unsigned long seen[256] = {0};
-    struct lent rattle = {0};
-    struct lent plain = {0};
-    uint64_t row = 2;
+    struct lent rattle, plain;
 
     for (size_t length = 0; length < ROOM; length++) {
         memset(&rattle, 0xA5, sizeof rattle);
@@ -103,6 +94,15 @@ static int check(void)
         if (a != b || memcmp(&rattle, &plain, sizeof plain) != 0)
             calls_differ("a start at length", length, a, b);
     }
+}
+
+static long check(unsigned long *seen)
+{
+    struct lent rattle = {0};
+    struct lent plain = {0};
+    uint64_t row = 2;
+
+    check_starts();
     for (unsigned long i = 0; i < CALLS; i++) {
         make_call(&rattle, &row);
         plain = rattle;
@@ -112,39 +112,40 @@ static int check(void)
             calls_differ("call", i, a, b);
         seen[CB_ANSWER(a)]++;
     }
-    if (!all_seen("intake", seen, answers, sizeof answers))
-        return 1;
-    printf("intake: the same in %d calls, every answer among them\n", CALLS);
-    return 0;
+    return CALLS;
 }
 
-/* There is one job, whatever its number. */
-static void pass(int job, bool rattle)
+/* Nothing of it varies. */
+static void prepare(size_t length, bool by_rattle)
 {
+    (void)length, (void)by_rattle;
+    make_blocks(blocks, BLOCKS);
+}
+
+static void pass(int call, bool rattle)
+{
+    start_call *start = rattle ? cb_start : plain_start;
     intake_call *intake = rattle ? cb_intake : plain_intake;
-    uint8_t state[CB_STATE];
+    uint8_t state[CB_STATE] = {0}; /* the start's, made here without a call that may be counted */
     uint8_t output[CB_OUTPUT];
 
-    (void)job;
-    plain_start(state, sizeof state);
-    for (size_t i = 0; i < BLOCKS; i++)
-        intake(state, sizeof state, blocks + BLOCK_OCTETS * i, BLOCK_OCTETS, output, sizeof output);
+    memset(state + 2, 0x2B, CB_STATE - 2);
+    for (size_t i = 0; i < BLOCKS; i++) {
+        if (call == START)
+            start(state, sizeof state);
+        else
+            intake(state, sizeof state, blocks + BLOCK_OCTETS * i, BLOCK_OCTETS, output, sizeof output);
+    }
 }
 
 int main(int argc, char **argv)
 {
-    const char *task = argc > 1 ? argv[1] : "";
+    static const char *const calls[] = {[START] = "start", [INTAKE] = "intake", NULL};
+    static const uint8_t answers[] = {0, 1, 2, 3, 4, 5, 6, 7, 8, 15};
+    static const struct subject subject = {
+        .name = "intake", .calls = calls, .inputs = BLOCKS, .rounds = 101,
+        .prepare = prepare, .pass = pass, .check = check, .answers = answers, .answer_count = sizeof answers,
+    };
 
-    make_blocks(blocks, BLOCKS);
-    if (strcmp(task, "check") == 0)
-        return check();
-    if (strcmp(task, "time") == 0)
-        return time_both(pass, 0, BLOCKS, ROUNDS);
-    if (strcmp(task, "pass") == 0 && argc == 3) {
-        pass(0, strcmp(argv[2], "rattle") == 0);
-        printf("%d\n", BLOCKS);
-        return 0;
-    }
-    fputs("intake: check, time, pass rattle or pass plain\n", stderr);
-    return 1;
+    return measure(&subject, argc, argv);
 }

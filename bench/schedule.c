@@ -1,17 +1,10 @@
 /*
- * cb_read_schedule and cb_description beside plain C: whether they do the same, and how long they take.
+ * cb_read_schedule and cb_description beside plain C: a program of measure.h. Lengths are slots of a message.
  *
- *   schedule check             messages near good ones must give the same numbers
- *   schedule time JOB          prints nanoseconds a call, Rattle and plain C, and their ratio
- *   schedule pass JOB rattle|plain   goes over the messages once and prints how many, for a counter of instructions
- *
- * JOB is read_schedule or description.
- *
- * What is timed are messages of 39 slots with all 88 octets received. cb_read_schedule reads every slot of the message
- * on its way to Begin and End; cb_description does that too, and then gives one slot.
+ * All 88 octets of a message are received. cb_read_schedule reads every slot of it on its way to Begin and End;
+ * cb_description does that too, and then gives one slot.
  */
 #include <stdbool.h>
-#include <stdio.h>
 #include <string.h>
 
 #include "blocks.h"
@@ -22,9 +15,11 @@
 typedef uint32_t reader(const uint8_t *, size_t, size_t);
 typedef uint64_t describer(const uint8_t *, size_t, size_t, size_t);
 
-enum { CALLS = 1000000, MESSAGES = 4096, SLOTS = 48, TIMED_SLOTS = 39, ROUNDS = 51, ROOM = 112 };
+enum { CHECKED = 1000000, MESSAGES = 4096, SLOTS = 48, ROOM = 112 };
+enum call { READ_SCHEDULE, DESCRIPTION };
 
 static uint8_t messages[MESSAGES][CB_OUTPUT];
+static size_t slots;
 
 /* The octets of a slot's description, which are two only where there is room: how many. */
 static size_t describe(uint64_t *row, unsigned slot, const bool *first, bool room, uint8_t *octets)
@@ -86,16 +81,18 @@ static void damage(uint64_t *row, uint8_t *message)
         message[2 + draw(row) % 6] ^= (uint8_t)(1 << draw(row) % 8);
 }
 
-/* Every place of one message in sixteen, and one place of the others. */
-static void check_descriptions(uint64_t *row, int at, const uint8_t *message, size_t length, size_t received)
+/* Every place of one message in sixteen, and one place of the others: how many. */
+static long check_descriptions(uint64_t *row, int at, const uint8_t *message, size_t length, size_t received)
 {
     bool all = one_in(row, 16);
+    long places = all ? 50 : 1;
 
-    for (size_t i = 0; i < (all ? 50 : 1); i++) {
-        size_t place = all ? i : draw(row) % 50;
+    for (long i = 0; i < places; i++) {
+        size_t place = all ? (size_t)i : draw(row) % 50;
         if (cb_description(message, length, received, place) != plain_description(message, length, received, place))
             differ("schedule", "a description of message", at);
     }
+    return places;
 }
 
 /* The messages that are timed are read whole, and both give every slot of them alike. */
@@ -103,23 +100,22 @@ static void check_timed(void)
 {
     for (int i = 0; i < MESSAGES; i++) {
         uint32_t a = cb_read_schedule(messages[i], CB_OUTPUT, CB_OUTPUT);
-        if (a != plain_read_schedule(messages[i], CB_OUTPUT, CB_OUTPUT) || CB_NUMBER(a) != 0 || CB_END(a) != TIMED_SLOTS)
+        if (a != plain_read_schedule(messages[i], CB_OUTPUT, CB_OUTPUT) || CB_NUMBER(a) != 0 || CB_END(a) != slots)
             differ("schedule", "timed message", i);
-        for (size_t place = 0; place <= TIMED_SLOTS; place++)
+        for (size_t place = 0; place <= slots; place++)
             if (cb_description(messages[i], CB_OUTPUT, CB_OUTPUT, place) !=
                 plain_description(messages[i], CB_OUTPUT, CB_OUTPUT, place))
                 differ("schedule", "a description of timed message", i);
     }
 }
 
-static int check(void)
+static long check(unsigned long *seen)
 {
-    static const uint8_t answers[] = {0, 16, 18, 20, 21, 22, 23, 24};
-    unsigned long seen[256] = {0};
     uint64_t row = 5;
+    long calls = 0;
 
     check_timed();
-    for (int i = 0; i < CALLS; i++) {
+    for (int i = 0; i < CHECKED; i++) {
         uint8_t message[ROOM] = {0};
         size_t length = one_in(&row, 32) ? draw(&row) % ROOM : CB_OUTPUT;
         size_t received = one_in(&row, 16) ? draw(&row) % 300 : one_in(&row, 4) ? 22 * (1 + draw(&row) % 4) : 88;
@@ -129,50 +125,43 @@ static int check(void)
         uint32_t a = cb_read_schedule(message, length, received);
         if (a != plain_read_schedule(message, length, received))
             differ("schedule", "message", i);
-        check_descriptions(&row, i, message, length, received);
+        calls += 1 + check_descriptions(&row, i, message, length, received);
         seen[CB_NUMBER(a)]++;
     }
-    if (!all_seen("schedule", seen, answers, sizeof answers))
-        return 1;
-    printf("schedule: the same for %d messages, every answer among them\n", CALLS);
-    return 0;
+    return calls;
 }
 
-static void read_all(reader *read)
+static void prepare(size_t length, bool by_rattle)
 {
+    uint64_t row = 1;
+
+    (void)by_rattle;
+    slots = length;
     for (int i = 0; i < MESSAGES; i++)
-        read(messages[i], CB_OUTPUT, CB_OUTPUT);
+        make_message(&row, (unsigned)slots, messages[i]);
 }
 
-static void describe_all(describer *description)
+static void pass(int call, bool rattle)
 {
-    for (int i = 0; i < MESSAGES; i++)
-        description(messages[i], CB_OUTPUT, CB_OUTPUT, (size_t)i % TIMED_SLOTS);
-}
+    reader *read = rattle ? cb_read_schedule : plain_read_schedule;
+    describer *description = rattle ? cb_description : plain_description;
 
-static void pass(int reading, bool rattle)
-{
-    if (reading)
-        read_all(rattle ? cb_read_schedule : plain_read_schedule);
-    else
-        describe_all(rattle ? cb_description : plain_description);
+    for (int i = 0; i < MESSAGES; i++) {
+        if (call == READ_SCHEDULE)
+            read(messages[i], CB_OUTPUT, CB_OUTPUT);
+        else
+            description(messages[i], CB_OUTPUT, CB_OUTPUT, (size_t)i % slots);
+    }
 }
 
 int main(int argc, char **argv)
 {
-    uint64_t row = 1;
+    static const char *const calls[] = {[READ_SCHEDULE] = "read_schedule", [DESCRIPTION] = "description", NULL};
+    static const uint8_t answers[] = {0, 16, 18, 20, 21, 22, 23, 24};
+    static const struct subject subject = {
+        .name = "schedule", .calls = calls, .shortest = 1, .longest = SLOTS, .inputs = MESSAGES, .rounds = 51,
+        .prepare = prepare, .pass = pass, .check = check, .answers = answers, .answer_count = sizeof answers,
+    };
 
-    for (int i = 0; i < MESSAGES; i++)
-        make_message(&row, TIMED_SLOTS, messages[i]);
-    if (argc == 2 && strcmp(argv[1], "check") == 0)
-        return check();
-    if (argc == 3 && strcmp(argv[1], "time") == 0)
-        return time_both(pass, strcmp(argv[2], "read_schedule") == 0, MESSAGES, ROUNDS);
-    if (argc == 4 && strcmp(argv[1], "pass") == 0) {
-        pass(strcmp(argv[2], "read_schedule") == 0, strcmp(argv[3], "rattle") == 0);
-        printf("%d\n", MESSAGES);
-        return 0;
-    }
-    fprintf(stderr, "schedule: check, time JOB or pass JOB rattle|plain, where JOB is read_schedule or description\n");
-    return 2;
+    return measure(&subject, argc, argv);
 }

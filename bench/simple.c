@@ -1,14 +1,8 @@
 /*
- * cb_content, cb_write_blocks and cb_read_plan beside plain C: whether they do the same, and how long they take.
+ * cb_content, cb_write_blocks and cb_read_plan beside plain C: a program of measure.h.
  *
- *   simple check                   calls near good ones must leave the same number and memory
- *   simple time JOB                prints nanoseconds a call, Rattle and plain C, and their ratio
- *   simple pass JOB rattle|plain   calls once for each input and prints how many, for a counter of instructions
- *
- * JOB is content, write_blocks or read_plan. What is timed are whole pages, and plan files of 48 slots, two in three of
- * them pages.
+ * Lengths are slots of a plan file, two in three of them pages. A page and its blocks are always whole.
  */
-#include <stdio.h>
 #include <string.h>
 
 #include "blocks.h"
@@ -16,12 +10,13 @@
 #include "measure.h"
 #include "plain_simple.h"
 
-enum { CALLS = 1000000, INPUTS = 4096, ROUNDS = 51, SLOTS = 48, PLAN = 6 + 6 * SLOTS, ROOM = PLAN + 18 };
+enum { CALLS = 1000000, INPUTS = 4096, SLOTS = 48, PLAN = 6 + 6 * SLOTS, ROOM = PLAN + 18 };
 enum { MESSAGE_ROOM = 112 };
-enum job { CONTENT, WRITE_BLOCKS, READ_PLAN };
+enum call { CONTENT, WRITE_BLOCKS, READ_PLAN };
 
 static uint8_t messages[INPUTS][CB_OUTPUT];
 static uint8_t plans[INPUTS][PLAN];
+static unsigned slots;
 
 /* A good plan file. */
 static void make_plan(uint64_t *row, unsigned count, uint8_t *file)
@@ -77,62 +72,55 @@ static void check_plan(uint64_t *row, int at, unsigned long *seen)
     seen[CB_NUMBER(a)]++;
 }
 
-static int check(void)
+static long check(unsigned long *seen)
 {
-    static const uint8_t answers[] = {0, 15, 16, 17, 18, 30, 31, 32, 33};
-    unsigned long seen[256] = {0};
     uint64_t row = 7;
 
     for (int i = 0; i < CALLS; i++) {
         check_blocks(&row, i, seen);
         check_plan(&row, i, seen);
     }
-    if (!all_seen("simple", seen, answers, sizeof answers))
-        return 1;
-    printf("simple: the same in %d calls, every answer among them\n", 3 * CALLS);
-    return 0;
+    return 3 * CALLS;
 }
 
-static void pass(int job, bool rattle)
+static void prepare(size_t length, bool by_rattle)
+{
+    uint64_t row = 1;
+
+    (void)by_rattle;
+    slots = (unsigned)length;
+    for (int i = 0; i < INPUTS; i++) {
+        for (int j = 0; j < CB_OUTPUT; j++)
+            messages[i][j] = (uint8_t)draw(&row);
+        make_plan(&row, slots, plans[i]);
+    }
+}
+
+static void pass(int call, bool rattle)
 {
     static uint8_t out[CB_BLOCKS];
 
     for (int i = 0; i < INPUTS; i++) {
-        if (job == CONTENT)
+        if (call == CONTENT)
             (rattle ? cb_content : plain_content)(messages[i], CB_OUTPUT, CB_OUTPUT);
-        else if (job == WRITE_BLOCKS)
+        else if (call == WRITE_BLOCKS)
             (rattle ? cb_write_blocks : plain_write_blocks)(messages[i], CB_OUTPUT, i % 2 == 0, 1 + (size_t)i % CB_OUTPUT,
                                                             out, sizeof out);
         else
-            (rattle ? cb_read_plan : plain_read_plan)(plans[i], PLAN);
+            (rattle ? cb_read_plan : plain_read_plan)(plans[i], 6 + 6 * slots);
     }
-}
-
-static enum job job_named(const char *name)
-{
-    if (strcmp(name, "content") == 0)
-        return CONTENT;
-    return strcmp(name, "write_blocks") == 0 ? WRITE_BLOCKS : READ_PLAN;
 }
 
 int main(int argc, char **argv)
 {
-    uint64_t row = 1;
+    static const char *const calls[] = {
+        [CONTENT] = "content", [WRITE_BLOCKS] = "write_blocks", [READ_PLAN] = "read_plan", NULL,
+    };
+    static const uint8_t answers[] = {0, 15, 16, 17, 18, 30, 31, 32, 33};
+    static const struct subject subject = {
+        .name = "simple", .calls = calls, .longest = SLOTS, .inputs = INPUTS, .rounds = 51,
+        .prepare = prepare, .pass = pass, .check = check, .answers = answers, .answer_count = sizeof answers,
+    };
 
-    for (int i = 0; i < INPUTS; i++) {
-        for (int j = 0; j < CB_OUTPUT; j++)
-            messages[i][j] = (uint8_t)draw(&row);
-        make_plan(&row, SLOTS, plans[i]);
-    }
-    if (argc == 2 && strcmp(argv[1], "check") == 0)
-        return check();
-    if (argc == 3 && strcmp(argv[1], "time") == 0)
-        return time_both(pass, job_named(argv[2]), INPUTS, ROUNDS);
-    if (argc == 4 && strcmp(argv[1], "pass") == 0) {
-        pass(job_named(argv[2]), strcmp(argv[3], "rattle") == 0);
-        printf("%d\n", INPUTS);
-        return 0;
-    }
-    fprintf(stderr, "simple: check, time JOB or pass JOB rattle|plain, where JOB is content, write_blocks or read_plan\n");
-    return 2;
+    return measure(&subject, argc, argv);
 }

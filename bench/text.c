@@ -1,10 +1,4 @@
-/*
- * cb_write_text and cb_read_text beside plain C: whether they do the same, and how long they take.
- *
- *   text check                      texts and pages, near good ones, must leave the same number and memory
- *   text time write|read            prints nanoseconds a call, Rattle and plain C, and their ratio
- *   text pass write|read rattle|plain   goes over the pages once and prints how many, for a counter of instructions
- */
+/* cb_write_text and cb_read_text beside plain C: a program of measure.h. Lengths are characters of a text. */
 #include <stdbool.h>
 #include <stdio.h>
 #include <string.h>
@@ -17,10 +11,12 @@
 typedef uint32_t writer(uint16_t, uint16_t, uint8_t, uint8_t, const uint16_t *, size_t, uint8_t *, size_t);
 typedef uint32_t reader(const uint8_t *, size_t, size_t, uint16_t *, size_t);
 
-enum { CALLS = 1000000, PAGES = 4096, ROUNDS = 51, ROOM = 112 };
+enum { CALLS = 1000000, PAGES = 4096, ROOM = 112 };
+enum call { WRITE_TEXT, READ_TEXT };
 
 static uint16_t texts[PAGES][CB_TEXT];
 static uint8_t pages[PAGES][CB_OUTPUT];
+static size_t characters;
 
 /* A character that can be written, most often. */
 static uint16_t character(uint64_t *row)
@@ -80,67 +76,55 @@ static void check_read(uint64_t *row, int at, unsigned long *seen)
     seen[CB_NUMBER(a)]++;
 }
 
-static int check(void)
+static long check(unsigned long *seen)
 {
-    static const uint8_t answers[] = {0, 10, 11, 12, 13, 14, 15, 16, 18};
-    unsigned long seen[256] = {0};
     uint64_t row = 3;
 
     for (int i = 0; i < CALLS; i++) {
         check_write(&row, i, seen);
         check_read(&row, i, seen);
     }
-    if (!all_seen("text", seen, answers, sizeof answers))
-        return 1;
-    printf("text: the same in %d calls, every answer among them\n", 2 * CALLS);
-    return 0;
+    return 2 * CALLS;
 }
 
-static void write_all(writer *write)
+/* No text ends in CR, so that it can be written. */
+static void prepare(size_t length, bool by_rattle)
 {
+    writer *write = by_rattle ? cb_write_text : plain_write_text;
+    uint64_t row = 1;
+
+    plain_text_init();
+    characters = length;
+    for (int i = 0; i < PAGES; i++) {
+        for (size_t j = 0; j < length; j++)
+            texts[i][j] = (uint16_t)(j % 7 == 6 ? 0xE0 : 'A' + draw(&row) % 26);
+        write(0x10, 0x8001, 0, 0x11, texts[i], length, pages[i], CB_OUTPUT);
+    }
+}
+
+static void pass(int call, bool rattle)
+{
+    writer *write = rattle ? cb_write_text : plain_write_text;
+    reader *read = rattle ? cb_read_text : plain_read_text;
+    static uint16_t text[CB_TEXT];
     static uint8_t page[CB_OUTPUT];
 
-    for (int i = 0; i < PAGES; i++)
-        write(0x10, 0x8001, 0, 0x11, texts[i], CB_TEXT, page, sizeof page);
-}
-
-static void read_all(reader *read)
-{
-    static uint16_t text[CB_TEXT];
-
-    for (int i = 0; i < PAGES; i++)
-        read(pages[i], CB_OUTPUT, CB_OUTPUT, text, CB_TEXT);
-}
-
-static void pass(int writing, bool rattle)
-{
-    if (writing)
-        write_all(rattle ? cb_write_text : plain_write_text);
-    else
-        read_all(rattle ? cb_read_text : plain_read_text);
+    for (int i = 0; i < PAGES; i++) {
+        if (call == WRITE_TEXT)
+            write(0x10, 0x8001, 0, 0x11, texts[i], characters, page, sizeof page);
+        else
+            read(pages[i], CB_OUTPUT, CB_OUTPUT, text, CB_TEXT);
+    }
 }
 
 int main(int argc, char **argv)
 {
-    uint64_t row = 1;
-    bool counting_plain = argc == 4 && strcmp(argv[3], "plain") == 0;
-    writer *prepare = counting_plain ? cb_write_text : plain_write_text; /* never the one that is counted */
+    static const char *const calls[] = {[WRITE_TEXT] = "write_text", [READ_TEXT] = "read_text", NULL};
+    static const uint8_t answers[] = {0, 10, 11, 12, 13, 14, 15, 16, 18};
+    static const struct subject subject = {
+        .name = "text", .calls = calls, .longest = CB_TEXT, .inputs = PAGES, .rounds = 51,
+        .prepare = prepare, .pass = pass, .check = check, .answers = answers, .answer_count = sizeof answers,
+    };
 
-    plain_text_init();
-    for (int i = 0; i < PAGES; i++) {
-        for (int j = 0; j < CB_TEXT; j++)
-            texts[i][j] = (uint16_t)(j % 7 == 6 ? 0xE0 : 'A' + draw(&row) % 26);
-        prepare(0x10, 0x8001, 0, 0x11, texts[i], CB_TEXT, pages[i], CB_OUTPUT);
-    }
-    if (argc == 2 && strcmp(argv[1], "check") == 0)
-        return check();
-    if (argc == 3 && strcmp(argv[1], "time") == 0)
-        return time_both(pass, strcmp(argv[2], "write") == 0, PAGES, ROUNDS);
-    if (argc == 4 && strcmp(argv[1], "pass") == 0) {
-        pass(strcmp(argv[2], "write") == 0, strcmp(argv[3], "rattle") == 0);
-        printf("%d\n", PAGES);
-        return 0;
-    }
-    fprintf(stderr, "text: check, time write|read or pass write|read rattle|plain\n");
-    return 2;
+    return measure(&subject, argc, argv);
 }
