@@ -1,3 +1,4 @@
 -- What `planfile` defines.
 pub mod Filled
+pub mod Refused
 pub mod Taken

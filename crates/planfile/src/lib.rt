@@ -2,9 +2,11 @@
 ghost use mathlib.Core.Path.{_≡_};
 ghost use Prim.Native.Nat.{_≤_};
 ghost use lib.ListN.{length};
+ghost use Rattle.answer.specs.Number.{numberOf};
 ghost use Rattle.plan.specs.Paper.{planNumber};
 ghost use Rattle.plan.specs.Coded.{planOf};
 ghost use Rattle.planfile.specs.Filled.{filled};
+ghost use Rattle.planfile.specs.Refused.{allBehind, numbered, refused};
 ghost use Rattle.planfile.specs.Taken.{takenOf, taken, untaken};
 use answer::Refusal;
 use libc::STDERR_FILENO;
@@ -42,20 +44,35 @@ pub fn fill(fd: i32, memory: &mut [u8]) -> Filled
     Filled::Octets(have)
 }
 
-// Says what refused something: a program, what it is about, and the refusal with its words.
-pub fn say_refused(program: &[u8], about: &[u8], refusal: Refusal) {
-    io::write_all(STDERR_FILENO, program);
-    io::write_all(STDERR_FILENO, b": refused by ");
-    io::print_decimal(STDERR_FILENO, answer::number(refusal) as u64);
-    io::write_all(STDERR_FILENO, b": ");
-    io::write_all(STDERR_FILENO, about);
-    say_words(refusal);
-    io::write_all(STDERR_FILENO, b"\n");
+// Puts a line on a refusal: a program, the number, what it is about, and the words. Answers where it ends; a part that does not fit is left out.
+pub fn put_refused(
+    program: &[u8],
+    about: &[u8],
+    refusal: Refusal,
+    text: &mut [u8],
+    at: usize,
+) -> usize
+    ensures { λ r. ⌜ record { end = r; text = now (text .exit) } ≡ allBehind (refused (now (program .entry)) (now (about .entry)) (numberOf refusal)) at (now (text .entry)) ⌝ }
+{
+    let named = lines::put(program, text, at);
+    let numbered = put_number(answer::number(refusal), text, named);
+    let told = lines::put(about, text, numbered);
+    let said = words::put_words(refusal, text, told);
+    lines::put(b"\n", text, said)
 }
 
-fn say_words(refusal: Refusal) {
-    let mut text = [0u8; 80];
-    let end = words::put_words(refusal, &mut text, 0);
+fn put_number(number: u8, text: &mut [u8], at: usize) -> usize
+    ensures { λ r. ⌜ record { end = r; text = now (text .exit) } ≡ allBehind (numbered number) at (now (text .entry)) ⌝ }
+{
+    let led = lines::put(b": refused by ", text, at);
+    let ended = lines::put_number(number as u64, text, led);
+    lines::put(b": ", text, ended)
+}
+
+// Says on standard error what refused something.
+pub fn say_refused(program: &[u8], about: &[u8], refusal: Refusal) {
+    let mut text = [0u8; 200];
+    let end = put_refused(program, about, refusal, &mut text, 0);
     io::write_all(STDERR_FILENO, &text[..end]);
 }
 

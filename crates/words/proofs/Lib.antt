@@ -1,2 +1,3 @@
 -- What `words` proves.
 pub mod Determined
+pub mod Table

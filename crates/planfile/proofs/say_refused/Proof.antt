@@ -1,16 +1,16 @@
--- `planfile::say_words` is safe: the words end within the memory for them.
+-- `planfile::say_refused` is safe: the line ends within the memory for it.
 use mathlib.Core.Path.{_≡_, sym}
 use Prim.Native.Nat.{_≤_}
 use native.Mathlib.Omega.{arith}
 use lib.ListN.{length}
 use lib.Seq.{length-take-le}
 use borrow.Author.Needs.{needs}
-use Rattle.planfile.proofs.Ends.{ends-inside}
-use Rattle.planfile.proofs.say_words.Statement.{statement}
-use Rattle.planfile.proofs.say_words.Tie as tie
+use Rattle.planfile.proofs.Lines.{ends-all}
+use Rattle.planfile.proofs.say_refused.Statement.{statement}
+use Rattle.planfile.proofs.say_refused.Tie as tie
 
-few : (c : tie.After-put-words) → c .put-words .result ≤ 80
-few c = ends-inside _ _ _ _ (omega arith) (c .put-words .ensures)
+few : (c : tie.After-put-refused) → c .put-refused .result ≤ 200
+few c = ends-all _ _ _ _ (omega arith) (c .put-refused .ensures)
 
 array-share-prefix-text : tie.Need-array-share-prefix-text
 array-share-prefix-text c = omega (arith, few (c .before))
@@ -18,8 +18,8 @@ array-share-prefix-text c = omega (arith, few (c .before))
 slice-aggregate-write-all : tie.Need-slice-aggregate-write-all
 slice-aggregate-write-all c = sym (length-take-le _ _ (omega (arith, few (c .before .before))))
 
-pub say-words-spec : {M : Type 1} → statement M
-say-words-spec =
+pub say-refused-spec : {M : Type 1} → statement M
+say-refused-spec =
     tie.close
     (tie.spec
     (λ c. search needs)

@@ -1,0 +1,34 @@
+-- `words::put_schedule_words` meets its contract: each arm knows its number, and `find` computes there.
+use mathlib.Core.Path.{refl}
+use borrow.Author.Needs.{needs}
+use Rattle.words.specs.Words.{ascii, find, ofSchedule}
+use Rattle.words.proofs.Table.{says, says-none}
+use Rattle.words.proofs.put_schedule_words.Statement.{statement}
+use Rattle.words.proofs.put_schedule_words.Tie as tie
+
+pub put-schedule-words-spec : {M : Type 1} → statement M
+unfolding ascii find
+put-schedule-words-spec =
+    tie.close
+    (tie.spec
+    (λ c. search needs)
+    (λ c κs. search needs)
+    (λ c. search needs)
+    (λ c κs. search needs)
+    (λ c. search needs)
+    (λ c κs. search needs)
+    (λ c. search needs)
+    (λ c κs. search needs)
+    (λ c. search needs)
+    (λ c κs. search needs)
+    (λ c. search needs)
+    (λ c. says (find ofSchedule) _ 20 _ _ _ _ (c .before .before .before .before .before .match .keys1) refl (c .before .before .put .ensures))
+    (λ c. search needs)
+    (λ c. says (find ofSchedule) _ 21 _ _ _ _ (c .before .before .before .before .before .match .keys2) refl (c .before .before .put2 .ensures))
+    (λ c. search needs)
+    (λ c. says (find ofSchedule) _ 22 _ _ _ _ (c .before .before .before .before .before .match .keys3) refl (c .before .before .put3 .ensures))
+    (λ c. search needs)
+    (λ c. says (find ofSchedule) _ 23 _ _ _ _ (c .before .before .before .before .before .match .keys4) refl (c .before .before .put4 .ensures))
+    (λ c. search needs)
+    (λ c. says (find ofSchedule) _ 24 _ _ _ _ (c .before .before .before .before .before .match .keys5) refl (c .before .before .put5 .ensures))
+    (λ c. says-none ofSchedule _ _ _ (c .match .rest)))

@@ -1,0 +1,34 @@
+-- `words::put_text_words` meets its contract: each arm knows its number, and `find` computes there.
+use mathlib.Core.Path.{refl}
+use borrow.Author.Needs.{needs}
+use Rattle.words.specs.Words.{ascii, find, ofText}
+use Rattle.words.proofs.Table.{says, says-none}
+use Rattle.words.proofs.put_text_words.Statement.{statement}
+use Rattle.words.proofs.put_text_words.Tie as tie
+
+pub put-text-words-spec : {M : Type 1} → statement M
+unfolding ascii find
+put-text-words-spec =
+    tie.close
+    (tie.spec
+    (λ c. search needs)
+    (λ c κs. search needs)
+    (λ c. search needs)
+    (λ c κs. search needs)
+    (λ c. search needs)
+    (λ c κs. search needs)
+    (λ c. search needs)
+    (λ c κs. search needs)
+    (λ c. search needs)
+    (λ c κs. search needs)
+    (λ c. search needs)
+    (λ c. says (find ofText) _ 10 _ _ _ _ (c .before .before .before .before .before .match .keys1) refl (c .before .before .put .ensures))
+    (λ c. search needs)
+    (λ c. says (find ofText) _ 11 _ _ _ _ (c .before .before .before .before .before .match .keys2) refl (c .before .before .put2 .ensures))
+    (λ c. search needs)
+    (λ c. says (find ofText) _ 12 _ _ _ _ (c .before .before .before .before .before .match .keys3) refl (c .before .before .put3 .ensures))
+    (λ c. search needs)
+    (λ c. says (find ofText) _ 13 _ _ _ _ (c .before .before .before .before .before .match .keys4) refl (c .before .before .put4 .ensures))
+    (λ c. search needs)
+    (λ c. says (find ofText) _ 14 _ _ _ _ (c .before .before .before .before .before .match .keys5) refl (c .before .before .put5 .ensures))
+    (λ c. says-none ofText _ _ _ (c .match .rest)))
