@@ -2,6 +2,7 @@
 mod digits;
 mod results;
 
+ghost use mathlib.Core.Path.{_≡_};
 ghost use Prim.Native.Nat.{_≤_};
 ghost use lib.ListN.{length};
 ghost use Rattle.fields.specs.Within.{Within};
@@ -78,6 +79,25 @@ pub fn word_room() -> [u16; ROOM]
     ensures { λ r. ⌜ 512 ≤ length r ⌝ }
 {
     [LENT_WORD; ROOM]
+}
+
+// The same for a state, for a message and for a text.
+pub fn state() -> [u8; 90]
+    ensures { λ r. ⌜ 90 ≡ length r ⌝ }
+{
+    [LENT; 90]
+}
+
+pub fn message() -> [u8; 88]
+    ensures { λ r. ⌜ 88 ≡ length r ⌝ }
+{
+    [LENT; 88]
+}
+
+pub fn text() -> [u16; 93]
+    ensures { λ r. ⌜ 93 ≡ length r ⌝ }
+{
+    [LENT_WORD; 93]
 }
 
 // The place of a field in its line; no characters where there is no field.

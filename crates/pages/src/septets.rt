@@ -1,4 +1,6 @@
 // Septets: the alphabet, and septets packed into octets.
+ghost use mathlib.Core.Path.{_≡_};
+ghost use lib.ListN.{length};
 use fields::Cursor;
 use fields::Verdict;
 
@@ -31,7 +33,7 @@ fn is_written(septet: u8, code: u16) -> bool {
 // X: septets and the octets that they are packed as. The calls pack 93 septets at a time, so zero bits, which are septets
 // 00, follow up to the page's end.
 pub fn packing(line: &[u8]) -> Verdict {
-    let mut septets = [0u8; 93];
+    let mut septets = no_septets();
     let given = fields::take_octets(line, fields::start(), &mut septets);
     let count = given.count;
     let compared = packed(line, given.next, &septets, (7 * count + 7) / 8);
@@ -39,6 +41,18 @@ pub fn packing(line: &[u8]) -> Verdict {
         return fields::judged(line, compared);
     }
     fields::judged(line, fields::wrong(compared))
+}
+
+fn no_septets() -> [u8; 93]
+    ensures { λ r. ⌜ 93 ≡ length r ⌝ }
+{
+    [0; 93]
+}
+
+fn no_content() -> [u8; 82]
+    ensures { λ r. ⌜ 82 ≡ length r ⌝ }
+{
+    [0; 82]
 }
 
 // The calls take the low seven bits of an octet for its septet, so a wrong eighth bit is told here.
@@ -54,7 +68,7 @@ fn are_septets(octets: &[u8]) -> bool {
 }
 
 fn packed(line: &[u8], cursor: Cursor, septets: &[u8], length: usize) -> Cursor {
-    let mut content = [0u8; 82];
+    let mut content = no_content();
     let given = fields::take_octets(line, cursor, &mut content);
     let next = given.next;
     if given.count != length {
@@ -76,7 +90,7 @@ fn page_of(content: [u8; 82]) -> [u8; 88] {
 
 // The page must be read as the text of the septets, and written from it. A text with septet 1B is only read.
 fn is_packing(septets: &[u8], page: [u8; 88]) -> bool {
-    let mut codes = [0u16; 93];
+    let mut codes = fields::text();
     alphabet::code_points(septets, &mut codes);
     if !is_read(&page, &codes) {
         return false;
@@ -99,7 +113,7 @@ fn has_escape(septets: &[u8]) -> bool {
 }
 
 fn is_read(page: &[u8], codes: &[u16]) -> bool {
-    let mut text = [fields::LENT_WORD; 93];
+    let mut text = fields::text();
     if capi::cb_read_text(page, 88, &mut text) != 256 * 93 {
         return false;
     }
@@ -107,7 +121,7 @@ fn is_read(page: &[u8], codes: &[u16]) -> bool {
 }
 
 fn is_written_as(page: &[u8], codes: &[u16]) -> bool {
-    let mut out = [fields::LENT; 88];
+    let mut out = fields::message();
     if capi::cb_write_text(0, 0, 0, 0x11, codes, &mut out) != 256 * 88 {
         return false;
     }

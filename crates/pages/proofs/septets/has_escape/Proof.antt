@@ -1,15 +1,15 @@
--- `calls::septets::are_septets` is safe and ends.
+-- `pages::septets::has_escape` is safe and ends.
 use Prim.Native.Nat.{_-_}
 use lib.ListN.{length}
 use borrow.Author.Needs.{needs}
-use Rattle.calls.proofs.septets.are_septets.Statement.{statement}
-use Rattle.calls.proofs.septets.are_septets.Tie as tie
+use Rattle.pages.proofs.septets.has_escape.Statement.{statement}
+use Rattle.pages.proofs.septets.has_escape.Tie as tie
 
 abbrev Inv-loop : tie.InvT-loop
-Inv-loop octets i₀ i = Unit {0}
+Inv-loop septets i₀ i = Unit {0}
 
 abbrev μ-loop : tie.MeasureT-loop
-μ-loop octets i₀ i = length octets - i
+μ-loop septets i₀ i = length septets - i
 
 loop-holds : tie.Need-loop-holds Inv-loop μ-loop
 loop-holds c = search needs
@@ -32,8 +32,8 @@ loop-again c = search needs
 returns-2 : tie.Need-returns-2 Inv-loop μ-loop
 returns-2 c = search needs
 
-pub are-septets-spec : {M : Type 1} → statement M
-are-septets-spec =
+pub has-escape-spec : {M : Type 1} → statement M
+has-escape-spec =
     tie.close
     (tie.spec
     Inv-loop

@@ -1,9 +1,9 @@
--- `calls::pieces::sequence` is safe and ends. The invariant: the state keeps its length. The measure is the number of turns left.
+-- `pieces::sequences::sequence` is safe and ends. The invariant: the state keeps its length. The measure is the number of turns left.
 use mathlib.Core.Path.{_≡_}
 use lib.ListN.{length}
 use borrow.Author.Needs.{needs}
-use Rattle.calls.proofs.pieces.sequence.Statement.{statement}
-use Rattle.calls.proofs.pieces.sequence.Tie as tie
+use Rattle.pieces.proofs.sequences.sequence.Statement.{statement}
+use Rattle.pieces.proofs.sequences.sequence.Tie as tie
 use Rattle.fields.proofs.start.Reads as start-reads′
 
 abbrev Inv-loop : tie.InvT-loop
@@ -11,6 +11,9 @@ Inv-loop line lent₀ step₀ turns₀ lent step turns = length lent ≡ 90
 
 abbrev μ-loop : tie.MeasureT-loop
 μ-loop line lent₀ step₀ turns₀ lent step turns = turns
+
+state-requires : tie.Need-state-requires Inv-loop μ-loop
+state-requires c κs = search needs
 
 start-requires : tie.Need-start-requires Inv-loop μ-loop
 start-requires c κs = search needs
@@ -66,6 +69,7 @@ sequence-spec =
     (tie.spec
     Inv-loop
     μ-loop
+    state-requires
     start-requires
     start-requires-2
     slice-aggregate-cb-start

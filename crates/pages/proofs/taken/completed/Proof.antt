@@ -1,15 +1,18 @@
--- `calls::pieces::pages` is safe and ends. The invariant: the state keeps its length. The measure is the number of turns left.
+-- `pages::taken::completed` is safe and ends. The invariant: the state keeps its length. The measure is the number of turns left.
 use mathlib.Core.Path.{_≡_}
 use lib.ListN.{length}
 use borrow.Author.Needs.{needs}
-use Rattle.calls.proofs.pieces.pages.Statement.{statement}
-use Rattle.calls.proofs.pieces.pages.Tie as tie
+use Rattle.pages.proofs.taken.completed.Statement.{statement}
+use Rattle.pages.proofs.taken.completed.Tie as tie
 
 abbrev Inv-loop : tie.InvT-loop
 Inv-loop line lent₀ cursor₀ turns₀ lent cursor turns = length lent ≡ 90
 
 abbrev μ-loop : tie.MeasureT-loop
 μ-loop line lent₀ cursor₀ turns₀ lent cursor turns = turns
+
+state-requires : tie.Need-state-requires Inv-loop μ-loop
+state-requires c κs = search needs
 
 start-requires : tie.Need-start-requires Inv-loop μ-loop
 start-requires c κs = search needs
@@ -47,12 +50,13 @@ loop-again c = search needs
 returns-2 : tie.Need-returns-2 Inv-loop μ-loop
 returns-2 c = search needs
 
-pub pages-spec : {M : Type 1} → statement M
-pages-spec =
+pub completed-spec : {M : Type 1} → statement M
+completed-spec =
     tie.close
     (tie.spec
     Inv-loop
     μ-loop
+    state-requires
     start-requires
     slice-aggregate-cb-start
     cb-start-requires

@@ -1,9 +1,12 @@
--- `calls::pieces::page_text` is safe: the characters lie in their room.
+-- `pages::taken::page_text` is safe: the characters lie in their room.
 use mathlib.Core.Path.{sym}
 use lib.Seq.{length-take-le}
 use borrow.Author.Needs.{needs}
-use Rattle.calls.proofs.pieces.page_text.Statement.{statement}
-use Rattle.calls.proofs.pieces.page_text.Tie as tie
+use Rattle.pages.proofs.taken.page_text.Statement.{statement}
+use Rattle.pages.proofs.taken.page_text.Tie as tie
+
+text-requires : tie.Need-text-requires
+text-requires c κs = search needs
 
 slice-aggregate-cb-read-text : tie.Need-slice-aggregate-cb-read-text
 slice-aggregate-cb-read-text c = search needs
@@ -42,6 +45,7 @@ pub page-text-spec : {M : Type 1} → statement M
 page-text-spec =
     tie.close
     (tie.spec
+    text-requires
     slice-aggregate-cb-read-text
     cb-read-text-requires
     expect-nothing-requires
