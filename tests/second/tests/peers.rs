@@ -1,4 +1,4 @@
-//! Results that other people's programs confirm, in `vectors/peers.txt`.
+//! Results that other people's programs confirm, in `crates/trial/data/peers.txt`.
 
 use second::case::{hex, octets, words, Case, Entry};
 use second::intake::STATE;
@@ -6,7 +6,7 @@ use second::side::{Ours, Side};
 use second::stored::line;
 use second::text::{pack, read_text, septet, unpack, ALPHABET, CHARACTERS};
 
-const PEERS: &str = include_str!("../vectors/peers.txt");
+const PEERS: &str = include_str!("../../../crates/trial/data/peers.txt");
 
 fn list(field: &str) -> Vec<u8> {
     octets(field.trim_matches('-')).unwrap()

@@ -5,13 +5,10 @@ use Rattle.trial.proofs.main.Statement.{statement}
 use Rattle.trial.proofs.main.Tie as tie
 
 abbrev Inv-loop : tie.InvT-loop
-Inv-loop run₀ count i₀ run i = Unit {0}
+Inv-loop counts₀ count i₀ counts i = Unit {0}
 
 abbrev μ-loop : tie.MeasureT-loop
-μ-loop run₀ count i₀ run i = count - i
-
-before-lines-requires : tie.Need-before-lines-requires Inv-loop μ-loop
-before-lines-requires c κs = search needs
+μ-loop counts₀ count i₀ counts i = count - i
 
 arg-count-requires : tie.Need-arg-count-requires Inv-loop μ-loop
 arg-count-requires c κs = search needs
@@ -43,7 +40,6 @@ main-spec =
     (tie.spec
     Inv-loop
     μ-loop
-    before-lines-requires
     arg-count-requires
     loop-holds
     try-argument-requires

@@ -6,19 +6,16 @@ use Rattle.trial.proofs.try_file.Statement.{statement}
 use Rattle.trial.proofs.try_file.Tie as tie
 
 abbrev Inv-loop : tie.InvT-loop
-Inv-loop name file text₀ line₀ next₀ turns₀ text line next turns = (length text ≡ 65536) × (length line ≡ 4096)
+Inv-loop name file counts₀ text₀ characters₀ line₀ turns₀ counts text characters line turns = (length text ≡ 65536) × (length characters ≡ 4096)
 
 abbrev μ-loop : tie.MeasureT-loop
-μ-loop name file text₀ line₀ next₀ turns₀ text line next turns = turns
+μ-loop name file counts₀ text₀ characters₀ line₀ turns₀ counts text characters line turns = turns
 
 large-buffer-requires : tie.Need-large-buffer-requires Inv-loop μ-loop
 large-buffer-requires c κs = search needs
 
 buffer-requires : tie.Need-buffer-requires Inv-loop μ-loop
 buffer-requires c κs = search needs
-
-before-lines-requires : tie.Need-before-lines-requires Inv-loop μ-loop
-before-lines-requires c κs = search needs
 
 loop-holds : tie.Need-loop-holds Inv-loop μ-loop
 loop-holds c = search needs
@@ -32,8 +29,8 @@ read-requires c κs = search needs
 fail-requires : tie.Need-fail-requires Inv-loop μ-loop
 fail-requires c κs = search needs
 
-counted-requires : tie.Need-counted-requires Inv-loop μ-loop
-counted-requires c κs = search needs
+count-in-requires : tie.Need-count-in-requires Inv-loop μ-loop
+count-in-requires c κs = search needs
 
 returns : tie.Need-returns Inv-loop μ-loop
 returns c = search needs
@@ -85,12 +82,11 @@ try-file-spec =
     μ-loop
     large-buffer-requires
     buffer-requires
-    before-lines-requires
     loop-holds
     slice-aggregate-read
     read-requires
     fail-requires
-    counted-requires
+    count-in-requires
     returns
     slice-aggregate-count
     count-requires

@@ -7,10 +7,10 @@ use Rattle.trial.proofs.try_text.Statement.{statement}
 use Rattle.trial.proofs.try_text.Tie as tie
 
 abbrev Inv-loop : tie.InvT-loop
-Inv-loop name text line₀ next₀ i₀ line next i = (i ≤ length text) × (length line ≡ length line₀)
+Inv-loop name text characters₀ counts₀ next₀ i₀ characters counts next i = (i ≤ length text) × (length characters ≡ length characters₀)
 
 abbrev μ-loop : tie.MeasureT-loop
-μ-loop name text line₀ next₀ i₀ line next i = length text - i
+μ-loop name text characters₀ counts₀ next₀ i₀ characters counts next i = length text - i
 
 loop-holds : tie.Need-loop-holds Inv-loop μ-loop
 loop-holds c = search needs

@@ -1,0 +1,2 @@
+-- What `fields` proves.
+pub mod Rooms
