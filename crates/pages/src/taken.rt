@@ -5,8 +5,8 @@ use fields::Verdict;
 // V: for each piece, from a started state: piece, number, octets received, the text of a page that it completes.
 pub fn completed(line: &[u8]) -> Verdict {
     let mut lent = fields::state();
-    let mut cursor = fields::start();
     firmware::cb_start(&mut lent);
+    let mut cursor = page_of(line, fields::start(), &mut lent);
     // a line has fewer pieces than characters
     let mut turns = line.len();
     while turns > 0 {

@@ -14,14 +14,20 @@ abbrev μ-loop : tie.MeasureT-loop
 state-requires : tie.Need-state-requires Inv-loop μ-loop
 state-requires c κs = search needs
 
-start-requires : tie.Need-start-requires Inv-loop μ-loop
-start-requires c κs = search needs
-
 slice-aggregate-cb-start : tie.Need-slice-aggregate-cb-start Inv-loop μ-loop
 slice-aggregate-cb-start c = search needs
 
 cb-start-requires : tie.Need-cb-start-requires Inv-loop μ-loop
 cb-start-requires c κs = search needs
+
+start-requires : tie.Need-start-requires Inv-loop μ-loop
+start-requires c κs = search needs
+
+slice-aggregate-page-of : tie.Need-slice-aggregate-page-of Inv-loop μ-loop
+slice-aggregate-page-of c = search needs
+
+page-of-requires : tie.Need-page-of-requires Inv-loop μ-loop
+page-of-requires c κs = search needs
 
 loop-holds : tie.Need-loop-holds Inv-loop μ-loop
 loop-holds c = search needs
@@ -32,11 +38,11 @@ judged-requires c κs = search needs
 returns : tie.Need-returns Inv-loop μ-loop
 returns c = search needs
 
-slice-aggregate-page-of : tie.Need-slice-aggregate-page-of Inv-loop μ-loop
-slice-aggregate-page-of c = search needs
+slice-aggregate-page-of-2 : tie.Need-slice-aggregate-page-of-2 Inv-loop μ-loop
+slice-aggregate-page-of-2 c = search needs
 
-page-of-requires : tie.Need-page-of-requires Inv-loop μ-loop
-page-of-requires c κs = search needs
+page-of-requires-2 : tie.Need-page-of-requires-2 Inv-loop μ-loop
+page-of-requires-2 c κs = search needs
 
 sub-turns : tie.Need-sub-turns Inv-loop μ-loop
 sub-turns c = search needs
@@ -57,14 +63,16 @@ completed-spec =
     Inv-loop
     μ-loop
     state-requires
-    start-requires
     slice-aggregate-cb-start
     cb-start-requires
+    start-requires
+    slice-aggregate-page-of
+    page-of-requires
     loop-holds
     judged-requires
     returns
-    slice-aggregate-page-of
-    page-of-requires
+    slice-aggregate-page-of-2
+    page-of-requires-2
     sub-turns
     loop-less
     loop-again
