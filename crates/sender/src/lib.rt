@@ -5,12 +5,12 @@ ghost use Prim.Native.Nat.{ℕ, _+_, _≤_, _<_};
 ghost use lib.ListN.{length, replicate};
 ghost use lib.Seq.{sets};
 ghost use Rattle.schedule.specs.Coded.{toldOf, shownOf};
-ghost use Rattle.plan.specs.Coded.{planOf};
+ghost use Rattle.plan.specs.Coded.{planOf, plannedOf};
 ghost use Rattle.sender.specs.Paper.{planned, octetsOf, octetsOfAll, group, descriptions, newBit, newBits, bitmapOf, messageOf, write};
-ghost use Rattle.sender.specs.Coded.{writingOf, shownIn, Low, AllLow};
+ghost use Rattle.sender.specs.Coded.{writingOf, shownIn, toldBy, Low, AllLow};
 use answer::Refusal;
-use page::PageName;
 use plan::Plan;
+use plan::Planned;
 use plan::Verdict;
 use schedule::Description;
 use schedule::Slot;
@@ -30,43 +30,32 @@ pub enum Writing {
     Refused(Refusal),
 }
 
-// What is told of slot i, counted from 0.
-fn tell(current: Plan, previous: Plan, i: usize) -> Slot
-    requires { ⌜ (i < current .count) × (current .count ≤ 48) ⌝ }
-    ensures { λ r. ⌜ shownOf r ≡ planned (planOf current) (planOf previous) i ⌝ }
+// What is told of slot i, counted from 0, by what the plans say of it.
+fn tell(said: Planned, i: usize) -> Slot
+    requires { ⌜ (i < 48) × (said .lowest ≤ 48) ⌝ }
+    ensures { λ r. ⌜ shownOf r ≡ toldBy (plannedOf said) i ⌝ }
 {
-    let entries = current.entries;
-    let entry = entries[i];
-    if entry.kind == 1 {
+    if said.kind == 1 {
         return Slot {
             new: true,
             description: Description::Advised,
         };
     }
-    if entry.kind != 2 {
+    if said.kind != 2 {
         return Slot {
             new: false,
             description: Description::Optional,
         };
     }
-    let serial = entry.serial;
-    let id = entry.id;
-    let name = PageName {
-        serial,
-        id,
-        parameter: entry.parameter,
-    };
-    let new = !plan::has_page(previous, name);
-    let lowest = plan::lowest_slot(current, name);
-    if lowest == i + 1 {
+    if said.lowest == i + 1 {
         return Slot {
-            new,
-            description: Description::First(id.0 % 0x8000),
+            new: said.fresh,
+            description: Description::First(said.low),
         };
     }
     Slot {
-        new,
-        description: Description::Repeat(lowest as u8),
+        new: said.fresh,
+        description: Description::Repeat(said.lowest as u8),
     }
 }
 
@@ -79,10 +68,12 @@ fn telling(current: Plan, previous: Plan) -> [Slot; 48]
         new: false,
         description: Description::Optional,
     }; 48];
+    let all = plan::all_planned(current, previous);
     let count = current.count;
     let mut i = 0;
     while i < count {
-        slots[i] = tell(current, previous, i);
+        let said = all[i];
+        slots[i] = tell(said, i);
         i += 1;
     }
     slots
