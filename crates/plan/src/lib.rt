@@ -244,12 +244,12 @@ fn marks_of(entries: [Entry; 48]) -> [u64; 48]
 fn first_slot(marks: &[u64], mark: u64) -> usize
     ensures { λ r. ⌜ r ≡ firstFrom (eqb mark) 1 (now (marks .entry)) ⌝ }
 {
-    let mut i = 0;
-    while i < marks.len() {
-        if marks[i] == mark {
-            return i + 1;
+    let mut slot = 1;
+    while slot <= marks.len() {
+        if marks[slot - 1] == mark {
+            return slot;
         }
-        i += 1;
+        slot += 1;
     }
     0
 }
@@ -274,7 +274,7 @@ fn planned_by(entry: Entry, mark: u64, current: &[u64], previous: &[u64]) -> Pla
         return none_planned(entry.kind);
     }
     Planned {
-        kind: 2,
+        kind: entry.kind,
         low: entry.id.0 % 0x8000,
         lowest: first_slot(current, mark),
         fresh: first_slot(previous, mark) == 0,

@@ -1,12 +1,13 @@
 // Schedule messages written from a plan and the plan before it.
 ghost use mathlib.Core.Path.{_≡_};
+ghost use mathlib.Core.Bool.{cond, _&&_};
 ghost use mathlib.Core.List.{[], _∷_, _++_};
 ghost use Prim.Native.Nat.{ℕ, _+_, _≤_, _<_};
 ghost use lib.ListN.{length, replicate};
 ghost use lib.Seq.{sets};
 ghost use Rattle.schedule.specs.Coded.{toldOf, shownOf};
 ghost use Rattle.plan.specs.Coded.{planOf, plannedOf};
-ghost use Rattle.sender.specs.Paper.{planned, octetsOf, octetsOfAll, group, descriptions, newBit, newBits, bitmapOf, messageOf, write};
+ghost use Rattle.sender.specs.Paper.{planned, octetsOf, octetsOfAll, group, descriptions, newBits, bitmapOf, messageOf, write};
 ghost use Rattle.sender.specs.Coded.{writingOf, shownIn, toldBy, Low, AllLow};
 use answer::Refusal;
 use plan::Plan;
@@ -106,15 +107,13 @@ fn width_of_all(slots: [Slot; 48], count: usize) -> usize
     width
 }
 
-// The new bit of slot i, counted from 0.
-fn new_bit(slots: [Slot; 48], count: usize, i: usize) -> u8
-    requires { ⌜ count ≤ 48 ⌝ }
-    ensures { λ r. ⌜ r ≡ newBit (shownIn slots) count i ⌝ }
+// The new bit of a slot; past the count it is 0.
+fn new_bit(slot: Slot, counted: bool) -> u8
+    ensures { λ r. ⌜ r ≡ cond (counted && slot .new) 1 0 ⌝ }
 {
-    if i >= count {
+    if !counted {
         return 0;
     }
-    let slot = slots[i];
     if slot.new {
         return 1;
     }
@@ -129,7 +128,9 @@ fn new_octet(slots: [Slot; 48], count: usize, j: usize) -> u8
     let mut bits = 0u8;
     let mut k = 0;
     while k < 8 {
-        bits = 2 * bits + new_bit(slots, count, 8 * j + k);
+        let i = 8 * j + k;
+        let slot = slots[i];
+        bits = 2 * bits + new_bit(slot, i < count);
         k += 1;
     }
     bits

@@ -1,6 +1,6 @@
 -- `plan::first_slot` meets its contract. The invariant: the answer is that of the search among the marks ahead.
-use mathlib.Core.Path.{_≡_, refl, sym, _∙_}
-use Prim.Native.Nat.{_+_, _-_, _≤_}
+use mathlib.Core.Path.{_≡_, refl, sym, ap, _∙_}
+use Prim.Native.Nat.{ℕ, _+_, _-_, _≤_, _<_}
 use lib.Dec.{eqb}
 use lib.ListN.{length, getD, drop}
 use native.Mathlib.Omega.{arith}
@@ -12,14 +12,17 @@ use Rattle.plan.proofs.first_slot.Statement.{statement}
 use Rattle.plan.proofs.first_slot.Tie as tie
 
 abbrev Inv-loop : tie.InvT-loop
-Inv-loop marks mark i₀ i =
-    (i ≤ length marks) × (firstFrom (eqb mark) 1 marks ≡ firstFrom (eqb mark) (i + 1) (drop i marks))
+Inv-loop marks mark slot₀ slot =
+    (1 ≤ slot) × (slot ≤ length marks + 1) × (firstFrom (eqb mark) 1 marks ≡ firstFrom (eqb mark) slot (drop (slot - 1) marks))
 
 abbrev μ-loop : tie.MeasureT-loop
-μ-loop marks mark i₀ i = length marks - i
+μ-loop marks mark slot₀ slot = length marks + 1 - slot
 
 loop-holds : tie.Need-loop-holds Inv-loop μ-loop
-loop-holds c = (omega arith, refl)
+loop-holds c = (omega arith, omega arith, refl)
+
+sub-if1 : tie.Need-sub-if1 Inv-loop μ-loop
+sub-if1 c = search needs
 
 mul-if1 : tie.Need-mul-if1 Inv-loop μ-loop
 mul-if1 c = search needs
@@ -27,22 +30,20 @@ mul-if1 c = search needs
 shared-slice-read-if1 : tie.Need-shared-slice-read-if1 Inv-loop μ-loop
 shared-slice-read-if1 c = search needs
 
-add-result : tie.Need-add-result Inv-loop μ-loop
-add-result c = search needs
-
 returns : tie.Need-returns Inv-loop μ-loop
 returns c =
     let b = c .before .before in
     let a = b .before .before .args in
     let l = b .before .loop in
     let ms = a .marks .now in
+    let k : l .slot - 1 < length ms = omega arith in
     sym
-    (l .inv .1
-    ∙ first-here (eqb (a .mark)) 0 (l .i + 1) ms (l .i) (b .loop-test .taken)
-    (eq-eqb (a .mark) (getD ms (l .i) 0) (sym (c .if1 .taken))))
+    (l .inv .2
+    ∙ first-here (eqb (a .mark)) 0 (l .slot) ms (l .slot - 1) k
+    (eq-eqb (a .mark) (getD ms (l .slot - 1) 0) (sym (c .if1 .taken))))
 
-add-i : tie.Need-add-i Inv-loop μ-loop
-add-i c = search needs
+add-slot : tie.Need-add-slot Inv-loop μ-loop
+add-slot c = search needs
 
 loop-less : tie.Need-loop-less Inv-loop μ-loop
 loop-less c = search needs
@@ -52,18 +53,22 @@ loop-again c =
     let b = c .before .before in
     let a = b .before .before .args in
     let l = b .before .loop in
-    let ms = a .marks .now in (
+    let ms = a .marks .now in
+    let k : l .slot - 1 < length ms = omega arith in
+    let next : l .slot - 1 + 1 ≡ l .slot + 1 - 1 = omega arith in (
       omega arith,
-      l .inv .1
-          ∙ first-next (eqb (a .mark)) 0 (l .i + 1) ms (l .i) (b .loop-test .taken)
-          (ne-eqb (a .mark) (getD ms (l .i) 0) (λ e. c .if1 .left (sym e))),
+      omega arith,
+      l .inv .2
+          ∙ first-next (eqb (a .mark)) 0 (l .slot) ms (l .slot - 1) k
+          (ne-eqb (a .mark) (getD ms (l .slot - 1) 0) (λ e. c .if1 .left (sym e)))
+          ∙ ap (λ (n : ℕ). firstFrom (eqb (a .mark)) (l .slot + 1) (drop n ms)) next,
     )
 
 returns-2 : tie.Need-returns-2 Inv-loop μ-loop
 returns-2 c =
     let a = c .before .before .args in
     let l = c .before .loop in
-    sym (l .inv .1 ∙ first-end (eqb (a .mark)) (l .i + 1) (a .marks .now) (l .i) (c .loop-test .left))
+    sym (l .inv .2 ∙ first-end (eqb (a .mark)) (l .slot) (a .marks .now) (l .slot - 1) (omega arith))
 
 pub first-slot-spec : {M : Type 1} → statement M
 first-slot-spec =
@@ -72,11 +77,11 @@ first-slot-spec =
     Inv-loop
     μ-loop
     loop-holds
+    sub-if1
     mul-if1
     shared-slice-read-if1
-    add-result
     returns
-    add-i
+    add-slot
     loop-less
     loop-again
     returns-2)

@@ -18,7 +18,7 @@ unfolding saidBy
 returns-2 c =
     let a = c .before .before .before .before .before .before .before .args in
     let two = c .before .before .before .if1 .left in
-    rw (eq-eqb (a .entry .kind) 2 two, two, c .before .first-slot .ensures, lacks-mark (a .mark) (a .previous .now) _ (c .first-slot2 .ensures))
+    rw (eq-eqb (a .entry .kind) 2 two, c .before .first-slot .ensures, lacks-mark (a .mark) (a .previous .now) _ (c .first-slot2 .ensures))
 
 pub planned-by-spec : {M : Type 1} → statement M
 planned-by-spec =
