@@ -1,8 +1,9 @@
 -- What is answered of a message, told from the table of its slots.
 use mathlib.Core.Path.{_≡_, refl, sym, ap, _∙_}
 use mathlib.Core.Bool.{not}
-use mathlib.Core.List.{List}
+use mathlib.Core.List.{List, map}
 use Prim.Native.Nat.{ℕ, _≤_}
+use native.Mathlib.Omega.{arith}
 use Rattle.laws.specs.Upto.{lowest}
 use Rattle.laws.proofs.Lowest.{lowest-agree}
 use Rattle.answer.specs.Number.{numberOf}
@@ -14,11 +15,14 @@ use Rattle.schedule.specs.declared.Table.{Table}
 use Rattle.schedule.specs.Paper.{read, listed, Shown, Listed, Read as Reads}
 use Rattle.schedule.specs.Coded.{readOf, listedOf}
 use Rattle.schedule.proofs.Givens.{Good, read-listed, given-good, shown-at}
-use Rattle.plan.specs.Paper.{Plan}
+use Rattle.plan.specs.declared.Planned.{Planned as PlannedCode}
+use Rattle.plan.specs.Paper.{Plan, allPlanned}
+use Rattle.plan.specs.Coded.{plannedOf}
 use Rattle.checker.specs.Paper.{unchecked, untrueAt, isTrue, untrue}
-use Rattle.checker.specs.Coded.{untrueIn}
+use Rattle.checker.specs.Coded.{untrueBy}
 use Rattle.checker.specs.Parts.{compared}
 use Rattle.checker.proofs.Answers.{read-refused, end-differs, all-true, one-untrue}
+use Rattle.checker.proofs.Telling.{untrue-said}
 
 module _ (c p : Plan) (m : List ℕ) (received : ℕ) (t : Table) (q : listedOf t ≡ listed m received) where
   read-number : read m received .number ≡ readOf (t .answer) .number
@@ -41,12 +45,15 @@ module _ (c p : Plan) (m : List ℕ) (received : ℕ) (t : Table) (q : listedOf 
     pub table-differs : (e ≡ c .count → ⊥) → untrueAt 0 ≡ compared c p m received
     table-differs d = end-differs c p m received reads (λ w. d (good .ends ∙ w))
 
-    module _ (w : e ≡ c .count) (s : ℕ) (l : s ≡ lowest (untrueIn c p (t .slots)) e) where
+    module _ (w : e ≡ c .count) (xs : List PlannedCode) (all : map plannedOf xs ≡ allPlanned c p) (s : ℕ) (l : s ≡ lowest (untrueBy xs (t .slots)) e) where
       found : s ≡ lowest (untrue c p m) (c .count)
       found =
           l
-          ∙ lowest-agree (untrueIn c p (t .slots)) (untrue c p m) e
-          (λ i h. ap (λ (x : Shown). not (isTrue c p i x)) (shown-at m received (listedOf t) q e good (t .slots) i refl h))
+          ∙ lowest-agree (untrueBy xs (t .slots)) (untrue c p m) e
+          (λ i h.
+          let last = table-last in
+          untrue-said c p xs all (t .slots) i (omega arith) (omega arith)
+          ∙ ap (λ (x : Shown). not (isTrue c p i x)) (shown-at m received (listedOf t) q e good (t .slots) i refl h))
           ∙ ap (lowest (untrue c p m)) w
 
       pub table-true : s ≡ 0 → unchecked 0 ≡ compared c p m received

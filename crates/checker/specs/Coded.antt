@@ -7,14 +7,16 @@ use Rattle.answer.specs.Number.{numberOf}
 use Rattle.schedule.specs.declared.Slot.{Slot}
 use Rattle.schedule.specs.Coded.{shownOf}
 use Rattle.schedule.specs.Parts.{zeroed}
-use Rattle.plan.specs.Paper.{Plan}
+use Rattle.plan.specs.declared.Planned.{Planned}
+use Rattle.plan.specs.Coded.{plannedOf}
+use Rattle.plan.specs.Parts.{nothing}
 use Rattle.checker.specs.declared.Checking.{Checking}
 use Rattle.checker.specs.declared.Checking.the-variants.{True, Refused}
-use Rattle.checker.specs.Paper.{isTrue, Checked}
+use Rattle.checker.specs.Paper.{trueBy, Checked}
 
--- what an array of slots holds of slot i is untrue
-abbrev pub untrueIn : Plan → Plan → List Slot → ℕ → Bool
-untrueIn c p s i = not (isTrue c p i (shownOf (getD s i zeroed)))
+-- what an array of slots holds of slot i is untrue by what another says of it
+abbrev pub untrueBy : List Planned → List Slot → ℕ → Bool
+untrueBy v s i = not (trueBy (plannedOf (getD v i nothing)) i (shownOf (getD s i zeroed)))
 
 -- 0 for a true message, or the refusal's number and the slot that comes with it
 abbrev pub checkedOf : Checking → Checked

@@ -6,18 +6,7 @@ use lib.Dec.{eqb}
 use Rattle.laws.specs.Ruled.{ruled, unless0}
 use Rattle.laws.specs.Upto.{lowest}
 use Rattle.schedule.specs.Paper.{Told, first, again, optional, advised, Shown, shown, end, read}
-use Rattle.plan.specs.Paper.{Plan, planNumber, hasPage, entryAt, pageAt, lowestAt, low15At}
-
--- 01 Truthful: what the plans say of a slot: its kind; of its page the low 15 bits of the identifier, the lowest slot with it, and whether the previous plan lacks it
-pub record Planned : Type 0 where
-  pub kind : ℕ
-  pub low : ℕ
-  pub lowest : ℕ
-  pub fresh : Bool
-
--- 01 Truthful: what the current plan c and the previous plan p say of slot i
-abbrev pub plannedAt : Plan → Plan → ℕ → Planned
-plannedAt c p i = record { kind = entryAt c i .kind; low = low15At c i; lowest = lowestAt c i; fresh = not (hasPage p (pageAt c i)) }
+use Rattle.plan.specs.Paper.{Plan, planNumber, Planned, plannedAt}
 
 -- 01 Truthful: the lowest slot with a page
 abbrev pub leads : Planned → ℕ → Bool

@@ -3,13 +3,13 @@ ghost use mathlib.Core.Path.{_≡_};
 ghost use Prim.Native.Nat.{_≤_, _<_};
 ghost use Rattle.laws.specs.Upto.{lowest as lowestOf};
 ghost use Rattle.schedule.specs.Coded.{toldOf, shownOf};
-ghost use Rattle.plan.specs.Coded.{planOf};
+ghost use Rattle.plan.specs.Coded.{planOf, plannedOf};
 ghost use Rattle.checker.specs.Paper.{leads, repeats, mayTell, newFor, trueBy, check};
-ghost use Rattle.checker.specs.Coded.{untrueIn, checkedOf};
-ghost use Rattle.checker.specs.Parts.{plannedOf, givenAt, compared};
+ghost use Rattle.checker.specs.Coded.{untrueBy, checkedOf};
+ghost use Rattle.checker.specs.Parts.{compared};
 use answer::Refusal;
-use page::PageName;
 use plan::Plan;
+use plan::Planned;
 use plan::Verdict;
 use schedule::Description;
 use schedule::Reading;
@@ -19,47 +19,6 @@ use schedule::Slot;
 pub enum Checking {
     True,
     Refused(Refusal, usize),
-}
-
-// What the plans say of a slot; where it is planned with no page, all but the kind is 0 or false.
-struct Planned {
-    kind: u8,
-    // the low 15 bits of the page's identifier
-    low: u16,
-    // the lowest slot with the page, by its number
-    lowest: usize,
-    // whether the previous plan lacks the page
-    fresh: bool,
-}
-
-// What the plans say of slot i, counted from 0.
-fn planned_at(current: Plan, previous: Plan, i: usize) -> Planned
-    requires { ⌜ i < 48 ⌝ }
-    ensures { λ r. ⌜ plannedOf r ≡ givenAt (planOf current) (planOf previous) i ⌝ }
-{
-    let entries = current.entries;
-    let entry = entries[i];
-    if entry.kind != 2 {
-        return Planned {
-            kind: entry.kind,
-            low: 0,
-            lowest: 0,
-            fresh: false,
-        };
-    }
-    let serial = entry.serial;
-    let id = entry.id;
-    let page = PageName {
-        serial,
-        id,
-        parameter: entry.parameter,
-    };
-    Planned {
-        kind: 2,
-        low: entry.id.0 % 0x8000,
-        lowest: plan::lowest_slot(current, page),
-        fresh: !plan::has_page(previous, page),
-    }
 }
 
 // Whether slot i is the lowest with its page.
@@ -143,15 +102,15 @@ fn is_true(planned: Planned, i: usize, slot: Slot) -> bool
     new == right
 }
 
-// The lowest slot, by its number, of the first ones that is told untruly; 0 for none.
-fn first_untrue(current: Plan, previous: Plan, slots: [Slot; 48], count: usize) -> usize
+// The lowest slot, by its number, of the first ones that is told untruly by what the plans say of all; 0 for none.
+fn first_untrue(all: [Planned; 48], slots: [Slot; 48], count: usize) -> usize
     requires { ⌜ count ≤ 48 ⌝ }
-    ensures { λ r. ⌜ r ≡ lowestOf (untrueIn (planOf current) (planOf previous) slots) count ⌝ }
+    ensures { λ r. ⌜ r ≡ lowestOf (untrueBy all slots) count ⌝ }
 {
     let mut i = 0;
     while i < count {
         let slot = slots[i];
-        let said = planned_at(current, previous, i);
+        let said = all[i];
         if !is_true(said, i, slot) {
             return i + 1;
         }
@@ -173,7 +132,8 @@ fn compare(current: Plan, previous: Plan, message: &[u8], received: usize) -> Ch
                 return Checking::Refused(Refusal::Untrue, 0);
             }
             let slots = table.slots;
-            let slot = first_untrue(current, previous, slots, end);
+            let all = plan::all_planned(current, previous);
+            let slot = first_untrue(all, slots, end);
             if slot == 0 {
                 return Checking::True;
             }

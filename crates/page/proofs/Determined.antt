@@ -5,7 +5,7 @@ use mathlib.Core.List.{List}
 use Prim.Native.Nat.{ℕ, _+_, _*_}
 use Rattle.answer.proofs.Inverse.{numberOf-injective, numberOf-positive}
 use Rattle.page.specs.Paper.{Part, header, headerOctets, samePage, handedPart, handedNumber}
-use Rattle.page.specs.Coded.{headingOf, nameOf, numberOfHanding}
+use Rattle.page.specs.Coded.{keyOf, headingOf, nameOf, numberOfHanding}
 use Rattle.page.specs.declared.Header.{Header}
 use Rattle.page.specs.declared.PageName.{PageName}
 use Rattle.page.specs.declared.Handing.{Handing}
@@ -22,6 +22,9 @@ determined-read-header octets r s p q = heading-injective r s (p ∙ sym q)
 
 pub determined-header-octets : (heading : Header) (r s : List ℕ) → r ≡ headerOctets (headingOf heading) → s ≡ headerOctets (headingOf heading) → r ≡ s
 determined-header-octets heading r s p q = p ∙ sym q
+
+pub determined-key : (name : PageName) (r s : ℕ) → r ≡ keyOf (nameOf name) → s ≡ keyOf (nameOf name) → r ≡ s
+determined-key name r s p q = p ∙ sym q
 
 pub determined-same : (a b : PageName) (r s : Bool) → r ≡ samePage (nameOf a) (nameOf b) → s ≡ samePage (nameOf a) (nameOf b) → r ≡ s
 determined-same a b r s p q = p ∙ sym q

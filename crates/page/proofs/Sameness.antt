@@ -2,10 +2,13 @@
 use mathlib.Core.Path.{_≡_, refl, sym, _∙_}
 use mathlib.Core.Bool.{Bool, true, false, false≢true}
 use mathlib.Core.Logic.{_⊎_, inl, inr}
+use Prim.Native.Nat.{_<_}
+use native.Mathlib.Omega.{arith}
 use lib.Dec.{eqb}
-use borrow.Author.Tests.{eq-eqb, eqb-true}
+use borrow.Author.Tests.{eq-eqb, ne-eqb, eqb-true}
 use Rattle.laws.proofs.Tests.{both}
 use Rattle.page.specs.Paper.{Name, samePage}
+use Rattle.page.specs.Coded.{keyOf}
 
 -- a and b are the same page
 abbrev pub Same : Name → Name → Type 0
@@ -53,3 +56,20 @@ same-transitive a b c h k =
 -- the same page has one message identifier
 pub same-identifier : (a b : Name) → Same a b → a .id ≡ b .id
 same-identifier a b h = equal a b h .id
+
+-- the parts of a name have 16 bits in its key
+pub record Small (n : Name) : Type 0 where
+  pub serial : n .serial < 65536
+  pub id : n .id < 65536
+
+-- pages are the same page exactly if their keys are equal
+pub key-same : (a b : Name) → Small a → Small b → eqb (keyOf a) (keyOf b) ≡ samePage a b
+key-same a b s t = go (samePage a b) refl
+  where
+    go : (r : Bool) → samePage a b ≡ r → eqb (keyOf a) (keyOf b) ≡ r
+    go true e = let q = equal a b e in eq-eqb (keyOf a) (keyOf b) (rw (q .serial, q .id, q .parameter))
+    go false e =
+        let differ : keyOf a ≡ keyOf b → ⊥ =
+        λ k. false≢true (sym e ∙ alike a b (record { serial = omega arith; id = omega arith; parameter = omega arith }))
+        in
+        ne-eqb (keyOf a) (keyOf b) differ

@@ -69,7 +69,7 @@ pub fn header_octets(heading: Header) -> [u8; 6]
 }
 
 // What tells a page as one number, so that a search through a plan compares once.
-fn key(name: PageName) -> u64
+pub fn key(name: PageName) -> u64
     ensures { λ r. ⌜ r ≡ keyOf (nameOf name) ⌝ }
 {
     (name.parameter as u64 * 0x10000 + name.id.0 as u64) * 0x10000 + name.serial.0 as u64

@@ -1,21 +1,20 @@
 -- Answers that meet a contract of `plan` are equal.
 use mathlib.Core.Path.{_≡_, refl, sym, ap, _∙_}
-use mathlib.Core.Bool.{Bool, cond}
+use mathlib.Core.Bool.{cond}
 use mathlib.Core.List.{List, [], _∷_, map}
 use Prim.Native.Nat.{ℕ}
 use lib.Dec.{eqb}
 use borrow.Author.Tests.{ne-eqb}
 use Rattle.answer.specs.Number.{numberOf}
 use Rattle.answer.proofs.Inverse.{refusalOf, refusalOf-numberOf, numberOf-positive}
-use Rattle.page.specs.Coded.{nameOf}
-use Rattle.page.specs.declared.PageName.{PageName}
 use Rattle.plan.specs.declared.Entry.{Entry as EntryCode}
 use Rattle.plan.specs.declared.Plan.{Plan as PlanCode}
 use Rattle.plan.specs.declared.Verdict.{Verdict}
 use Rattle.plan.specs.declared.Verdict.the-variants.{Good, Refused}
 use Rattle.plan.specs.declared.Reading.{Reading}
-use Rattle.plan.specs.Paper.{Entry, Plan, Read, empty, planNumber, readPlan, lowestSlot, hasPage}
-use Rattle.plan.specs.Coded.{entriesOf, planOf, verdictOf, readingOf}
+use Rattle.plan.specs.declared.Planned.{Planned as PlannedCode}
+use Rattle.plan.specs.Paper.{Entry, Plan, Read, Planned, empty, planNumber, readPlan, allPlanned}
+use Rattle.plan.specs.Coded.{entriesOf, planOf, verdictOf, readingOf, plannedOf}
 
 -- the code's entry, plan and verdict by the paper's
 abbrev entryFrom : Entry → EntryCode
@@ -53,8 +52,14 @@ determined-read-plan file r s a b =
     let plan = plan-injective (r .plan) (s .plan) (ap (λ (x : Read). x .plan) e) in
     λ i. record { verdict = verdict i; plan = plan i }
 
-pub determined-lowest-slot : (plan : PlanCode) (name : PageName) (r s : ℕ) → r ≡ lowestSlot (planOf plan) (nameOf name) → s ≡ lowestSlot (planOf plan) (nameOf name) → r ≡ s
-determined-lowest-slot plan name r s a b = a ∙ sym b
+abbrev plannedFrom : Planned → PlannedCode
+plannedFrom v = record { kind = v .kind; low = v .low; lowest = v .lowest; fresh = v .fresh }
 
-pub determined-has-page : (plan : PlanCode) (name : PageName) (r s : Bool) → r ≡ hasPage (planOf plan) (nameOf name) → s ≡ hasPage (planOf plan) (nameOf name) → r ≡ s
-determined-has-page plan name r s a b = a ∙ sym b
+plannedFrom-plannedOf : (vs : List PlannedCode) → map plannedFrom (map plannedOf vs) ≡ vs
+plannedFrom-plannedOf [] = refl
+plannedFrom-plannedOf (v ∷ vs) = ap (λ (l : List PlannedCode). v ∷ l) (plannedFrom-plannedOf vs)
+
+pub determined-all-planned : (current previous : PlanCode) (r s : List PlannedCode)
+    → map plannedOf r ≡ allPlanned (planOf current) (planOf previous) → map plannedOf s ≡ allPlanned (planOf current) (planOf previous) → r ≡ s
+determined-all-planned current previous r s a b =
+    sym (plannedFrom-plannedOf r) ∙ ap (map plannedFrom) (a ∙ sym b) ∙ plannedFrom-plannedOf s

@@ -5,5 +5,7 @@ pub mod Entries
 pub mod FileBack
 pub mod GoodPlan
 pub mod Lowest
+pub mod Marks
 pub mod ReadGood
+pub mod Said
 pub mod Slots

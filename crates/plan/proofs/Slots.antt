@@ -4,7 +4,7 @@ use mathlib.Core.Bool.{Bool, true, false, not, false≢true}
 use Prim.Native.Nat.{ℕ, suc, _≤_, _<_}
 use native.Mathlib.Omega.{arith}
 use lib.Dec.{eqb}
-use lib.ListN.{length, getD}
+use lib.ListN.{length, getD, length-take}
 use borrow.Author.Tests.{eqb-true, eq-eqb}
 use Rattle.laws.proofs.Search.{found-some, Found, none-passes, first-passes, searched, some-agree, first-agree}
 use Rattle.laws.proofs.Tests.{both}
@@ -85,3 +85,11 @@ module _ (p : Plan) (x : Name) where
   pub has-lowest : hasPage p x ≡ not (eqb (lowestSlot p x) 0)
   unfolding hasPage lowestSlot
   has-lowest = sym (found-some (holds x) 0 (within p))
+
+-- the lowest slot of a page is within the count
+pub lowest-counted : (p : Plan) (x : Name) → lowestSlot p x ≤ p .count
+lowest-counted p x = go (lowest-slot p x)
+  where
+    go : Lowest p x (lowestSlot p x) → lowestSlot p x ≤ p .count
+    go (absent e none) = omega arith
+    go (lowest k e own none) = omega (arith, own .inside, length-take (p .count) (p .entries))

@@ -1,11 +1,12 @@
 -- Plans and plan files as document 01 has them, in numbers and lists.
 use Prim.Native.Nat.{ℕ, zero, suc, _+_, _*_, _-_, _/_, _%_}
-use mathlib.Core.Bool.{Bool, not, _&&_, _||_}
+use mathlib.Core.Bool.{Bool, false, cond, not, _&&_, _||_}
 use mathlib.Core.List.{List, [], _∷_, _++_}
 use lib.Dec.{eqb, ltb}
 use lib.ListN.{length, take, drop, replicate, getD}
 use Rattle.laws.specs.Ruled.{ruled}
 use Rattle.laws.specs.Search.{some, firstFrom}
+use Rattle.laws.specs.Upto.{each}
 use Rattle.page.specs.Paper.{Name, octet, samePage}
 
 -- 01 The plan: a slot's entry: a kind (0 optional, 1 advised, 2 page), serial number, message identifier, page parameter
@@ -136,3 +137,29 @@ lowestAt p i = lowestSlot p (pageAt p i)
 -- 01 Schedule message, Descriptions: the low 15 bits of the identifier planned for a slot
 abbrev pub low15At : Plan → ℕ → ℕ
 low15At p i = entryAt p i .id % 32768
+
+-- 01 Truthful: what the plans say of a slot: its kind; of its page the low 15 bits of the identifier, the lowest slot with it, and whether the previous plan lacks it
+pub record Planned : Type 0 where
+  pub kind : ℕ
+  pub low : ℕ
+  pub lowest : ℕ
+  pub fresh : Bool
+
+-- 01 Truthful: what the current plan c and the previous plan p say of slot i
+abbrev pub plannedAt : Plan → Plan → ℕ → Planned
+plannedAt c p i = record { kind = entryAt c i .kind; low = low15At c i; lowest = lowestAt c i; fresh = not (hasPage p (pageAt c i)) }
+
+-- 01 The plan: of a slot planned with no page only the kind is said
+abbrev pub nonePlanned : ℕ → Planned
+nonePlanned k = record { kind = k; low = 0; lowest = 0; fresh = false }
+
+-- 01 The plan: what is said of a slot within the count; entries past it mean nothing, and are said as unused ones are
+unfoldable pub saidAt : Plan → Plan → ℕ → Planned
+saidAt c p i =
+    cond (ltb i (c .count))
+    (cond (eqb (entryAt c i .kind) 2) (plannedAt c p i) (nonePlanned (entryAt c i .kind)))
+    (nonePlanned 0)
+
+-- 01 The plan: what is said of each of the forty-eight slots
+unfoldable pub allPlanned : Plan → Plan → List Planned
+allPlanned c p = each (saidAt c p) 48

@@ -6,21 +6,12 @@ use native.Mathlib.Nat.{pow-zero, pow-succ', pow-le-pow-right, le-refl}
 use native.Mathlib.Numerals.{add-one}
 use native.Mathlib.Omega.{arith}
 use lib.Dec.{ltb}
-use borrow.Author.Tests.{lt-ltb, le-ltb}
 use Rattle.schedule.specs.Paper.{Shown}
 use Rattle.sender.specs.Paper.{newBit, newBits}
 
 bit-few : (b : Bool) → cond b 1 0 ≤ 1
 bit-few true = omega arith
 bit-few false = omega arith
-
--- the new bit of a slot past the last is 0, and of another its own
-module _ (s : ℕ → Shown) (n i : ℕ) where
-  pub newBit-past : n ≤ i → newBit s n i ≡ 0
-  newBit-past h = rw (le-ltb i n h)
-
-  pub newBit-own : i < n → newBit s n i ≡ cond (s i .new) 1 0
-  newBit-own h = rw (lt-ltb i n h)
 
 module _ (s : ℕ → Shown) (n j : ℕ) where
   pub newBit-few : (i : ℕ) → newBit s n i ≤ 1

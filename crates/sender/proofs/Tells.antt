@@ -1,45 +1,69 @@
 -- What is told of a slot, case by case.
-use mathlib.Core.Path.{_≡_, refl}
-use mathlib.Core.Bool.{Bool, true, false, cond, not}
+use mathlib.Core.Path.{_≡_, refl, ap, _∙_}
+use mathlib.Core.Bool.{Bool, true, false, cond}
 use Prim.Native.Nat.{ℕ, suc, _+_, _%_, _≤_, _<_}
 use native.Mathlib.Nat.{mod-lt}
 use native.Mathlib.Omega.{arith}
-use mathlib.Core.List.{List}
-use lib.ListN.{length, set, length-take}
+use mathlib.Core.List.{List, map}
+use lib.ListN.{length, getD, set}
 use lib.Seq.{getD-set-same, getD-set-other}
-use lib.Dec.{eqb, ltb}
-use borrow.Author.Tests.{eq-eqb, ne-eqb, eqb-true, eqb-false, ltb-false}
-use Rattle.page.specs.Paper.{Name}
+use lib.Dec.{eqb}
+use borrow.Author.Tests.{eq-eqb, ne-eqb, eqb-true, eqb-false, lt-ltb}
 use Rattle.schedule.specs.declared.Slot.{Slot}
 use Rattle.schedule.specs.Coded.{shownOf}
 use Rattle.schedule.specs.Parts.{zeroed}
 use Rattle.schedule.specs.Paper.{Told, first, again, optional, advised, Shown}
-use Rattle.laws.specs.Search.{some}
-use Rattle.plan.specs.Paper.{Plan, planNumber, bad, within, Entry, entryAt, pageOf, lowestSlot, lowestAt, low15At, hasPage}
-use Rattle.plan.proofs.Slots.{Lowest, absent, lowest, lowest-slot}
+use Rattle.plan.specs.declared.Planned.{Planned as PlannedCode}
+use Rattle.plan.specs.Paper.{Plan, Planned, entryAt, lowestAt, low15At, plannedAt as plannedBy, nonePlanned, saidAt, allPlanned}
+use Rattle.plan.specs.Coded.{plannedOf}
+use Rattle.plan.specs.Parts.{nothing}
+use Rattle.plan.proofs.Said.{says-at, said-counted}
 use Rattle.sender.specs.Paper.{plannedAt, newAt, planned}
-use Rattle.sender.specs.Coded.{shownIn, Low, AllLow}
+use Rattle.sender.specs.Coded.{shownIn, toldBy, Low, AllLow}
 
 abbrev shown : Bool → Told → Shown
 shown n t = record { new = n; told = t }
 
-module _ (c p : Plan) (i : ℕ) (e : Entry) (q : entryAt c i ≡ e) where
-  pub tells-advised : e .kind ≡ 1 → shown true advised ≡ planned c p i
-  unfolding plannedAt newAt
-  tells-advised k = simp (q, ne-eqb (e .kind) 2 (omega arith), eq-eqb (e .kind) 1 k)
+module _ (v : Planned) (i : ℕ) where
+  pub tells-advised : v .kind ≡ 1 → shown true advised ≡ toldBy v i
+  unfolding toldBy
+  tells-advised k = rw (ne-eqb (v .kind) 2 (omega arith), eq-eqb (v .kind) 1 k)
 
-  pub tells-optional : (e .kind ≡ 1 → ⊥) → (e .kind ≡ 2 → ⊥) → shown false optional ≡ planned c p i
-  unfolding plannedAt newAt
-  tells-optional j k = simp (q, ne-eqb (e .kind) 2 k, ne-eqb (e .kind) 1 j)
+  pub tells-optional : (v .kind ≡ 1 → ⊥) → (v .kind ≡ 2 → ⊥) → shown false optional ≡ toldBy v i
+  unfolding toldBy
+  tells-optional j k = rw (ne-eqb (v .kind) 2 k, ne-eqb (v .kind) 1 j)
 
-  module _ (k : e .kind ≡ 2) (h : Bool) (n : ℕ) (has : h ≡ hasPage p (pageOf e)) (low : n ≡ lowestSlot c (pageOf e)) where
-    pub tells-first : n ≡ suc i → shown (not h) (first (e .id % 32768)) ≡ planned c p i
-    unfolding plannedAt newAt
-    tells-first r = simp (q, eq-eqb (e .kind) 2 k, ← has, ← low, eq-eqb n (suc i) r)
+  pub tells-first : v .kind ≡ 2 → v .lowest ≡ suc i → shown (v .fresh) (first (v .low)) ≡ toldBy v i
+  unfolding toldBy
+  tells-first k l = rw (eq-eqb (v .kind) 2 k, eq-eqb (v .lowest) (suc i) l)
 
-    pub tells-again : (n ≡ suc i → ⊥) → shown (not h) (again n) ≡ planned c p i
-    unfolding plannedAt newAt
-    tells-again r = simp (q, eq-eqb (e .kind) 2 k, ← has, ← low, ne-eqb n (suc i) r)
+  pub tells-again : v .kind ≡ 2 → (v .lowest ≡ suc i → ⊥) → shown (v .fresh) (again (v .lowest)) ≡ toldBy v i
+  unfolding toldBy
+  tells-again k l = rw (eq-eqb (v .kind) 2 k, ne-eqb (v .lowest) (suc i) l)
+
+-- what is told by what the plans say is what is planned
+told-said : (c p : Plan) (i : ℕ) → i < c .count → toldBy (saidAt c p i) i ≡ planned c p i
+unfolding toldBy saidAt plannedAt newAt
+told-said c p i l = go (eqb (entryAt c i .kind) 2) refl
+  where
+    go : (b : Bool) → eqb (entryAt c i .kind) 2 ≡ b → toldBy (saidAt c p i) i ≡ planned c p i
+    go true k =
+        let page : saidAt c p i ≡ plannedBy c p i = rw (lt-ltb i (c .count) l, k) in
+        ap (λ (v : Planned). toldBy v i) page ∙ rw k
+    go false k =
+        let none : saidAt c p i ≡ nonePlanned (entryAt c i .kind) = rw (lt-ltb i (c .count) l, k) in
+        ap (λ (v : Planned). toldBy v i) none ∙ rw k
+
+module _ (c p : Plan) (xs : List PlannedCode) (q : map plannedOf xs ≡ allPlanned c p) (few : c .count ≤ 48) (i : ℕ) (l : i < c .count) where
+  -- a slot that an array of all that the plans say names is within the count
+  pub all-counted : getD xs i nothing .lowest ≤ 48
+  all-counted =
+      let e = ap (λ (v : Planned). v .lowest) (says-at c p xs q i (omega arith)) in
+      omega (arith, said-counted c p i)
+
+  -- and what it tells is what is planned
+  pub all-told : toldBy (plannedOf (getD xs i nothing)) i ≡ planned c p i
+  all-told = ap (λ (v : Planned). toldBy v i) (says-at c p xs q i (omega arith)) ∙ told-said c p i l
 
 -- a turn of the loop that fills an array with what is told
 pub told-more : (f : ℕ → Shown) (slots : List Slot) (i : ℕ) (x : Slot) → i < length slots
@@ -51,14 +75,6 @@ told-more f slots i x room h own k l = go (eqb k i) refl
     go false q =
         let other = eqb-false k i q in
         rw (getD-set-other slots i k x zeroed other) (h k (omega arith))
-
--- the lowest slot of a page is within the count
-pub lowest-counted : (c : Plan) (x : Name) → lowestSlot c x ≤ c .count
-lowest-counted c x = go (lowest-slot c x)
-  where
-    go : Lowest c x (lowestSlot c x) → lowestSlot c x ≤ c .count
-    go (absent e none) = omega arith
-    go (lowest k e own none) = omega (arith, own .inside, length-take (c .count) (c .entries))
 
 -- what is told as planned has 15 bits where it is a first transmission
 pub planned-low : (c p : Plan) (n : ℕ) → AllLow (planned c p) n

@@ -1,16 +1,17 @@
 // Schedule messages written from a plan and the plan before it.
 ghost use mathlib.Core.Path.{_≡_};
+ghost use mathlib.Core.Bool.{cond, _&&_};
 ghost use mathlib.Core.List.{[], _∷_, _++_};
 ghost use Prim.Native.Nat.{ℕ, _+_, _≤_, _<_};
 ghost use lib.ListN.{length, replicate};
 ghost use lib.Seq.{sets};
 ghost use Rattle.schedule.specs.Coded.{toldOf, shownOf};
-ghost use Rattle.plan.specs.Coded.{planOf};
-ghost use Rattle.sender.specs.Paper.{planned, octetsOf, octetsOfAll, group, descriptions, newBit, newBits, bitmapOf, messageOf, write};
-ghost use Rattle.sender.specs.Coded.{writingOf, shownIn, Low, AllLow};
+ghost use Rattle.plan.specs.Coded.{planOf, plannedOf};
+ghost use Rattle.sender.specs.Paper.{planned, octetsOf, octetsOfAll, group, descriptions, newBits, bitmapOf, messageOf, write};
+ghost use Rattle.sender.specs.Coded.{writingOf, shownIn, toldBy, Low, AllLow};
 use answer::Refusal;
-use page::PageName;
 use plan::Plan;
+use plan::Planned;
 use plan::Verdict;
 use schedule::Description;
 use schedule::Slot;
@@ -30,43 +31,32 @@ pub enum Writing {
     Refused(Refusal),
 }
 
-// What is told of slot i, counted from 0.
-fn tell(current: Plan, previous: Plan, i: usize) -> Slot
-    requires { ⌜ (i < current .count) × (current .count ≤ 48) ⌝ }
-    ensures { λ r. ⌜ shownOf r ≡ planned (planOf current) (planOf previous) i ⌝ }
+// What is told of slot i, counted from 0, by what the plans say of it.
+fn tell(said: Planned, i: usize) -> Slot
+    requires { ⌜ (i < 48) × (said .lowest ≤ 48) ⌝ }
+    ensures { λ r. ⌜ shownOf r ≡ toldBy (plannedOf said) i ⌝ }
 {
-    let entries = current.entries;
-    let entry = entries[i];
-    if entry.kind == 1 {
+    if said.kind == 1 {
         return Slot {
             new: true,
             description: Description::Advised,
         };
     }
-    if entry.kind != 2 {
+    if said.kind != 2 {
         return Slot {
             new: false,
             description: Description::Optional,
         };
     }
-    let serial = entry.serial;
-    let id = entry.id;
-    let name = PageName {
-        serial,
-        id,
-        parameter: entry.parameter,
-    };
-    let new = !plan::has_page(previous, name);
-    let lowest = plan::lowest_slot(current, name);
-    if lowest == i + 1 {
+    if said.lowest == i + 1 {
         return Slot {
-            new,
-            description: Description::First(id.0 % 0x8000),
+            new: said.fresh,
+            description: Description::First(said.low),
         };
     }
     Slot {
-        new,
-        description: Description::Repeat(lowest as u8),
+        new: said.fresh,
+        description: Description::Repeat(said.lowest as u8),
     }
 }
 
@@ -79,10 +69,12 @@ fn telling(current: Plan, previous: Plan) -> [Slot; 48]
         new: false,
         description: Description::Optional,
     }; 48];
+    let all = plan::all_planned(current, previous);
     let count = current.count;
     let mut i = 0;
     while i < count {
-        slots[i] = tell(current, previous, i);
+        let said = all[i];
+        slots[i] = tell(said, i);
         i += 1;
     }
     slots
@@ -115,15 +107,13 @@ fn width_of_all(slots: [Slot; 48], count: usize) -> usize
     width
 }
 
-// The new bit of slot i, counted from 0.
-fn new_bit(slots: [Slot; 48], count: usize, i: usize) -> u8
-    requires { ⌜ count ≤ 48 ⌝ }
-    ensures { λ r. ⌜ r ≡ newBit (shownIn slots) count i ⌝ }
+// The new bit of a slot; past the count it is 0.
+fn new_bit(slot: Slot, counted: bool) -> u8
+    ensures { λ r. ⌜ r ≡ cond (counted && slot .new) 1 0 ⌝ }
 {
-    if i >= count {
+    if !counted {
         return 0;
     }
-    let slot = slots[i];
     if slot.new {
         return 1;
     }
@@ -138,7 +128,9 @@ fn new_octet(slots: [Slot; 48], count: usize, j: usize) -> u8
     let mut bits = 0u8;
     let mut k = 0;
     while k < 8 {
-        bits = 2 * bits + new_bit(slots, count, 8 * j + k);
+        let i = 8 * j + k;
+        let slot = slots[i];
+        bits = 2 * bits + new_bit(slot, i < count);
         k += 1;
     }
     bits

@@ -9,9 +9,9 @@ use borrow.Author.Tests.{eqb-true, eqb-false, eq-eqb, ne-eqb, not-true}
 use Rattle.laws.proofs.Tests.{both, either}
 use Rattle.laws.proofs.Upto.{below-suc}
 use Rattle.schedule.specs.Paper.{Told, first, again, optional, advised, Shown}
-use Rattle.plan.specs.Paper.{Plan, planNumber, entryAt, lowestAt, low15At}
+use Rattle.plan.specs.Paper.{Plan, planNumber, entryAt, lowestAt, low15At, Planned, plannedAt}
 use Rattle.plan.proofs.Lowest.{leading}
-use Rattle.checker.specs.Paper.{Planned, plannedAt, leads, repeats, mayTell, newFor, isTrue}
+use Rattle.checker.specs.Paper.{leads, repeats, mayTell, newFor, isTrue}
 use Rattle.truth.specs.Truthful.{TrueAt}
 use Rattle.plan.proofs.GoodPlan.{kind-few}
 

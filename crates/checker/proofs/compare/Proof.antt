@@ -20,18 +20,21 @@ returns c =
     let a = r .before .before .args in
     table-differs (planOf (a .current)) (planOf (a .previous)) (a .message .now) (a .received) (r .read-slots .result) (r .read-slots .ensures) _ _ (c .before .before .before .answer2 .given .1) (c .if1 .taken)
 
+all-planned-requires : tie.Need-all-planned-requires
+all-planned-requires c κs = search needs
+
 first-untrue-requires : tie.Need-first-untrue-requires
 first-untrue-requires c κs =
-    let r = c .before .before .before .before .before .before in
+    let r = c .before .before .before .before .before .before .before in
     let a = r .before .before .args in
-    table-last (planOf (a .current)) (planOf (a .previous)) (a .message .now) (a .received) (r .read-slots .result) (r .read-slots .ensures) _ _ (c .before .before .before .before .answer2 .given .1)
+    table-last (planOf (a .current)) (planOf (a .previous)) (a .message .now) (a .received) (r .read-slots .result) (r .read-slots .ensures) _ _ (c .before .before .before .before .before .answer2 .given .1)
 
 returns-2 : tie.Need-returns-2
 returns-2 c =
-    let b = c .before .before .before in
+    let b = c .before .before .before .before in
     let r = b .before .before .before .before .before in
     let a = r .before .before .args in
-    table-true (planOf (a .current)) (planOf (a .previous)) (a .message .now) (a .received) (r .read-slots .result) (r .read-slots .ensures) _ _ (b .before .before .before .answer2 .given .1) (b .if1 .left) (c .before .first-untrue .result) (c .before .first-untrue .ensures) (c .if2 .taken)
+    table-true (planOf (a .current)) (planOf (a .previous)) (a .message .now) (a .received) (r .read-slots .result) (r .read-slots .ensures) _ _ (b .before .before .before .answer2 .given .1) (b .if1 .left) (c .before .before .all-planned .result) (c .before .before .all-planned .ensures) (c .before .first-untrue .result) (c .before .first-untrue .ensures) (c .if2 .taken)
 
 returns-3 : tie.Need-returns-3
 returns-3 c =
@@ -41,10 +44,10 @@ returns-3 c =
 
 returns-4 : tie.Need-returns-4
 returns-4 c =
-    let b = c .before .before .before in
+    let b = c .before .before .before .before in
     let r = b .before .before .before .before .before in
     let a = r .before .before .args in
-    table-untrue (planOf (a .current)) (planOf (a .previous)) (a .message .now) (a .received) (r .read-slots .result) (r .read-slots .ensures) _ _ (b .before .before .before .answer2 .given .1) (b .if1 .left) (c .before .first-untrue .result) (c .before .first-untrue .ensures) (c .if2 .left)
+    table-untrue (planOf (a .current)) (planOf (a .previous)) (a .message .now) (a .received) (r .read-slots .result) (r .read-slots .ensures) _ _ (b .before .before .before .answer2 .given .1) (b .if1 .left) (c .before .before .all-planned .result) (c .before .before .all-planned .ensures) (c .before .first-untrue .result) (c .before .first-untrue .ensures) (c .if2 .left)
 
 pub compare-spec : {M : Type 1} → statement M
 compare-spec =
@@ -54,6 +57,7 @@ compare-spec =
     enum-known-answer
     enum-known-answer-2
     returns
+    all-planned-requires
     first-untrue-requires
     returns-2
     returns-3

@@ -1,88 +1,74 @@
--- `plan::first_slot` meets its contract. The invariant: the answer is that of the search among the entries ahead.
+-- `plan::first_slot` meets its contract. The invariant: the answer is that of the search among the marks ahead.
 use mathlib.Core.Path.{_≡_, refl, sym, ap, _∙_}
-use Prim.Native.Nat.{_+_, _-_, _≤_, _<_}
-use lib.ListN.{length, take, drop}
+use Prim.Native.Nat.{ℕ, _+_, _-_, _≤_, _<_}
+use lib.Dec.{eqb}
+use lib.ListN.{length, getD, drop}
 use native.Mathlib.Omega.{arith}
 use borrow.Author.Needs.{needs}
+use borrow.Author.Tests.{eq-eqb, ne-eqb}
 use Rattle.laws.specs.Search.{firstFrom}
 use Rattle.laws.proofs.Search.{first-next, first-here, first-end}
-use Rattle.page.specs.Coded.{nameOf}
-use Rattle.plan.specs.Paper.{free, holds}
-use Rattle.plan.specs.Coded.{entriesOf}
-use Rattle.plan.proofs.Entries.{inside-first, entry-at-first, first-few, first-all}
 use Rattle.plan.proofs.first_slot.Statement.{statement}
 use Rattle.plan.proofs.first_slot.Tie as tie
 
 abbrev Inv-loop : tie.InvT-loop
-Inv-loop count name entries i₀ i =
-    (i ≤ 48) × (firstFrom (holds (nameOf name)) 1 (take count (entriesOf entries)) ≡ firstFrom (holds (nameOf name)) (i + 1) (drop i (take count (entriesOf entries))))
+Inv-loop marks mark slot₀ slot =
+    (1 ≤ slot) × (slot ≤ length marks + 1) × (firstFrom (eqb mark) 1 marks ≡ firstFrom (eqb mark) slot (drop (slot - 1) marks))
 
 abbrev μ-loop : tie.MeasureT-loop
-μ-loop count name entries i₀ i = 48 - i
+μ-loop marks mark slot₀ slot = length marks + 1 - slot
 
 loop-holds : tie.Need-loop-holds Inv-loop μ-loop
-loop-holds c = (omega arith, refl)
+loop-holds c = (omega arith, omega arith, refl)
+
+sub-if1 : tie.Need-sub-if1 Inv-loop μ-loop
+sub-if1 c = search needs
+
+mul-if1 : tie.Need-mul-if1 Inv-loop μ-loop
+mul-if1 c = search needs
+
+shared-slice-read-if1 : tie.Need-shared-slice-read-if1 Inv-loop μ-loop
+shared-slice-read-if1 c = search needs
 
 returns : tie.Need-returns Inv-loop μ-loop
 returns c =
-    let a = c .before .before .before .args in
-    let l = c .before .before .loop in
-    let es = a .t1 in
-    sym (l .inv .1 ∙ first-end (holds (nameOf (a .name))) (l .i + 1) (take (a .count) (entriesOf es)) (l .i) (first-few es (a .count) (l .i) (c .if1 .taken)))
-
-mul-entry : tie.Need-mul-entry Inv-loop μ-loop
-mul-entry c = search needs
-
-array-copy-out-entry : tie.Need-array-copy-out-entry Inv-loop μ-loop
-array-copy-out-entry c = search needs
-
-is-page-requires : tie.Need-is-page-requires Inv-loop μ-loop
-is-page-requires c κs = search needs
-
-add-result : tie.Need-add-result Inv-loop μ-loop
-add-result c = search needs
-
-returns-2 : tie.Need-returns-2 Inv-loop μ-loop
-returns-2 c =
-    let b = c .before .before .before in
-    let a = b .before .before .before .args in
-    let l = b .before .before .loop in
-    let es = a .t1 in
-    let n = a .count in
-    let k : l .i < length es = search needs in
+    let b = c .before .before in
+    let a = b .before .before .args in
+    let l = b .before .loop in
+    let ms = a .marks .now in
+    let k : l .slot - 1 < length ms = omega arith in
     sym
-    (l .inv .1
-    ∙ first-here (holds (nameOf (a .name))) free (l .i + 1) (take n (entriesOf es)) (l .i) (inside-first es (l .i) k n (b .if1 .left))
-    (ap (holds (nameOf (a .name))) (entry-at-first es (l .i) k n (b .if1 .left)) ∙ sym (c .before .is-page .ensures) ∙ c .if2 .taken))
+    (l .inv .2
+    ∙ first-here (eqb (a .mark)) 0 (l .slot) ms (l .slot - 1) k
+    (eq-eqb (a .mark) (getD ms (l .slot - 1) 0) (sym (c .if1 .taken))))
 
-add-i : tie.Need-add-i Inv-loop μ-loop
-add-i c = search needs
+add-slot : tie.Need-add-slot Inv-loop μ-loop
+add-slot c = search needs
 
 loop-less : tie.Need-loop-less Inv-loop μ-loop
 loop-less c = search needs
 
 loop-again : tie.Need-loop-again Inv-loop μ-loop
 loop-again c =
-    let b = c .before .before .before in
-    let a = b .before .before .before .args in
-    let l = b .before .before .loop in
-    let es = a .t1 in
-    let n = a .count in
-    let k : l .i < length es = search needs in (
+    let b = c .before .before in
+    let a = b .before .before .args in
+    let l = b .before .loop in
+    let ms = a .marks .now in
+    let k : l .slot - 1 < length ms = omega arith in
+    let next : l .slot - 1 + 1 ≡ l .slot + 1 - 1 = omega arith in (
       omega arith,
-      l .inv .1
-          ∙ first-next (holds (nameOf (a .name))) free (l .i + 1) (take n (entriesOf es)) (l .i) (inside-first es (l .i) k n (b .if1 .left))
-          (ap (holds (nameOf (a .name))) (entry-at-first es (l .i) k n (b .if1 .left)) ∙ sym (c .before .is-page .ensures) ∙ c .if2 .left),
+      omega arith,
+      l .inv .2
+          ∙ first-next (eqb (a .mark)) 0 (l .slot) ms (l .slot - 1) k
+          (ne-eqb (a .mark) (getD ms (l .slot - 1) 0) (λ e. c .if1 .left (sym e)))
+          ∙ ap (λ (n : ℕ). firstFrom (eqb (a .mark)) (l .slot + 1) (drop n ms)) next,
     )
 
-returns-3 : tie.Need-returns-3 Inv-loop μ-loop
-returns-3 c =
+returns-2 : tie.Need-returns-2 Inv-loop μ-loop
+returns-2 c =
     let a = c .before .before .args in
     let l = c .before .loop in
-    let es = a .t1 in
-    let full : length es ≡ 48 = search needs in
-    let k : length es ≤ l .i = omega arith in
-    sym (l .inv .1 ∙ first-end (holds (nameOf (a .name))) (l .i + 1) (take (a .count) (entriesOf es)) (l .i) (first-all es (a .count) (l .i) k))
+    sym (l .inv .2 ∙ first-end (eqb (a .mark)) (l .slot) (a .marks .now) (l .slot - 1) (omega arith))
 
 pub first-slot-spec : {M : Type 1} → statement M
 first-slot-spec =
@@ -91,13 +77,11 @@ first-slot-spec =
     Inv-loop
     μ-loop
     loop-holds
+    sub-if1
+    mul-if1
+    shared-slice-read-if1
     returns
-    mul-entry
-    array-copy-out-entry
-    is-page-requires
-    add-result
-    returns-2
-    add-i
+    add-slot
     loop-less
     loop-again
-    returns-3)
+    returns-2)

@@ -10,32 +10,40 @@ use Rattle.sender.proofs.new_octet.Statement.{statement}
 use Rattle.sender.proofs.new_octet.Tie as tie
 
 abbrev Inv-loop : tie.InvT-loop
-Inv-loop slots count j bits₀ k₀ bits k = (k ≤ 8) × (bits ≡ newBits (shownIn slots) count j k)
+Inv-loop count j slots bits₀ k₀ bits k = (k ≤ 8) × (bits ≡ newBits (shownIn slots) count j k)
 
 abbrev μ-loop : tie.MeasureT-loop
-μ-loop slots count j bits₀ k₀ bits k = 8 - k
+μ-loop count j slots bits₀ k₀ bits k = 8 - k
 
 loop-holds : tie.Need-loop-holds Inv-loop μ-loop
-loop-holds c = (omega arith, sym (newBits-none (shownIn (c .args .slots)) _ _))
+loop-holds c = (omega arith, sym (newBits-none (shownIn (c .args .t1)) _ _))
+
+mul-i : tie.Need-mul-i Inv-loop μ-loop
+mul-i c = search needs
+
+add-i : tie.Need-add-i Inv-loop μ-loop
+add-i c = search needs
+
+mul-slot : tie.Need-mul-slot Inv-loop μ-loop
+mul-slot c = search needs
+
+array-copy-out-slot : tie.Need-array-copy-out-slot Inv-loop μ-loop
+array-copy-out-slot c = search needs
 
 mul-bits : tie.Need-mul-bits Inv-loop μ-loop
 mul-bits c =
-    let a = c .before .before .args in
-    omega (arith, newBits-room (shownIn (a .slots)) (a .count) (a .j) (c .before .loop .k) (c .loop-test .taken))
-
-mul-new-bit : tie.Need-mul-new-bit Inv-loop μ-loop
-mul-new-bit c = search needs
-
-add-new-bit : tie.Need-add-new-bit Inv-loop μ-loop
-add-new-bit c = search needs
+    let a = c .before .before .before .args in
+    omega (arith, newBits-room (shownIn (a .t1)) (a .count) (a .j) (c .before .before .loop .k) (c .before .loop-test .taken))
 
 new-bit-requires : tie.Need-new-bit-requires Inv-loop μ-loop
 new-bit-requires c κs = search needs
 
 add-bits : tie.Need-add-bits Inv-loop μ-loop
 add-bits c =
-    let a = c .before .before .before .args in
-    omega (arith, newBits-room (shownIn (a .slots)) (a .count) (a .j) (c .before .before .loop .k) (c .before .loop-test .taken), newBit-few (shownIn (a .slots)) (a .count) (a .j) (8 * a .j + c .before .before .loop .k))
+    let a = c .before .before .before .before .args in
+    let k = c .before .before .before .loop .k in
+    let b : c .new-bit .result ≡ newBit (shownIn (a .t1)) (a .count) (8 * a .j + k) = c .new-bit .ensures in
+    omega (arith, newBits-room (shownIn (a .t1)) (a .count) (a .j) k (c .before .before .loop-test .taken), newBit-few (shownIn (a .t1)) (a .count) (a .j) (8 * a .j + k))
 
 add-k : tie.Need-add-k Inv-loop μ-loop
 add-k c = search needs
@@ -45,10 +53,10 @@ loop-less c = search needs
 
 loop-again : tie.Need-loop-again Inv-loop μ-loop
 loop-again c =
-    let a = c .before .before .before .args in
-    let l = c .before .before .loop in
-    let b : c .new-bit .result ≡ newBit (shownIn (a .slots)) (a .count) (8 * a .j + l .k) = c .new-bit .ensures in
-    (omega arith, rw (b, l .inv .1) (sym (newBits-next (shownIn (a .slots)) (a .count) (a .j) (l .k))))
+    let a = c .before .before .before .before .args in
+    let l = c .before .before .before .loop in
+    let b : c .new-bit .result ≡ newBit (shownIn (a .t1)) (a .count) (8 * a .j + l .k) = c .new-bit .ensures in
+    (omega arith, rw (b, l .inv .1) (sym (newBits-next (shownIn (a .t1)) (a .count) (a .j) (l .k))))
 
 returns : tie.Need-returns Inv-loop μ-loop
 returns c =
@@ -62,9 +70,11 @@ new-octet-spec =
     Inv-loop
     μ-loop
     loop-holds
+    mul-i
+    add-i
+    mul-slot
+    array-copy-out-slot
     mul-bits
-    mul-new-bit
-    add-new-bit
     new-bit-requires
     add-bits
     add-k

@@ -1,0 +1,127 @@
+-- What is said of the slots of a plan, told from the marks of it and of the plan before.
+use mathlib.Core.Path.{_≡_, refl, sym, ap, _∙_}
+use mathlib.Core.Bool.{Bool, true, false, cond}
+use mathlib.Core.List.{List, map}
+use Prim.Native.Nat.{ℕ, _+_, _≤_, _<_}
+use native.Mathlib.Omega.{arith}
+use lib.Dec.{eqb, ltb}
+use lib.ListN.{length, getD, take, set, replicate, getD-replicate, length-map, length-set, List·getD-map}
+use lib.Seq.{ext-getD, getD-set-same, getD-set-other}
+use borrow.Author.Count.{below-none}
+use borrow.Author.Tests.{eqb-true, eqb-false, lt-ltb, le-ltb, ltb-true, ltb-false}
+use Rattle.laws.specs.Search.{some, firstFrom}
+use Rattle.laws.specs.Upto.{each}
+use Rattle.laws.proofs.Upto.{each-length, each-at}
+use Rattle.plan.specs.declared.Planned.{Planned as PlannedCode}
+use Rattle.plan.specs.Paper.{Entry, Plan, Planned, free, entryAt, pageAt, plannedAt, lowestSlot, hasPage, nonePlanned, saidAt, allPlanned}
+use Rattle.plan.specs.Coded.{plannedOf}
+use Rattle.plan.specs.Parts.{nothing, counted, saidBy, Marked, Marks}
+use Rattle.plan.proofs.Marks.{lowest-marked, some-marked}
+use Rattle.plan.proofs.Slots.{lowest-counted}
+
+-- a slot below a count that is cut is below the count, and below 48
+pub below-counted : (n i : ℕ) → i < counted n → (i < n) × (i < 48)
+below-counted n i l = go (ltb 48 n) refl
+  where
+    go : (b : Bool) → ltb 48 n ≡ b → (i < n) × (i < 48)
+    go true e = let over = ltb-true 48 n e in let low : i < 48 = rw e at l in (omega arith, low)
+    go false e = let few = ltb-false 48 n e in let low : i < n = rw e at l in (low, omega arith)
+
+counted-below : (n i : ℕ) → i < n → i < 48 → i < counted n
+counted-below n i l k = go (ltb 48 n) refl
+  where
+    go : (b : Bool) → ltb 48 n ≡ b → i < counted n
+    go true e = rw e k
+    go false e = rw e l
+
+counted-above : (n i : ℕ) → n ≤ i → counted n ≤ i
+counted-above n i l = go (ltb 48 n) refl
+  where
+    go : (b : Bool) → ltb 48 n ≡ b → counted n ≤ i
+    go true e = let over = ltb-true 48 n e in rw e (omega arith)
+    go false e = rw e l
+
+-- what is said of slot i of some entries, n slots of them and b of the plan before, by the searches for its mark
+abbrev pub searched : List Entry → List ℕ → ℕ → List ℕ → ℕ → ℕ → Planned
+searched es ms n qs b i = saidBy (getD es i free) (firstFrom (eqb (getD ms i 0)) 1 (take n ms)) (some (eqb (getD ms i 0)) (take b qs))
+
+module _ (c p : Plan) (ms qs : List ℕ) (h : Marks ms (c .entries) 48) (before : Marks qs (p .entries) 48) where
+  pub searched-said : (i : ℕ) → i < counted (c .count) → searched (c .entries) ms (counted (c .count)) qs (counted (p .count)) i ≡ saidAt c p i
+  unfolding saidBy saidAt lowestSlot hasPage
+  searched-said i l = go (eqb (entryAt c i .kind) 2) refl
+    where
+      low : (i < c .count) × (i < 48)
+      low = below-counted (c .count) i l
+
+      own : Marked (getD ms i 0) (entryAt c i)
+      own = h .each i (low .1)
+
+      go : (b : Bool) → eqb (entryAt c i .kind) 2 ≡ b → searched (c .entries) ms (counted (c .count)) qs (counted (p .count)) i ≡ saidAt c p i
+      go true k =
+          let two = eqb-true (entryAt c i .kind) 2 k in
+          rw (lt-ltb i (c .count) (low .0), k, lowest-marked (getD ms i 0) (entryAt c i) own two ms (c .entries) h (c .count), some-marked (getD ms i 0) (entryAt c i) own two qs (p .entries) before (p .count))
+      go false k = rw (lt-ltb i (c .count) (low .0), k)
+
+module _ (f : ℕ → Planned) where
+  -- an array says f of the slots below i, and nothing of the others
+  pub record Says (xs : List PlannedCode) (i : ℕ) : Type 0 where
+    pub long : length xs ≡ 48
+    pub said : (k : ℕ) → k < i → plannedOf (getD xs k nothing) ≡ f k
+    pub rest : (k : ℕ) → k < 48 → i ≤ k → plannedOf (getD xs k nothing) ≡ nonePlanned 0
+
+  pub says-none : (x : PlannedCode) → plannedOf x ≡ nonePlanned 0 → Says (replicate 48 x) 0
+  says-none x e =
+      record {
+        long = refl;
+        said = below-none _;
+        rest = λ k b m. ap plannedOf (getD-replicate 48 k x nothing b) ∙ e;
+      }
+
+  -- a turn of the loop that fills the array
+  pub says-more : (xs : List PlannedCode) (i : ℕ) (x : PlannedCode) → i < 48 → Says xs i → plannedOf x ≡ f i → Says (set xs i x) (i + 1)
+  says-more xs i x l h own =
+      record {
+        long = length-set xs i x ∙ h .long;
+        said = λ k b. go k b (eqb k i) refl;
+        rest = λ k b m. let other : k ≡ i → ⊥ = λ e. omega arith in rw (getD-set-other xs i k x nothing other) (h .rest k b (omega arith));
+      }
+    where
+      go : (k : ℕ) → k < i + 1 → (b : Bool) → eqb k i ≡ b → plannedOf (getD (set xs i x) k nothing) ≡ f k
+      go k b true q =
+          let room : i < length xs = omega (arith, h .long) in
+          rw (eqb-true k i q, getD-set-same xs i x nothing room) own
+      go k b false q =
+          let other = eqb-false k i q in
+          rw (getD-set-other xs i k x nothing other) (h .said k (omega arith))
+
+module _ (c p : Plan) (xs : List PlannedCode) where
+  -- the array filled up to the count
+  pub says-all : (f : ℕ → Planned) → ((i : ℕ) → i < counted (c .count) → f i ≡ saidAt c p i) → Says f xs (counted (c .count)) → map plannedOf xs ≡ allPlanned c p
+  unfolding allPlanned saidAt
+  says-all f q h =
+      ext-getD (nonePlanned 0) (map plannedOf xs) (each (saidAt c p) 48) (length-map xs plannedOf ∙ h .long ∙ sym (each-length (saidAt c p) 48))
+      (λ i l.
+      let low : i < 48 = omega (arith, length-map xs plannedOf, h .long) in
+      List·getD-map plannedOf xs i nothing ∙ slot i low (ltb i (c .count)) refl ∙ sym (each-at (saidAt c p) 48 i (nonePlanned 0) low))
+    where
+      slot : (i : ℕ) → i < 48 → (b : Bool) → ltb i (c .count) ≡ b → plannedOf (getD xs i nothing) ≡ saidAt c p i
+      slot i l true e = let k = counted-below (c .count) i (ltb-true i (c .count) e) l in h .said i k ∙ q i k
+      slot i l false e = h .rest i l (counted-above (c .count) i (ltb-false i (c .count) e)) ∙ rw e
+
+  -- what the array says of a slot
+  pub says-at : map plannedOf xs ≡ allPlanned c p → (i : ℕ) → i < 48 → plannedOf (getD xs i nothing) ≡ saidAt c p i
+  unfolding allPlanned
+  says-at e i l =
+      sym (List·getD-map plannedOf xs i nothing)
+      ∙ ap (λ (s : List Planned). getD s i (nonePlanned 0)) e
+      ∙ each-at (saidAt c p) 48 i (nonePlanned 0) l
+
+-- the lowest slot that is said is within the count
+pub said-counted : (c p : Plan) (i : ℕ) → saidAt c p i .lowest ≤ c .count
+unfolding saidAt
+said-counted c p i = go (ltb i (c .count)) (eqb (entryAt c i .kind) 2)
+  where
+    go : (a b : Bool) → cond a (cond b (plannedAt c p i) (nonePlanned (entryAt c i .kind))) (nonePlanned 0) .lowest ≤ c .count
+    go true true = lowest-counted c (pageAt c i)
+    go true false = omega arith
+    go false b = omega arith

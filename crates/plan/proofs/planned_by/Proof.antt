@@ -1,0 +1,25 @@
+-- `plan::planned_by` meets its contract: an entry with a page and one without.
+use mathlib.Core.Path.{_≡_, sym, ap, _∙_}
+use mathlib.Core.Bool.{Bool, not}
+use lib.Dec.{eqb}
+use borrow.Author.Needs.{needs}
+use borrow.Author.Tests.{eq-eqb, ne-eqb}
+use Rattle.plan.specs.Parts.{saidBy}
+use Rattle.plan.proofs.Marks.{lacks-mark}
+use Rattle.plan.proofs.planned_by.Statement.{statement}
+use Rattle.plan.proofs.planned_by.Tie as tie
+
+returns : tie.Need-returns
+unfolding saidBy
+returns c = rw (ne-eqb _ 2 (c .before .if1 .taken)) (c .none-planned .ensures)
+
+returns-2 : tie.Need-returns-2
+unfolding saidBy
+returns-2 c =
+    let a = c .before .before .before .before .before .before .before .args in
+    let two = c .before .before .before .if1 .left in
+    rw (eq-eqb (a .entry .kind) 2 two, c .before .first-slot .ensures, lacks-mark (a .mark) (a .previous .now) _ (c .first-slot2 .ensures))
+
+pub planned-by-spec : {M : Type 1} → statement M
+planned-by-spec =
+    tie.close (tie.spec (λ c κs. search needs) returns (λ c κs. search needs) (λ c κs. search needs) returns-2)

@@ -1,0 +1,14 @@
+-- `plan::slots_of` meets its contract: a count over 48 is cut.
+use native.Mathlib.Omega.{arith}
+use borrow.Author.Tests.{lt-ltb, le-ltb}
+use Rattle.plan.proofs.slots_of.Statement.{statement}
+use Rattle.plan.proofs.slots_of.Tie as tie
+
+returns : tie.Need-returns
+returns c = (simp (lt-ltb _ _ (c .if1 .taken)), omega arith)
+
+returns-2 : tie.Need-returns-2
+returns-2 c = (simp (le-ltb _ _ (c .if1 .left)), c .if1 .left)
+
+pub slots-of-spec : {M : Type 1} → statement M
+slots-of-spec = tie.close (tie.spec returns returns-2)
