@@ -1,11 +1,11 @@
 -- Laws of entries: those of a file one after the other, and an array that is filled with them.
 use mathlib.Core.Path.{_≡_, refl, sym, ap, _∙_}
 use mathlib.Core.List.{List, [], _∷_, _++_}
-use Prim.Native.Nat.{ℕ, zero, suc, _+_, _*_, _-_, _<_, _≤_}
+use Prim.Native.Nat.{ℕ, zero, suc, _+_, _*_, _-_, _<_}
 use native.Mathlib.Numerals.{add-one}
 use native.Mathlib.Omega.{arith}
-use lib.ListN.{length, getD, take, drop, set, replicate, length-map, length-take, List·getD-map}
-use lib.Seq.{drop-drop, set-at, append-snoc, getD-take}
+use lib.ListN.{length, getD, drop, set, replicate, length-map, List·getD-map}
+use lib.Seq.{drop-drop, set-at, append-snoc}
 use Rattle.plan.specs.Paper.{Entry, free, entryIn, entriesIn}
 use Rattle.plan.specs.Coded.{entryOf, entriesOf}
 use Rattle.plan.specs.declared.Entry.{Entry as EntryCode}
@@ -53,18 +53,3 @@ module _ (es : List EntryCode) (i : ℕ) (k : i < length es) where
 
   pub entry-at : getD (entriesOf es) i free ≡ entryOf (getD es i none)
   entry-at = List·getD-map entryOf es i none
-
-  -- the same among the first n entries
-  module _ (n : ℕ) (h : i < n) where
-    pub inside-first : i < length (take n (entriesOf es))
-    inside-first = rw (length-take, length-map) (omega arith)
-
-    pub entry-at-first : getD (take n (entriesOf es)) i free ≡ entryOf (getD es i none)
-    entry-at-first = getD-take n (entriesOf es) i free h ∙ entry-at
-
--- no more than n, and no more than there are
-pub first-few : (es : List EntryCode) (n i : ℕ) → n ≤ i → length (take n (entriesOf es)) ≤ i
-first-few es n i h = rw (length-take, length-map) (omega arith)
-
-pub first-all : (es : List EntryCode) (n i : ℕ) → length es ≤ i → length (take n (entriesOf es)) ≤ i
-first-all es n i h = rw (length-take, length-map) (omega arith)

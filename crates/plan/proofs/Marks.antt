@@ -2,21 +2,20 @@
 use mathlib.Core.Path.{_≡_, refl, sym, ap, _∙_}
 use mathlib.Core.Bool.{Bool, true, false, not}
 use mathlib.Core.List.{List, [], _∷_}
-use Prim.Native.Nat.{ℕ, zero, suc, _+_, _≤_, _<_}
-use native.Mathlib.Nat.{le-of-suc-le-suc, not-suc-le-zero}
+use Prim.Native.Nat.{ℕ, zero, suc, _+_, _<_}
 use native.Mathlib.Omega.{arith}
 use lib.Dec.{eqb, ltb}
 use lib.ListN.{length, getD, take, set, replicate, length-map, length-set}
 use lib.Seq.{take-all, getD-set-same, getD-set-other}
 use borrow.Author.Count.{below-none}
-use borrow.Author.Tests.{eq-eqb, ne-eqb, eqb-true, eqb-false, ltb-true, ltb-false, lt-ltb}
+use borrow.Author.Tests.{eq-eqb, ne-eqb, eqb-true, eqb-false, ltb-true}
 use Rattle.laws.specs.Search.{some, firstFrom}
 use Rattle.laws.proofs.Search.{found-some}
 use Rattle.page.specs.Paper.{samePage}
 use Rattle.page.specs.Coded.{keyOf}
 use Rattle.page.proofs.Sameness.{Small, key-same}
 use Rattle.plan.specs.declared.Entry.{Entry as EntryCode}
-use Rattle.plan.specs.Paper.{Entry, Plan, free, pageOf, holds}
+use Rattle.plan.specs.Paper.{Entry, free, pageOf, holds}
 use Rattle.plan.specs.Coded.{entryOf, entriesOf}
 use Rattle.plan.specs.Parts.{counted, Marked, Marks}
 use Rattle.plan.proofs.Entries.{none, entry-at}

@@ -1,11 +1,11 @@
 -- `plan::all_planned` meets its contract. The invariant: the slots passed are said by the searches for their marks.
-use mathlib.Core.Path.{_≡_, refl, sym, ap, _∙_}
-use Prim.Native.Nat.{ℕ, _-_, _≤_, _<_}
-use lib.ListN.{length, take, length-map, length-take}
+use mathlib.Core.Path.{_≡_}
+use Prim.Native.Nat.{_-_, _≤_, _<_}
+use lib.ListN.{length, length-map, length-take}
 use native.Mathlib.Omega.{arith}
 use borrow.Author.Needs.{needs}
 use Rattle.plan.specs.Coded.{entryOf, entriesOf, planOf}
-use Rattle.plan.specs.Parts.{counted, saidBy}
+use Rattle.plan.specs.Parts.{counted}
 use Rattle.plan.proofs.Entries.{entry-at}
 use Rattle.plan.proofs.Said.{searched, searched-said, Says, says-none, says-more, says-all}
 use Rattle.plan.proofs.all_planned.Statement.{statement}

@@ -1,5 +1,5 @@
 -- `plan::marks_of` meets its contract. The invariant: the entries passed have their marks.
-use mathlib.Core.Path.{_≡_, refl, _∙_}
+use mathlib.Core.Path.{_≡_}
 use Prim.Native.Nat.{_-_, _≤_, _<_}
 use lib.ListN.{length}
 use native.Mathlib.Omega.{arith}
