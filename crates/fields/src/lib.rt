@@ -18,12 +18,12 @@ pub use results::expect_returned;
 pub use results::expect_words;
 
 // What lent memory holds before a call.
-pub const LENT: u8 = 0xA5;
+pub(crate) const LENT: u8 = 0xA5;
 
-pub const LENT_WORD: u16 = 0xA5A5;
+pub(crate) const LENT_WORD: u16 = 0xA5A5;
 
 // The most elements of a list, and of memory lent for output.
-pub const ROOM: usize = 512;
+const ROOM: usize = 512;
 
 // How far a line is read.
 pub struct Cursor {

@@ -36,16 +36,16 @@ fn take_page(line: &[u8], cursor: Cursor, lent: &mut [u8], piece: &[u8]) -> Curs
     page_text(line, numbered, &output, (returned / 256) as usize)
 }
 
-// The text of a page, with 0 after it up to 93 characters.
+// Compares the text of a page; one whose text is refused cannot be told so.
 fn page_text(line: &[u8], cursor: Cursor, page: &[u8], received: usize) -> Cursor {
     let mut text = fields::text();
     let returned = capi::cb_read_text(page, received, &mut text);
     if returned % 256 != 0 {
-        return fields::expect_nothing(line, cursor);
+        return fields::unread();
     }
     let count = (returned / 256) as usize;
     if count > 93 {
-        return fields::expect_nothing(line, cursor);
+        return fields::unread();
     }
     fields::expect_words(line, cursor, &text[..count])
 }

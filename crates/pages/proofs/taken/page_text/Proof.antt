@@ -14,8 +14,8 @@ slice-aggregate-cb-read-text c = search needs
 cb-read-text-requires : tie.Need-cb-read-text-requires
 cb-read-text-requires c κs = search needs
 
-expect-nothing-requires : tie.Need-expect-nothing-requires
-expect-nothing-requires c κs = search needs
+unread-requires : tie.Need-unread-requires
+unread-requires c κs = search needs
 
 returns : tie.Need-returns
 returns c = search needs
@@ -23,8 +23,8 @@ returns c = search needs
 cast-count : tie.Need-cast-count
 cast-count c = search needs
 
-expect-nothing-requires-2 : tie.Need-expect-nothing-requires-2
-expect-nothing-requires-2 c κs = search needs
+unread-requires-2 : tie.Need-unread-requires-2
+unread-requires-2 c κs = search needs
 
 returns-2 : tie.Need-returns-2
 returns-2 c = search needs
@@ -48,10 +48,10 @@ page-text-spec =
     text-requires
     slice-aggregate-cb-read-text
     cb-read-text-requires
-    expect-nothing-requires
+    unread-requires
     returns
     cast-count
-    expect-nothing-requires-2
+    unread-requires-2
     returns-2
     array-share-prefix-text
     slice-aggregate-expect-words
