@@ -1,14 +1,11 @@
 -- What an intake call leaves, as the line of its answer takes it.
-use mathlib.Core.Path.{_≡_, refl, sym, ap, _∙_}
-use mathlib.Core.Bool.{Bool, true, false, cond, not}
-use mathlib.Core.Logic.{_⊎_, inl, inr}
-use mathlib.Core.List.{List, [], _∷_}
+use mathlib.Core.Path.{_≡_, refl}
+use mathlib.Core.Bool.{Bool, true, false, cond}
+use mathlib.Core.List.{List, []}
 use Prim.Native.Nat.{ℕ}
-use native.Mathlib.Omega.{arith}
 use lib.Dec.{eqb}
-use borrow.Author.Tests.{eqb-true, ne-eqb}
-use Rattle.laws.proofs.Ruled.{ruling, Ruling, refuses, passes, Among}
-use Rattle.block.specs.Paper.{Held, Given, proper, refusal, faults, last, made, handed, kept, step}
+use borrow.Author.Tests.{eqb-true}
+use Rattle.block.specs.Paper.{Given}
 use Rattle.plan.specs.Paper.{Plan}
 use Rattle.checker.specs.Paper.{check}
 use Rattle.lines.proofs.Complete.{Complete, handed-output}

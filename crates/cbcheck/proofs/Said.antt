@@ -10,7 +10,6 @@ use lib.Dec.{eqb, leb, ltb}
 use borrow.Author.Tests.{eq-eqb, ne-eqb, leb-true}
 use Rattle.laws.proofs.Tests.{both}
 use Rattle.words.specs.Words.{ascii, find, words, ofIntake, ofText, ofLength, ofSchedule, ofPlan, ofSlot}
-use Rattle.lines.specs.Inner.{Puts}
 use Rattle.lines.specs.Paper.{decimal}
 use Rattle.cbcheck.specs.Listing.{trueWord, slotWord, untrueWords, reason, said}
 

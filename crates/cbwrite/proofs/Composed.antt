@@ -7,7 +7,7 @@ use borrow.Author.Tests.{ne-eqb}
 use Rattle.answer.specs.Number.{numberOf}
 use Rattle.answer.specs.declared.Refusal.{Refusal}
 use Rattle.answer.proofs.Inverse.{numberOf-positive}
-use Rattle.block.specs.Paper.{Left, schedule, written}
+use Rattle.block.specs.Paper.{schedule, written}
 use Rattle.plan.specs.Paper.{Plan}
 use Rattle.sender.specs.Paper.{Writing, write}
 use Rattle.sender.specs.Coded.{writingOf}

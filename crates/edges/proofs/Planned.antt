@@ -1,17 +1,12 @@
 -- What is planned for the slots of a good plan: it fits its description, is true, and names no false repeat.
-use mathlib.Core.Path.{_≡_, refl, sym, ap, _∙_}
-use mathlib.Core.Bool.{Bool, true, false, cond, not, Bool·beq, false≢true}
-use mathlib.Core.List.{[], _∷_}
-use Prim.Native.Nat.{ℕ, suc, _-_, _≤_, _<_}
+use mathlib.Core.Path.{_≡_, refl, ap, _∙_}
+use mathlib.Core.Bool.{Bool, true, false, cond, not, Bool·beq}
+use Prim.Native.Nat.{ℕ, suc, _-_, _<_}
 use native.Mathlib.Nat.{mod-lt}
-use native.Mathlib.Omega.{arith, by-contra}
-use lib.ListN.{length, List·getD-eq-default}
-use lib.Dec.{eqb, ltb}
-use borrow.Author.Tests.{ltb-true, ltb-false, eqb-true, eqb-false, eq-eqb, ne-eqb, lt-leb}
-use Rattle.laws.specs.Search.{some}
-use Rattle.laws.proofs.Ruled.{none-holds}
-use Rattle.laws.proofs.Search.{some-found}
-use Rattle.plan.specs.Paper.{Entry, Plan, free, within, bad, planNumber, hasPage, entryAt, pageAt, lowestAt, low15At}
+use native.Mathlib.Omega.{arith}
+use lib.Dec.{eqb}
+use borrow.Author.Tests.{eqb-true, eqb-false, eq-eqb, ne-eqb, lt-leb}
+use Rattle.plan.specs.Paper.{Plan, planNumber, hasPage, entryAt, pageAt, lowestAt, low15At}
 use Rattle.plan.proofs.GoodPlan.{good-counted, kind-few}
 use Rattle.plan.proofs.Lowest.{Leading, leading}
 use Rattle.schedule.specs.Paper.{Told, first, again, optional, advised, isFirst, falseIn}

@@ -3,9 +3,7 @@ use mathlib.Core.Path.{_≡_, sym, ap, _∙_}
 use mathlib.Core.Bool.{true, false}
 use mathlib.Core.List.{List, []}
 use Prim.Native.Nat.{ℕ}
-use lib.Dec.{eqb}
 use borrow.Author.Tests.{eq-eqb, ne-eqb}
-use Rattle.answer.specs.Number.{numberOf}
 use Rattle.answer.proofs.Inverse.{numberOf-positive}
 use Rattle.answer.specs.declared.Refusal.{Refusal}
 use Rattle.plan.specs.declared.Reading.{Reading}

@@ -1,6 +1,6 @@
 -- `cbcheck::list` meets its contract. The invariant: the text so far and the lines to come are those of the schedule messages.
 use mathlib.Core.Path.{_≡_, _∙_}
-use Prim.Native.Nat.{_-_, _+_, _≤_}
+use Prim.Native.Nat.{_-_}
 use native.Mathlib.Omega.{arith}
 use borrow.Author.Needs.{needs}
 use denote.Ref.{now}

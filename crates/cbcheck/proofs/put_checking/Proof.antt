@@ -1,7 +1,5 @@
 -- `cbcheck::put_checking` meets its contract: the checker's answer decides.
-use mathlib.Core.Path.{_≡_}
 use native.Mathlib.Omega.{arith}
-use lib.ListN.{length}
 use borrow.Author.Needs.{needs}
 use Rattle.lines.specs.Inner.{Puts}
 use Rattle.lines.proofs.Behind.{puts-behind, puts-then, puts-wider}

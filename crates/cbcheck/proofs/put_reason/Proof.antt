@@ -1,8 +1,5 @@
 -- `cbcheck::put_reason` meets its contract: the words of the refusal, or the slot between two words.
-use mathlib.Core.Path.{_≡_, _∙_}
-use Prim.Native.Nat.{_≤_}
 use native.Mathlib.Omega.{arith}
-use lib.ListN.{length}
 use borrow.Author.Needs.{needs}
 use Rattle.answer.specs.Number.{numberOf}
 use Rattle.lines.specs.Paper.{decimal}

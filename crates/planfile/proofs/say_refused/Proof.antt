@@ -1,8 +1,7 @@
 -- `planfile::say_refused` is safe: the line ends within the memory for it.
-use mathlib.Core.Path.{_≡_, sym}
+use mathlib.Core.Path.{sym}
 use Prim.Native.Nat.{_≤_}
 use native.Mathlib.Omega.{arith}
-use lib.ListN.{length}
 use lib.Seq.{length-take-le}
 use borrow.Author.Needs.{needs}
 use Rattle.planfile.proofs.Lines.{ends-all}
