@@ -10,7 +10,7 @@ use Rattle.laws.proofs.Upto.{each-length}
 use Rattle.schedule.specs.Paper.{Shown}
 use Rattle.sender.specs.Paper.{descriptions, newBits, bitmapOf, usedOctets, messageOf}
 use Rattle.sender.proofs.Groups.{told, descriptions-groups}
-use Rattle.sender.proofs.Padded.{sets-append, sets-padded, padded-length}
+use Rattle.sender.proofs.Padded.{sets-append, sets-padded}
 
 module _ (b : ℕ) (s : ℕ → Shown) (n : ℕ) where
   pub bitmap-length : length (bitmapOf s n) ≡ 6
@@ -20,9 +20,6 @@ module _ (b : ℕ) (s : ℕ → Shown) (n : ℕ) where
   pub used-length : length (usedOctets b s n) ≡ 8 + length (descriptions s n)
   unfolding usedOctets
   used-length = let parts = length-append (bitmapOf s n) (descriptions s n) in omega (arith, bitmap-length)
-
-  pub message-length : length (descriptions s n) ≤ 80 → length (messageOf b s n) ≡ 88
-  message-length few = padded-length (usedOctets b s n) (omega (arith, used-length))
 
   -- the header, the descriptions of the new slots and those of the others, one after the other
   pub message-put : (x y z : List ℕ) (at : ℕ) → length (descriptions s n) ≤ 80

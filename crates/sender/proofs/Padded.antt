@@ -5,7 +5,7 @@ use Prim.Native.Nat.{ℕ, suc, _+_, _≤_}
 use native.Mathlib.Nat.{add-zero, add-suc, suc-add, zero-add}
 use native.Mathlib.Numerals.{add-one}
 use native.Mathlib.Omega.{arith}
-use lib.ListN.{length, set, replicate, length-append, length-replicate}
+use lib.ListN.{length, set, replicate, length-replicate}
 use lib.Seq.{sets, sets-eq}
 use Rattle.laws.specs.Upto.{each}
 use Rattle.laws.proofs.Upto.{each-length}
@@ -31,7 +31,3 @@ unfolding padded
 sets-padded o h =
     let room : 0 + length o ≤ length {A = ℕ} (replicate 88 43) = rw (length-replicate {A = ℕ} 88 43) (omega arith) in
     sets-eq o (replicate 88 43) 0 room ∙ rw (zero-add, drop-replicate (length o) 88 43)
-
-pub padded-length : (o : List ℕ) → length o ≤ 88 → length (padded o) ≡ 88
-unfolding padded
-padded-length o h = rw (length-append, length-replicate) (omega arith)
