@@ -3,4 +3,4 @@ use Rattle.lines.proofs.Chunks.{in-chunks as listing-in-chunks}
 use Rattle.cbcheck.specs.Listing.{lineOf, InChunks}
 
 pub in-chunks : InChunks
-in-chunks c p = listing-in-chunks (lineOf c p)
+in-chunks b = listing-in-chunks (lineOf b)

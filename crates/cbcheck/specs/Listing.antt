@@ -1,4 +1,4 @@
--- The lines of a log's schedule messages, checked beside two plans.
+-- The lines of a log's schedule messages, checked by what two plans say.
 use mathlib.Core.Path.{_≡_}
 use mathlib.Core.Bool.{cond}
 use mathlib.Core.List.{List, [], _∷_, _++_}
@@ -7,8 +7,8 @@ use lib.ListN.{length}
 use lib.Dec.{eqb}
 use Rattle.block.specs.Paper.{Held, Given}
 use Rattle.history.specs.History.{after}
-use Rattle.plan.specs.Paper.{Plan}
-use Rattle.checker.specs.Paper.{Checked, check}
+use Rattle.checker.specs.Paper.{Checked}
+use Rattle.checker.specs.Beside.{Plans, checkBeside}
 use Rattle.lines.specs.Paper.{decimal, cut, listing}
 use Rattle.words.specs.Words.{words}
 
@@ -41,19 +41,19 @@ abbrev pub line : ℕ → Checked → List ℕ
 line n k = numbers n (k .number) (k .slot) ++ said (k .number) (k .slot)
 
 -- 01 Numbers given: a schedule message complete is answered by 7 and has a line; another answer has none
-abbrev pub lineOf : Plan → Plan → ℕ → Given → List ℕ
-lineOf c p n g = cond (eqb (g .number) 7) (line n (check c p (g .octets) (g .received))) []
+abbrev pub lineOf : Plans → ℕ → Given → List ℕ
+lineOf b n g = cond (eqb (g .number) 7) (line n (checkBeside b (g .octets) (g .received))) []
 
 -- the line for a number that an intake call returned, beside the message
-abbrev pub lineFor : Plan → Plan → ℕ → ℕ → List ℕ → List ℕ
-lineFor c p n returned m = cond (eqb (returned % 256) 7) (line n (check c p m (returned / 256))) []
+abbrev pub lineFor : Plans → ℕ → ℕ → List ℕ → List ℕ
+lineFor b n returned m = cond (eqb (returned % 256) 7) (line n (checkBeside b m (returned / 256))) []
 
 -- the lines of pieces taken in order from a state, the first of them with number n
-abbrev pub lines : Plan → Plan → Held → ℕ → List (List ℕ) → List ℕ
-lines c p h n ps = listing (lineOf c p) h n ps
+abbrev pub lines : Plans → Held → ℕ → List (List ℕ) → List ℕ
+lines b h n ps = listing (lineOf b) h n ps
 
 -- a log checked in chunks of whole pieces is checked as one
 abbrev pub InChunks : Type 0
 InChunks =
-    (c p : Plan) (h : Held) (n k : ℕ) (chunk rest : List ℕ) → length chunk ≡ 23 * k
-    → lines c p h n (cut (chunk ++ rest)) ≡ lines c p h n (cut chunk) ++ lines c p (after h (cut chunk)) (n + k) (cut rest)
+    (b : Plans) (h : Held) (n k : ℕ) (chunk rest : List ℕ) → length chunk ≡ 23 * k
+    → lines b h n (cut (chunk ++ rest)) ≡ lines b h n (cut chunk) ++ lines b (after h (cut chunk)) (n + k) (cut rest)

@@ -5,16 +5,15 @@ ghost use lib.ListN.{length, take};
 ghost use Rattle.answer.specs.Number.{numberOf};
 ghost use Rattle.history.specs.History.{after};
 ghost use Rattle.firmware.specs.Paper.{lent, heldIn};
-ghost use Rattle.plan.specs.Coded.{planOf};
-ghost use Rattle.checker.specs.Coded.{checkedOf};
+ghost use Rattle.checker.specs.Coded.{checkedOf, plansOf};
 ghost use Rattle.lines.specs.Paper.{cut};
 ghost use Rattle.lines.specs.Inner.{Puts};
 ghost use Rattle.cbcheck.specs.Listing.{numbers, reason, line, lineFor, lines};
 use answer::Refusal;
 use checker::Checking;
+use checker::Plans;
 use libc::STDERR_FILENO;
 use libc::STDOUT_FILENO;
-use plan::Plan;
 
 // A read holds this many pieces, and the text has room for the longest line of each.
 const PIECES: u64 = 1024;
@@ -41,7 +40,7 @@ fn main() {
     }
     let plan = current.plan;
     let older = previous.plan;
-    list_all(plan, older);
+    list_all(checker::beside(plan, older));
 }
 
 // Room for the lines of one read.
@@ -59,7 +58,7 @@ fn state_buffer() -> [u8; 90]
 }
 
 // Checks standard input to its end.
-fn list_all(current: Plan, previous: Plan) {
+fn list_all(plans: Plans) {
     let mut state = state_buffer();
     firmware::cb_start(&mut state);
     let mut log = io::large_buffer();
@@ -67,15 +66,7 @@ fn list_all(current: Plan, previous: Plan) {
     let mut message = [0u8; 88];
     let mut number: u64 = 1;
     while number < LAST {
-        if !list_some(
-            current,
-            previous,
-            &mut state,
-            number,
-            &mut log,
-            &mut message,
-            &mut out,
-        ) {
+        if !list_some(plans, &mut state, number, &mut log, &mut message, &mut out) {
             return;
         }
         number += PIECES;
@@ -84,8 +75,7 @@ fn list_all(current: Plan, previous: Plan) {
 
 // Checks what one read gives, and answers whether there may be more.
 fn list_some(
-    current: Plan,
-    previous: Plan,
+    plans: Plans,
     state: &mut [u8],
     number: u64,
     log: &mut [u8],
@@ -95,15 +85,7 @@ fn list_some(
     requires { ⌜ (length (now state) ≡ 90) × (length (now message) ≡ 88) × (length (now log) ≡ 65536) × (length (now out) ≡ 146432) × (number < 1000000000000000000) ⌝ }
 {
     let count = lines::read_whole(&mut log[..CHUNK]);
-    let end = list(
-        current,
-        previous,
-        state,
-        number,
-        &log[..count],
-        message,
-        out,
-    );
+    let end = list(plans, state, number, &log[..count], message, out);
     if !io::write_all(STDOUT_FILENO, &out[..end]) {
         os::fail(b"standard output");
         return false;
@@ -113,8 +95,7 @@ fn list_some(
 
 // Checks a log: a shorter tail is a piece too. Answers the length of the lines.
 fn list(
-    current: Plan,
-    previous: Plan,
+    plans: Plans,
     state: &mut [u8],
     first: u64,
     log: &[u8],
@@ -122,7 +103,7 @@ fn list(
     out: &mut [u8],
 ) -> usize
     requires { ⌜ (length (now state) ≡ 90) × (length (now message) ≡ 88) × (length (now log) ≤ 23552) × (length (now out) ≡ 146432) × (first < 1000000000000000000) ⌝ }
-    ensures { λ r. ⌜ (take r (now (out .exit)) ≡ lines (planOf current) (planOf previous) (heldIn (now (state .entry))) first (cut (now (log .entry)))) × (now (state .exit) ≡ lent (after (heldIn (now (state .entry))) (cut (now (log .entry))))) × (r ≤ 146432) ⌝ }
+    ensures { λ r. ⌜ (take r (now (out .exit)) ≡ lines (plansOf plans) (heldIn (now (state .entry))) first (cut (now (log .entry)))) × (now (state .exit) ≡ lent (after (heldIn (now (state .entry))) (cut (now (log .entry))))) × (r ≤ 146432) ⌝ }
 {
     let mut at = 0;
     let mut number = first;
@@ -130,7 +111,7 @@ fn list(
     while at < log.len() {
         let next = lines::piece_end(at, log.len());
         let returned = firmware::cb_intake(state, &log[at..next], message);
-        end = put_answer(current, previous, number, returned, &message[..], out, end);
+        end = put_answer(plans, number, returned, &message[..], out, end);
         number += 1;
         at = next;
     }
@@ -139,8 +120,7 @@ fn list(
 
 // Puts the line of a block's answer behind those so far, and answers where they end. Only a schedule message complete has a line.
 fn put_answer(
-    current: Plan,
-    previous: Plan,
+    plans: Plans,
     number: u64,
     returned: u32,
     message: &[u8],
@@ -148,13 +128,13 @@ fn put_answer(
     at: usize,
 ) -> usize
     requires { ⌜ at + 143 ≤ length (now out) ⌝ }
-    ensures { λ r. ⌜ Puts (lineFor (planOf current) (planOf previous) number returned (now (message .entry))) 143 at (now (out .entry)) (now (out .exit)) r ⌝ }
+    ensures { λ r. ⌜ Puts (lineFor (plansOf plans) number returned (now (message .entry))) 143 at (now (out .entry)) (now (out .exit)) r ⌝ }
 {
     if returned % 256 != 7 {
         return at;
     }
     let received = (returned / 256) as usize;
-    let checking = checker::check_schedule(current, previous, message, received);
+    let checking = checker::check_beside(plans, message, received);
     put_checking(number, checking, out, at)
 }
 

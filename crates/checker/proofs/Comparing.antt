@@ -3,7 +3,7 @@ use mathlib.Core.Path.{_≡_, refl, sym, ap, _∙_}
 use mathlib.Core.Bool.{not}
 use mathlib.Core.List.{List, map}
 use Prim.Native.Nat.{ℕ, _≤_}
-use native.Mathlib.Omega.{arith}
+use lib.ListN.{getD, List·getD-map}
 use Rattle.laws.specs.Upto.{lowest}
 use Rattle.laws.proofs.Lowest.{lowest-agree}
 use Rattle.answer.specs.Number.{numberOf}
@@ -12,25 +12,25 @@ use Rattle.answer.proofs.Inverse.{numberOf-positive}
 use Rattle.schedule.specs.declared.Reading.{Reading}
 use Rattle.schedule.specs.declared.Reading.the-variants.{Read, Refused}
 use Rattle.schedule.specs.declared.Table.{Table}
-use Rattle.schedule.specs.Paper.{read, listed, Shown, Listed, Read as Reads}
+use Rattle.schedule.specs.Paper.{shown, read, listed, Shown, Listed, Read as Reads}
 use Rattle.schedule.specs.Coded.{readOf, listedOf}
 use Rattle.schedule.proofs.Givens.{Good, read-listed, given-good, shown-at}
 use Rattle.plan.specs.declared.Planned.{Planned as PlannedCode}
-use Rattle.plan.specs.Paper.{Plan, allPlanned}
+use Rattle.plan.specs.Paper.{Planned}
 use Rattle.plan.specs.Coded.{plannedOf}
-use Rattle.checker.specs.Paper.{unchecked, untrueAt, isTrue, untrue}
+use Rattle.plan.specs.Parts.{nothing}
+use Rattle.checker.specs.Paper.{trueBy, unchecked, untrueAt}
+use Rattle.checker.specs.Beside.{untrueTo, compared}
 use Rattle.checker.specs.Coded.{untrueBy}
-use Rattle.checker.specs.Parts.{compared}
 use Rattle.checker.proofs.Answers.{read-refused, end-differs, all-true, one-untrue}
-use Rattle.checker.proofs.Telling.{untrue-said}
 
-module _ (c p : Plan) (m : List ℕ) (received : ℕ) (t : Table) (q : listedOf t ≡ listed m received) where
+module _ (n : ℕ) (xs : List PlannedCode) (m : List ℕ) (received : ℕ) (t : Table) (q : listedOf t ≡ listed m received) where
   read-number : read m received .number ≡ readOf (t .answer) .number
   read-number = sym (ap (λ (l : Listed). l .read .number) q ∙ ap (λ (r : Reads). r .number) (read-listed m received))
 
-  pub table-refused : (r : Refusal) → t .answer ≡ Refused r → unchecked (numberOf r) ≡ compared c p m received
+  pub table-refused : (r : Refusal) → t .answer ≡ Refused r → unchecked (numberOf r) ≡ compared n (map plannedOf xs) m received
   table-refused r a =
-      read-refused c p m received (numberOf r) (numberOf-positive r) (read-number ∙ ap (λ (x : Reading). readOf x .number) a)
+      read-refused n (map plannedOf xs) m received (numberOf r) (numberOf-positive r) (read-number ∙ ap (λ (x : Reading). readOf x .number) a)
 
   module _ (b e : ℕ) (a : t .answer ≡ Read b e) where
     good : Good m received (listedOf t) q e
@@ -42,22 +42,21 @@ module _ (c p : Plan) (m : List ℕ) (received : ℕ) (t : Table) (q : listedOf 
     pub table-last : e ≤ 48
     table-last = good .last
 
-    pub table-differs : (e ≡ c .count → ⊥) → untrueAt 0 ≡ compared c p m received
-    table-differs d = end-differs c p m received reads (λ w. d (good .ends ∙ w))
+    pub table-differs : (e ≡ n → ⊥) → untrueAt 0 ≡ compared n (map plannedOf xs) m received
+    table-differs d = end-differs n (map plannedOf xs) m received reads (λ w. d (good .ends ∙ w))
 
-    module _ (w : e ≡ c .count) (xs : List PlannedCode) (all : map plannedOf xs ≡ allPlanned c p) (s : ℕ) (l : s ≡ lowest (untrueBy xs (t .slots)) e) where
-      found : s ≡ lowest (untrue c p m) (c .count)
+    module _ (w : e ≡ n) (s : ℕ) (l : s ≡ lowest (untrueBy xs (t .slots)) e) where
+      found : s ≡ lowest (untrueTo (map plannedOf xs) m) n
       found =
           l
-          ∙ lowest-agree (untrueBy xs (t .slots)) (untrue c p m) e
+          ∙ lowest-agree (untrueBy xs (t .slots)) (untrueTo (map plannedOf xs) m) e
           (λ i h.
-          let last = table-last in
-          untrue-said c p xs all (t .slots) i (omega arith) (omega arith)
-          ∙ ap (λ (x : Shown). not (isTrue c p i x)) (shown-at m received (listedOf t) q e good (t .slots) i refl h))
-          ∙ ap (lowest (untrue c p m)) w
+          ap (λ (x : Shown). not (trueBy (plannedOf (getD xs i nothing)) i x)) (shown-at m received (listedOf t) q e good (t .slots) i refl h)
+          ∙ ap (λ (v : Planned). not (trueBy v i (shown m i))) (sym (List·getD-map plannedOf xs i nothing)))
+          ∙ ap (lowest (untrueTo (map plannedOf xs) m)) w
 
-      pub table-true : s ≡ 0 → unchecked 0 ≡ compared c p m received
-      table-true z = all-true c p m received reads (sym (good .ends) ∙ w) s found z
+      pub table-true : s ≡ 0 → unchecked 0 ≡ compared n (map plannedOf xs) m received
+      table-true z = all-true n (map plannedOf xs) m received reads (sym (good .ends) ∙ w) s found z
 
-      pub table-untrue : (s ≡ 0 → ⊥) → untrueAt s ≡ compared c p m received
-      table-untrue z = one-untrue c p m received reads (sym (good .ends) ∙ w) s found z
+      pub table-untrue : (s ≡ 0 → ⊥) → untrueAt s ≡ compared n (map plannedOf xs) m received
+      table-untrue z = one-untrue n (map plannedOf xs) m received reads (sym (good .ends) ∙ w) s found z

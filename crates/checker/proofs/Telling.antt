@@ -1,21 +1,18 @@
 -- What may be told of a slot by what the plans say of it.
 use mathlib.Core.Path.{_≡_, refl, ap, _∙_}
 use mathlib.Core.Bool.{Bool, true, false, not, _&&_, Bool·beq}
-use mathlib.Core.List.{List, map}
-use Prim.Native.Nat.{ℕ, _<_}
+use mathlib.Core.List.{List}
+use Prim.Native.Nat.{ℕ, _≤_, _<_}
+use native.Mathlib.Omega.{arith}
 use lib.Dec.{eqb}
-use lib.ListN.{getD}
-use borrow.Author.Tests.{lt-ltb}
-use Rattle.schedule.specs.Paper.{Told, first, again, optional, advised, Shown}
-use Rattle.schedule.specs.Coded.{shownOf}
-use Rattle.schedule.specs.Parts.{zeroed}
-use Rattle.schedule.specs.declared.Slot.{Slot}
-use Rattle.plan.specs.declared.Planned.{Planned as PlannedCode}
-use Rattle.plan.specs.Paper.{Plan, Planned, entryAt, plannedAt, nonePlanned, saidAt, allPlanned}
-use Rattle.plan.specs.Coded.{plannedOf}
-use Rattle.plan.proofs.Said.{says-at}
-use Rattle.checker.specs.Paper.{mayTell, newFor, trueBy, isTrue}
-use Rattle.checker.specs.Coded.{untrueBy}
+use borrow.Author.Tests.{eqb-true, lt-ltb}
+use Rattle.laws.proofs.Lowest.{lowest-agree}
+use Rattle.laws.proofs.Upto.{each-at}
+use Rattle.schedule.specs.Paper.{Told, first, again, optional, advised, Shown, shown}
+use Rattle.plan.specs.Paper.{Plan, Planned, planNumber, entryAt, plannedAt, nonePlanned, saidAt, allPlanned}
+use Rattle.plan.proofs.GoodPlan.{good-counted}
+use Rattle.checker.specs.Paper.{mayTell, newFor, trueBy, isTrue, untrue, verdict, check}
+use Rattle.checker.specs.Beside.{untrueTo, verdictTo, compared, beside, checkBeside}
 
 module _ (c p : Plan) (i : ℕ) where
   -- of a slot planned with no page, no description and no new bit is judged by a page
@@ -35,9 +32,26 @@ module _ (c p : Plan) (i : ℕ) where
       go true e = rw (lt-ltb i (c .count) l, e)
       go false e = rw (lt-ltb i (c .count) l, e) (told-none (s .told) (s .new) e)
 
--- a slot is untrue by an array of all that the plans say exactly where it is
-pub untrue-said : (c p : Plan) (xs : List PlannedCode) → map plannedOf xs ≡ allPlanned c p → (slots : List Slot) (i : ℕ) → i < 48 → i < c .count
-    → untrueBy xs slots i ≡ not (isTrue c p i (shownOf (getD slots i zeroed)))
-untrue-said c p xs q slots i few l =
-    let s : Shown = shownOf (getD slots i zeroed) in
-    ap not (ap (λ (v : Planned). trueBy v i s) (says-at c p xs q i few) ∙ true-said c p i l s)
+-- by all that is said of a good plan's slots a message is judged as beside the plans themselves
+verdict-said : (c p : Plan) (m : List ℕ) → c .count ≤ 48 → verdictTo (c .count) (allPlanned c p) m ≡ verdict c p m
+unfolding allPlanned
+verdict-said c p m few =
+    let same =
+    lowest-agree (untrueTo (allPlanned c p) m) (untrue c p m) (c .count)
+    (λ i l.
+    ap (λ (v : Planned). not (trueBy v i (shown m i))) (each-at (saidAt c p) 48 i (nonePlanned 0) (omega arith))
+    ∙ ap not (true-said c p i l (shown m i))) in
+    rw same
+
+-- what is found once for two plans checks every message as the plans do
+pub check-beside : (c p : Plan) (m : List ℕ) (received : ℕ) → checkBeside (beside c p) m received ≡ check c p m received
+unfolding beside checkBeside compared check
+check-beside c p m received = go (eqb (planNumber c) 0) (eqb (planNumber p) 0) (eqb (c .count) 0) refl refl refl
+  where
+    go : (x y z : Bool) → eqb (planNumber c) 0 ≡ x → eqb (planNumber p) 0 ≡ y → eqb (c .count) 0 ≡ z → checkBeside (beside c p) m received ≡ check c p m received
+    go false y z e f g = simp e
+    go true false z e f g = simp (e, f)
+    go true true true e f g = simp (e, f, g)
+    go true true false e f g =
+        let same = verdict-said c p m (good-counted c (eqb-true (planNumber c) 0 e)) in
+        simp (e, f, g, same)

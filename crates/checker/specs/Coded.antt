@@ -1,6 +1,6 @@
 -- The code's values as the checker's numbers and tests.
 use mathlib.Core.Bool.{Bool, not}
-use mathlib.Core.List.{List}
+use mathlib.Core.List.{List, map}
 use Prim.Native.Nat.{ℕ}
 use lib.ListN.{getD}
 use Rattle.answer.specs.Number.{numberOf}
@@ -8,11 +8,13 @@ use Rattle.schedule.specs.declared.Slot.{Slot}
 use Rattle.schedule.specs.Coded.{shownOf}
 use Rattle.schedule.specs.Parts.{zeroed}
 use Rattle.plan.specs.declared.Planned.{Planned}
-use Rattle.plan.specs.Coded.{plannedOf}
+use Rattle.plan.specs.Coded.{verdictOf, plannedOf}
 use Rattle.plan.specs.Parts.{nothing}
 use Rattle.checker.specs.declared.Checking.{Checking}
 use Rattle.checker.specs.declared.Checking.the-variants.{True, Refused}
+use Rattle.checker.specs.declared.Plans.{Plans as PlansCode}
 use Rattle.checker.specs.Paper.{trueBy, Checked}
+use Rattle.checker.specs.Beside.{Plans}
 
 -- what an array of slots holds of slot i is untrue by what another says of it
 abbrev pub untrueBy : List Planned → List Slot → ℕ → Bool
@@ -22,3 +24,7 @@ untrueBy v s i = not (trueBy (plannedOf (getD v i nothing)) i (shownOf (getD s i
 abbrev pub checkedOf : Checking → Checked
 checkedOf True = record { number = 0; slot = 0 }
 checkedOf (Refused r s) = record { number = numberOf r; slot = s }
+
+-- what two plans say, with 0 for good ones or the refusal's number
+abbrev pub plansOf : PlansCode → Plans
+plansOf b = record { number = verdictOf (b .verdict); count = b .count; said = map plannedOf (b .said) }

@@ -1,12 +1,14 @@
 // Schedule messages checked against a plan and the plan before it.
 ghost use mathlib.Core.Path.{_≡_};
 ghost use Prim.Native.Nat.{_≤_, _<_};
+ghost use mathlib.Core.List.{map};
+ghost use Rattle.answer.specs.Number.{numberOf};
 ghost use Rattle.laws.specs.Upto.{lowest as lowestOf};
 ghost use Rattle.schedule.specs.Coded.{toldOf, shownOf};
 ghost use Rattle.plan.specs.Coded.{planOf, plannedOf};
 ghost use Rattle.checker.specs.Paper.{leads, repeats, mayTell, newFor, trueBy, check};
-ghost use Rattle.checker.specs.Coded.{untrueBy, checkedOf};
-ghost use Rattle.checker.specs.Parts.{compared};
+ghost use Rattle.checker.specs.Beside.{beside as besideThem, unsaid, compared, checkBeside};
+ghost use Rattle.checker.specs.Coded.{untrueBy, checkedOf, plansOf};
 use answer::Refusal;
 use plan::Plan;
 use plan::Planned;
@@ -14,6 +16,13 @@ use plan::Verdict;
 use schedule::Description;
 use schedule::Reading;
 use schedule::Slot;
+
+// What two plans say: whether they are good and the current one has slots, and if so its count and what is said of each slot.
+pub struct Plans {
+    pub verdict: Verdict,
+    pub count: usize,
+    pub said: [Planned; 48],
+}
 
 // What the checker answers: the message is true, or it is refused, with the slot that 40 names; with other refusals the slot is 0.
 pub enum Checking {
@@ -119,21 +128,20 @@ fn first_untrue(all: [Planned; 48], slots: [Slot; 48], count: usize) -> usize
     0
 }
 
-// Holds a message, of which some octets are received, beside good plans.
-fn compare(current: Plan, previous: Plan, message: &[u8], received: usize) -> Checking
-    ensures { λ r. ⌜ checkedOf r ≡ compared (planOf current) (planOf previous) (now (message .entry)) received ⌝ }
+// Holds a message, of which some octets are received, beside what good plans say: the current plan's count, and each slot.
+fn compare(count: usize, said: [Planned; 48], message: &[u8], received: usize) -> Checking
+    ensures { λ r. ⌜ checkedOf r ≡ compared count (map plannedOf said) (now (message .entry)) received ⌝ }
 {
     let table = schedule::read_slots(message, received);
     let answer = table.answer;
     match answer {
         Reading::Refused(why) => Checking::Refused(why, 0),
         Reading::Read(_, end) => {
-            if end != current.count {
+            if end != count {
                 return Checking::Refused(Refusal::Untrue, 0);
             }
             let slots = table.slots;
-            let all = plan::all_planned(current, previous);
-            let slot = first_untrue(all, slots, end);
+            let slot = first_untrue(said, slots, end);
             if slot == 0 {
                 return Checking::True;
             }
@@ -142,20 +150,62 @@ fn compare(current: Plan, previous: Plan, message: &[u8], received: usize) -> Ch
     }
 }
 
+// Plans that are refused say nothing.
+fn unsaid(why: Refusal) -> Plans
+    ensures { λ r. ⌜ plansOf r ≡ unsaid (numberOf why) ⌝ }
+{
+    let nothing = Planned {
+        kind: 0,
+        low: 0,
+        lowest: 0,
+        fresh: false,
+    };
+    Plans {
+        verdict: Verdict::Refused(why),
+        count: 0,
+        said: [nothing; 48],
+    }
+}
+
+// What the current plan and the previous one say, for any number of messages.
+pub fn beside(current: Plan, previous: Plan) -> Plans
+    ensures { λ r. ⌜ plansOf r ≡ besideThem (planOf current) (planOf previous) ⌝ }
+{
+    let verdict = plan::plan_answer(current);
+    if let Verdict::Refused(why) = verdict {
+        return unsaid(why);
+    }
+    let verdict = plan::plan_answer(previous);
+    if let Verdict::Refused(why) = verdict {
+        return unsaid(why);
+    }
+    if current.count == 0 {
+        return unsaid(Refusal::PlanEmpty);
+    }
+    let said = plan::all_planned(current, previous);
+    Plans {
+        verdict: Verdict::Good,
+        count: current.count,
+        said,
+    }
+}
+
+// Checks a message, of which some octets are received, by what the plans say.
+pub fn check_beside(plans: Plans, message: &[u8], received: usize) -> Checking
+    ensures { λ r. ⌜ checkedOf r ≡ checkBeside (plansOf plans) (now (message .entry)) received ⌝ }
+{
+    let verdict = plans.verdict;
+    if let Verdict::Refused(why) = verdict {
+        return Checking::Refused(why, 0);
+    }
+    let said = plans.said;
+    compare(plans.count, said, message, received)
+}
+
 // Checks a message, of which some octets are received, beside the current plan and the previous one.
 pub fn check_schedule(current: Plan, previous: Plan, message: &[u8], received: usize) -> Checking
     ensures { λ r. ⌜ checkedOf r ≡ check (planOf current) (planOf previous) (now (message .entry)) received ⌝ }
 {
-    let verdict = plan::plan_answer(current);
-    if let Verdict::Refused(why) = verdict {
-        return Checking::Refused(why, 0);
-    }
-    let verdict = plan::plan_answer(previous);
-    if let Verdict::Refused(why) = verdict {
-        return Checking::Refused(why, 0);
-    }
-    if current.count == 0 {
-        return Checking::Refused(Refusal::PlanEmpty, 0);
-    }
-    compare(current, previous, message, received)
+    let plans = beside(current, previous);
+    check_beside(plans, message, received)
 }

@@ -36,7 +36,7 @@ verdictFrom-verdictOf : (v : Verdict) → verdictFrom (verdictOf v) ≡ v
 verdictFrom-verdictOf Good = refl
 verdictFrom-verdictOf (Refused r) = rw (ne-eqb (numberOf r) 0 (numberOf-positive r)) (ap Refused (refusalOf-numberOf r))
 
-verdict-injective : (r s : Verdict) → verdictOf r ≡ verdictOf s → r ≡ s
+pub verdict-injective : (r s : Verdict) → verdictOf r ≡ verdictOf s → r ≡ s
 verdict-injective r s e = sym (verdictFrom-verdictOf r) ∙ ap verdictFrom e ∙ verdictFrom-verdictOf s
 
 pub determined-empty-plan : (r s : PlanCode) → planOf r ≡ empty → planOf s ≡ empty → r ≡ s
@@ -59,7 +59,9 @@ plannedFrom-plannedOf : (vs : List PlannedCode) → map plannedFrom (map planned
 plannedFrom-plannedOf [] = refl
 plannedFrom-plannedOf (v ∷ vs) = ap (λ (l : List PlannedCode). v ∷ l) (plannedFrom-plannedOf vs)
 
+pub said-injective : (r s : List PlannedCode) → map plannedOf r ≡ map plannedOf s → r ≡ s
+said-injective r s e = sym (plannedFrom-plannedOf r) ∙ ap (map plannedFrom) e ∙ plannedFrom-plannedOf s
+
 pub determined-all-planned : (current previous : PlanCode) (r s : List PlannedCode)
     → map plannedOf r ≡ allPlanned (planOf current) (planOf previous) → map plannedOf s ≡ allPlanned (planOf current) (planOf previous) → r ≡ s
-determined-all-planned current previous r s a b =
-    sym (plannedFrom-plannedOf r) ∙ ap (map plannedFrom) (a ∙ sym b) ∙ plannedFrom-plannedOf s
+determined-all-planned current previous r s a b = said-injective r s (a ∙ sym b)

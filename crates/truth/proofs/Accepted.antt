@@ -6,7 +6,7 @@ use mathlib.Core.Logic.{inl, inr, ⊎-elim}
 use Prim.Native.Nat.{ℕ, suc, _<_}
 use native.Mathlib.Omega.{arith}
 use lib.Dec.{eqb, leb}
-use borrow.Author.Tests.{eqb-true, eqb-false, leb-true, ne-eqb, not-true, not-false}
+use borrow.Author.Tests.{eqb-true, eqb-false, leb-true, eq-eqb, ne-eqb, not-true, not-false}
 use Rattle.laws.specs.Upto.{lowest}
 use Rattle.laws.proofs.Lowest.{Lowest, none-passes, first-passes, lowest-is, lowest-none}
 use Rattle.laws.proofs.Outcome.{Outcome, refuses, passes, outcome, Because, ruled-because}
@@ -17,7 +17,6 @@ use Rattle.schedule.proofs.Givens.{faults-some}
 use Rattle.plan.specs.Paper.{Plan, planNumber}
 use Rattle.checker.specs.Paper.{Checked, unchecked, untrueAt, untrue, isTrue, verdict, faults, check}
 use Rattle.truth.specs.Truthful.{Truthful, Names, end-differs, slot-untrue, AcceptedExactly, NeverObeyed}
-use Rattle.checker.proofs.Answers.{good-compared, all-true}
 use Rattle.plan.proofs.GoodPlan.{plan-low}
 use Rattle.truth.proofs.TrueAt.{true-keeps, keeps-true}
 
@@ -128,17 +127,15 @@ module _ (c p : Plan) (m : List ℕ) (received : ℕ) where
       go (refused n some low e) = absurd (some (number (unchecked n) e))
       go (judged g h reads e) = judge g h reads (verdict c p m) e verdict-is
 
+  judged-good : planNumber c ≡ 0 → planNumber p ≡ 0 → (c .count ≡ 0 → ⊥) → read m received .number ≡ 0 → check c p m received ≡ verdict c p m
+  unfolding check
+  judged-good g h some r = simp (g, h, ne-eqb (c .count) 0 some, r)
+
   accepts : Truthful c p m received → check c p m received ≡ unchecked 0
   accepts t =
       let some : c .count ≡ 0 → ⊥ = λ z. let l = end-some m received (t .reads) in let w = t .ends in omega arith in
       let none = lowest-none (untrue c p m) (c .count) (λ i l. ap not (keeps-true c p i (shown m i) (t .current-good) l (t .slots i l))) in
-      sym
-      (all-true c p m received (t .reads) (t .ends) (lowest (untrue c p m) (c .count)) refl none
-      ∙ good-compared c p m received (t .current-good) (t .previous-good) some)
-
-  judged-good : planNumber c ≡ 0 → planNumber p ≡ 0 → (c .count ≡ 0 → ⊥) → read m received .number ≡ 0 → check c p m received ≡ verdict c p m
-  unfolding check
-  judged-good g h some r = simp (g, h, ne-eqb (c .count) 0 some, r)
+      judged-good (t .current-good) (t .previous-good) some (t .reads) ∙ rw (eq-eqb (end m) (c .count) (t .ends), none)
 
   untruthful : planNumber c ≡ 0 → planNumber p ≡ 0 → (c .count ≡ 0 → ⊥) → read m received .number ≡ 0 → (Truthful c p m received → ⊥)
       → check c p m received .number ≡ 40

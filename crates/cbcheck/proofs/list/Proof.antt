@@ -6,7 +6,7 @@ use borrow.Author.Needs.{needs}
 use denote.Ref.{now}
 use lib.ListN.{length, take, drop}
 use Rattle.firmware.specs.Paper.{heldIn}
-use Rattle.plan.specs.Coded.{planOf}
+use Rattle.checker.specs.Coded.{plansOf}
 use Rattle.block.specs.Paper.{schedule}
 use Rattle.lines.proofs.Complete.{complete}
 use Rattle.lines.proofs.Listed.{Listed, Taken, answerAt, taken, line-room, listed-start, listed-turn, listed-end}
@@ -16,17 +16,17 @@ use Rattle.cbcheck.proofs.list.Statement.{statement}
 use Rattle.cbcheck.proofs.list.Tie as tie
 
 abbrev Inv-loop : tie.InvT-loop
-Inv-loop current previous state₀ first log message₀ out₀ at₀ number₀ end₀ state message out at number end =
-    Listed (lineOf (planOf current) (planOf previous)) 143 146432 state₀ first log state out at number end × (length message ≡ 88)
+Inv-loop plans state₀ first log message₀ out₀ at₀ number₀ end₀ state message out at number end =
+    Listed (lineOf (plansOf plans)) 143 146432 state₀ first log state out at number end × (length message ≡ 88)
 
 abbrev μ-loop : tie.MeasureT-loop
-μ-loop current previous state₀ first log message₀ out₀ at₀ number₀ end₀ state message out at number end = length log - at
+μ-loop plans state₀ first log message₀ out₀ at₀ number₀ end₀ state message out at number end = length log - at
 
 loop-holds : tie.Need-loop-holds Inv-loop μ-loop
 loop-holds c =
     let s = c .before .before .before .before in
     let a = s .args in
-    (listed-start (lineOf (planOf (a .current)) (planOf (a .previous))) 143 146432 (now (a .state)) (a .first) (now (a .log)) (now (a .out)) (s .pre .0) (s .pre .2) (omega arith) (s .pre .3), s .pre .1)
+    (listed-start (lineOf (plansOf (a .plans))) 143 146432 (now (a .state)) (a .first) (now (a .log)) (now (a .out)) (s .pre .0) (s .pre .2) (omega arith) (s .pre .3), s .pre .1)
 
 -- what the call leaves
 called : (c : tie.After-cb-intake Inv-loop μ-loop)
@@ -42,7 +42,7 @@ put-answer-requires c κs =
     let l = c .before .before .before .before .before .before .before .before .before .before .before .before .loop in
     let a = c .before .before .before .before .before .before .before .before .before .before .before .before .before .before .before .before .before .args in
     let wide =
-    line-room (lineOf (planOf (a .current)) (planOf (a .previous))) 143 146432 (now (a .state)) (a .first) (now (a .log)) (l .state) (l .out) (l .at) (l .number) (l .end) (l .inv .0) (c .before .before .before .before .before .before .before .before .before .before .before .loop-test .taken) in
+    line-room (lineOf (plansOf (a .plans))) 143 146432 (now (a .state)) (a .first) (now (a .log)) (l .state) (l .out) (l .at) (l .number) (l .end) (l .inv .0) (c .before .before .before .before .before .before .before .before .before .before .before .loop-test .taken) in
     omega (arith, l .inv .0 .text-size)
 
 loop-again : tie.Need-loop-again Inv-loop μ-loop
@@ -56,9 +56,9 @@ loop-again c =
     let g = answerAt (l .state) (l .at) (now (a .log)) in
     let t = called call in
     let whole = complete schedule (heldIn (l .state)) (take 23 (drop (l .at) (now (a .log)))) in
-    let line = line-for (planOf (a .current)) (planOf (a .previous)) g (call .cb-intake .result) (call .cb-intake .last .0) (l .message) (call .cb-intake .last .1 .1 .0) t whole (l .number) in (
-      listed-turn (lineOf (planOf (a .current)) (planOf (a .previous))) 143 146432 (now (a .state)) (a .first) (now (a .log)) (l .state) (l .out) (l .at) (l .number) (l .end) (l .inv .0) turn
-          (next .result) (put .result) (call .cb-intake .last .0) (put .last .1 .1 .1 .1 .1 .0) (next .ensures) (call .cb-intake .kept .0) (put .kept .1 .1 .1 .1 .1 .0) (t .state)
+    let line = line-for (plansOf (a .plans)) g (call .cb-intake .result) (call .cb-intake .last .0) (l .message) (call .cb-intake .last .1 .1 .0) t whole (l .number) in (
+      listed-turn (lineOf (plansOf (a .plans))) 143 146432 (now (a .state)) (a .first) (now (a .log)) (l .state) (l .out) (l .at) (l .number) (l .end) (l .inv .0) turn
+          (next .result) (put .result) (call .cb-intake .last .0) (put .last .1 .1 .1 .1 .0) (next .ensures) (call .cb-intake .kept .0) (put .kept .1 .1 .1 .1 .0) (t .state)
           (rw line at (put .ensures)),
       call .cb-intake .kept .1 .1 .0 ∙ l .inv .1,
     )
@@ -67,7 +67,7 @@ returns : tie.Need-returns Inv-loop μ-loop
 returns c =
     let l = c .before .loop in
     let a = c .before .before .before .before .before .before .args in
-    listed-end (lineOf (planOf (a .current)) (planOf (a .previous))) 143 146432 (now (a .state)) (a .first) (now (a .log)) (l .state) (l .out) (l .at) (l .number) (l .end) (l .inv .0) (c .loop-test .left)
+    listed-end (lineOf (plansOf (a .plans))) 143 146432 (now (a .state)) (a .first) (now (a .log)) (l .state) (l .out) (l .at) (l .number) (l .end) (l .inv .0) (c .loop-test .left)
 
 pub list-spec : {M : Type 1} → statement M
 list-spec =

@@ -7,11 +7,11 @@ use Rattle.cbcheck.proofs.list_all.Statement.{statement}
 use Rattle.cbcheck.proofs.list_all.Tie as tie
 
 abbrev Inv-loop : tie.InvT-loop
-Inv-loop current previous state₀ log₀ out₀ message₀ number₀ state log out message number =
+Inv-loop plans state₀ log₀ out₀ message₀ number₀ state log out message number =
     (length state ≡ 90) × (length log ≡ 65536) × (length out ≡ 146432) × (length message ≡ 88)
 
 abbrev μ-loop : tie.MeasureT-loop
-μ-loop current previous state₀ log₀ out₀ message₀ number₀ state log out message number = 1000000000000000000 - number
+μ-loop plans state₀ log₀ out₀ message₀ number₀ state log out message number = 1000000000000000000 - number
 
 pub list-all-spec : {M : Type 1} → statement M
 list-all-spec =

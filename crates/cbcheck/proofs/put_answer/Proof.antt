@@ -17,7 +17,7 @@ returns-2 : tie.Need-returns-2
 returns-2 c =
     let checked = c .before .before .before .before in
     let a = checked .before .before .before .before .args in
-    rw (eq-eqb (a .returned % 256) 7 (checked .before .if1 .left), ← (checked .check-schedule .ensures)) (c .before .before .put-checking .ensures)
+    rw (eq-eqb (a .returned % 256) 7 (checked .before .if1 .left), ← (checked .check-beside .ensures)) (c .before .before .put-checking .ensures)
 
 pub put-answer-spec : {M : Type 1} → statement M
 put-answer-spec = tie.close (tie.spec returns (λ c. search needs) (λ c κs. search needs) (λ c κs. search needs) (λ c. search needs) returns-2)

@@ -1,5 +1,4 @@
 -- `checker::compare` meets its contract: each answer is told from the table of the message's slots.
-use Rattle.plan.specs.Coded.{planOf}
 use Rattle.checker.proofs.Comparing.{table-refused, table-last, table-differs, table-true, table-untrue}
 use borrow.Author.Needs.{needs}
 use Rattle.checker.proofs.compare.Statement.{statement}
@@ -16,38 +15,35 @@ enum-known-answer-2 c = search needs
 
 returns : tie.Need-returns
 returns c =
-    let r = c .before .before .before .before .before in
+    let r = c .before .before .before .before in
     let a = r .before .before .args in
-    table-differs (planOf (a .current)) (planOf (a .previous)) (a .message .now) (a .received) (r .read-slots .result) (r .read-slots .ensures) _ _ (c .before .before .before .answer2 .given .1) (c .if1 .taken)
-
-all-planned-requires : tie.Need-all-planned-requires
-all-planned-requires c κs = search needs
+    table-differs (a .count) (a .said) (a .message .now) (a .received) (r .read-slots .result) (r .read-slots .ensures) _ _ (c .before .before .answer2 .given .1) (c .if1 .taken)
 
 first-untrue-requires : tie.Need-first-untrue-requires
 first-untrue-requires c κs =
-    let r = c .before .before .before .before .before .before .before in
+    let r = c .before .before .before .before .before in
     let a = r .before .before .args in
-    table-last (planOf (a .current)) (planOf (a .previous)) (a .message .now) (a .received) (r .read-slots .result) (r .read-slots .ensures) _ _ (c .before .before .before .before .before .answer2 .given .1)
+    table-last (a .count) (a .said) (a .message .now) (a .received) (r .read-slots .result) (r .read-slots .ensures) _ _ (c .before .before .before .answer2 .given .1)
 
 returns-2 : tie.Need-returns-2
 returns-2 c =
-    let b = c .before .before .before .before in
-    let r = b .before .before .before .before .before in
+    let b = c .before .before .before in
+    let r = b .before .before .before .before in
     let a = r .before .before .args in
-    table-true (planOf (a .current)) (planOf (a .previous)) (a .message .now) (a .received) (r .read-slots .result) (r .read-slots .ensures) _ _ (b .before .before .before .answer2 .given .1) (b .if1 .left) (c .before .before .all-planned .result) (c .before .before .all-planned .ensures) (c .before .first-untrue .result) (c .before .first-untrue .ensures) (c .if2 .taken)
+    table-true (a .count) (a .said) (a .message .now) (a .received) (r .read-slots .result) (r .read-slots .ensures) _ _ (b .before .before .answer2 .given .1) (b .if1 .left) (c .before .first-untrue .result) (c .before .first-untrue .ensures) (c .if2 .taken)
 
 returns-3 : tie.Need-returns-3
 returns-3 c =
     let r = c .before .before .before in
     let a = r .before .before .args in
-    table-refused (planOf (a .current)) (planOf (a .previous)) (a .message .now) (a .received) (r .read-slots .result) (r .read-slots .ensures) _ (c .before .answer .given .1)
+    table-refused (a .count) (a .said) (a .message .now) (a .received) (r .read-slots .result) (r .read-slots .ensures) _ (c .before .answer .given .1)
 
 returns-4 : tie.Need-returns-4
 returns-4 c =
-    let b = c .before .before .before .before in
-    let r = b .before .before .before .before .before in
+    let b = c .before .before .before in
+    let r = b .before .before .before .before in
     let a = r .before .before .args in
-    table-untrue (planOf (a .current)) (planOf (a .previous)) (a .message .now) (a .received) (r .read-slots .result) (r .read-slots .ensures) _ _ (b .before .before .before .answer2 .given .1) (b .if1 .left) (c .before .before .all-planned .result) (c .before .before .all-planned .ensures) (c .before .first-untrue .result) (c .before .first-untrue .ensures) (c .if2 .left)
+    table-untrue (a .count) (a .said) (a .message .now) (a .received) (r .read-slots .result) (r .read-slots .ensures) _ _ (b .before .before .answer2 .given .1) (b .if1 .left) (c .before .first-untrue .result) (c .before .first-untrue .ensures) (c .if2 .left)
 
 pub compare-spec : {M : Type 1} → statement M
 compare-spec =
@@ -57,7 +53,6 @@ compare-spec =
     enum-known-answer
     enum-known-answer-2
     returns
-    all-planned-requires
     first-untrue-requires
     returns-2
     returns-3
