@@ -1,4 +1,4 @@
--- What a schedule tells of a slot, by way of the reader's table of slots.
+-- What a schedule tells of a slot, by way of the places of its descriptions.
 use mathlib.Core.Path.{_≡_, refl, sym, ap, _∙_}
 use mathlib.Core.Bool.{Bool, true, false, _&&_, _||_, not}
 use mathlib.Core.List.{List}
@@ -13,12 +13,11 @@ use Rattle.laws.proofs.Tests.{both, neither}
 use Rattle.answer.specs.declared.Refusal.{Refusal}
 use Rattle.answer.specs.Number.{numberOf}
 use Rattle.answer.proofs.Inverse.{numberOf-positive}
-use Rattle.schedule.specs.declared.Slot.{Slot}
-use Rattle.schedule.specs.declared.Table.{Table}
-use Rattle.schedule.specs.Paper.{Told, first, again, optional, advised, isFirst, falseIn, falseRepeat, begin, end, within, faults, Shown, tells, Read, unread, good, read, Listed, listed}
-use Rattle.schedule.specs.Coded.{readOf, listedOf}
-use Rattle.schedule.specs.Parts.{tellsOf}
-use Rattle.schedule.proofs.Givens.{faults-some, read-listed, given-good, shown-at}
+use Rattle.schedule.specs.declared.Placed.{Placed}
+use Rattle.schedule.specs.Paper.{Told, first, again, optional, advised, isFirst, falseIn, falseRepeat, begin, end, within, faults, tells, Read, unread, good, read, Placed as Places, placed}
+use Rattle.schedule.specs.Coded.{readOf, placedOf}
+use Rattle.schedule.specs.Parts.{toldBy}
+use Rattle.schedule.proofs.Givens.{faults-some, read-placed, given-good, told-at}
 use Rattle.schedule.proofs.Repeats.{falseRepeat-agree}
 use Rattle.board.specs.Paper.{Wanted, isHeld, firstMatches, readsFor, reads, decide, entryFor, enteredUnder}
 use Rattle.board.specs.Parts.{readsBy}
@@ -69,21 +68,21 @@ module _ (m : List ℕ) (received n : ℕ) where
       go false e = rw e
 
   -- what is known of a slot that a message tells of
-  pub record Telling (s : List Slot) : Type 0 where
+  pub record Telling (p : List ℕ) : Type 0 where
     pub some : 1 ≤ n
     pub low : n ≤ 48
     pub below : n - 1 < end m
-    pub shows : (j : ℕ) → j < end m → tellsOf s j ≡ tells m j
-    pub repeats : falseRepeat (tellsOf s) (n - 1) ≡ false
+    pub shows : (j : ℕ) → j < end m → toldBy m p j ≡ tells m j
+    pub repeats : falseRepeat (toldBy m p) (n - 1) ≡ false
 
-  module _ (t : Table) (q : listedOf t ≡ listed m received) where
+  module _ (t : Placed) (q : placedOf t ≡ placed m received) where
     same : readOf (t .answer) ≡ read m received
-    same = ap (λ (l : Listed). l .read) q ∙ read-listed m received
+    same = ap (λ (l : Places). l .read) q ∙ read-placed m received
 
-    tells-table : paper.tellsOf (lentSchedule true m received) n ≡ answers (readOf (t .answer)) n
-    tells-table = rw same tells-answers
+    tells-found : paper.tellsOf (lentSchedule true m received) n ≡ answers (readOf (t .answer)) n
+    tells-found = rw same tells-answers
 
-    pub telling : answers (readOf (t .answer)) n ≡ true → Telling (t .slots)
+    pub telling : answers (readOf (t .answer)) n ≡ true → Telling (t .places)
     telling e =
         let r : Read = readOf (t .answer) in
         let parts = both (eqb (r .number) 0) (leb 1 n && leb n (r .end)) e in
@@ -91,16 +90,16 @@ module _ (m : List ℕ) (received n : ℕ) where
         let zero = eqb-true (r .number) 0 (parts .0) in
         let some = leb-true 1 n (range .0) in
         let reach = leb-true n (r .end) (range .1) in
-        let g = given-good m received (listedOf t) q (r .begin) (r .end) (λ i. record { number = zero i; begin = r .begin; end = r .end }) in
+        let g = given-good m received (placedOf t) q (r .begin) (r .end) (λ i. record { number = zero i; begin = r .begin; end = r .end }) in
         let known = is-read m received (sym (ap (λ (y : Read). y .number) same) ∙ zero) in
         let below : n - 1 < end m = omega (arith, g .ends) in
-        let shows : (j : ℕ) → j < end m → tellsOf (t .slots) j ≡ tells m j = λ j l. ap (λ (x : Shown). x .told) (shown-at m received (listedOf t) q (r .end) g (t .slots) j refl (omega (arith, g .ends))) in
+        let shows : (j : ℕ) → j < end m → toldBy m (t .places) j ≡ tells m j = λ j l. told-at m received (placedOf t) q (r .end) g j (omega (arith, g .ends)) in
         record {
           some = some;
           low = omega (arith, g .last);
           below = below;
           shows = shows;
-          repeats = falseRepeat-agree (tellsOf (t .slots)) (tells m) (end m) (n - 1) shows below ∙ known .repeats (n - 1) below;
+          repeats = falseRepeat-agree (toldBy m (t .places)) (tells m) (end m) (n - 1) shows below ∙ known .repeats (n - 1) below;
         }
 
 -- a true repeat names a lower slot
@@ -157,24 +156,24 @@ reads-agree t u w h e i same l f = go (t i) refl ∙ ap (readsFor u w h) (same i
     go optional q = refl
     go advised q = refl
 
--- the decision and the entry by way of the table, where there is a schedule
-module _ (known : Bool) (m : List ℕ) (received n : ℕ) (t : Table) (q : listedOf t ≡ listed m received) (k : known ≡ true) (b : Bool) (e : answers (readOf (t .answer)) n ≡ b) where
+-- the decision and the entry by way of the places, where there is a schedule
+module _ (known : Bool) (m : List ℕ) (received n : ℕ) (t : Placed) (q : placedOf t ≡ placed m received) (k : known ≡ true) (b : Bool) (e : answers (readOf (t .answer)) n ≡ b) where
   pub tells-by : paper.tellsOf (lentSchedule known m received) n ≡ b
-  tells-by = rw k (tells-table m received n t q ∙ e)
+  tells-by = rw k (tells-found m received n t q ∙ e)
 
-module _ (known : Bool) (m : List ℕ) (received n : ℕ) (t : Table) (q : listedOf t ≡ listed m received) (k : known ≡ true) (e : answers (readOf (t .answer)) n ≡ true) where
-  reads-slots : (w : Wanted) (h : ℕ) → readsFor (tellsOf (t .slots)) w h (tellsOf (t .slots) (n - 1)) ≡ reads (lentSchedule known m received) n w h
+module _ (known : Bool) (m : List ℕ) (received n : ℕ) (t : Placed) (q : placedOf t ≡ placed m received) (k : known ≡ true) (e : answers (readOf (t .answer)) n ≡ true) where
+  reads-slots : (w : Wanted) (h : ℕ) → readsFor (toldBy m (t .places)) w h (toldBy m (t .places) (n - 1)) ≡ reads (lentSchedule known m received) n w h
   reads-slots w h =
       let g = telling m received n t q e in
-      reads-agree (tellsOf (t .slots)) (tells m) w h (end m) (n - 1) (g .shows) (g .below) (g .repeats)
+      reads-agree (toldBy m (t .places)) (tells m) w h (end m) (n - 1) (g .shows) (g .below) (g .repeats)
       ∙ sym (reads-told (lentSchedule known m received) n w h (tells-by known m received n t q k true e))
 
-  pub entered-slot : entryFor n (tellsOf (t .slots) (n - 1)) ≡ enteredUnder (lentSchedule known m received) n
+  pub entered-slot : entryFor n (toldBy m (t .places) (n - 1)) ≡ enteredUnder (lentSchedule known m received) n
   entered-slot =
       let g = telling m received n t q e in
       ap (entryFor n) (g .shows (n - 1) (g .below)) ∙ sym (entered-told (lentSchedule known m received) n (tells-by known m received n t q k true e))
 
-  -- where r is whether the board reads by the table
-  pub decided-slots : (w : Wanted) (h : ℕ) (r b : Bool) → SlotNumber n → w .count ≤ 64 → r ≡ readsFor (tellsOf (t .slots)) w h (tellsOf (t .slots) (n - 1)) → r ≡ b
+  -- where r is whether the board reads by the places
+  pub decided-slots : (w : Wanted) (h : ℕ) (r b : Bool) → SlotNumber n → w .count ≤ 64 → r ≡ readsFor (toldBy m (t .places)) w h (toldBy m (t .places) (n - 1)) → r ≡ b
       → record { number = 0; read = b } ≡ decide (lentSchedule known m received) n w h
   decided-slots w h r b i few p d = decided-as (lentSchedule known m received) n w h i b few (sym (reads-slots w h) ∙ sym p ∙ d)

@@ -7,7 +7,7 @@ ghost use lib.ListN.{take};
 ghost use Rattle.laws.specs.Search.{some};
 ghost use Rattle.schedule.specs.Paper.{falseRepeat};
 ghost use Rattle.schedule.specs.Coded.{toldOf, readOf};
-ghost use Rattle.schedule.specs.Parts.{tellsOf};
+ghost use Rattle.schedule.specs.Parts.{toldBy};
 ghost use Rattle.board.specs.Paper.{matches15, isWanted, isHeld, enter, firstMatches, readsFor, entryFor, decide as decideOf, enteredUnder};
 ghost use Rattle.board.specs.Parts.{readsBy};
 ghost use Rattle.board.specs.Coded.{idsOf, wantedOf, scheduleOf, lentSchedule, decidedOf};
@@ -15,7 +15,6 @@ use answer::Refusal;
 use page::MessageId;
 use schedule::Description;
 use schedule::Reading;
-use schedule::Slot;
 
 // 000 3.5.1: the slots of a period.
 const SLOTS: usize = 48;
@@ -160,15 +159,13 @@ fn reads_by(description: Description, matches: bool, missing: bool) -> bool
 }
 
 // Whether slot i, counted from 0, is read by what is told of it and of the slot that its page is entered under.
-fn reads_for(slots: [Slot; 48], i: usize, wanted: Wanted, held: Held) -> bool
-    requires { ⌜ (i < 48) × (falseRepeat (tellsOf slots) i ≡ false) × (wanted .count ≤ 64) ⌝ }
-    ensures { λ r. ⌜ r ≡ readsFor (tellsOf slots) (wantedOf wanted) (held .0) (tellsOf slots i) ⌝ }
+fn reads_for(message: &[u8], places: [usize; 48], i: usize, wanted: Wanted, held: Held) -> bool
+    requires { ⌜ (i < 48) × (falseRepeat (toldBy (now message) places) i ≡ false) × (wanted .count ≤ 64) ⌝ }
+    ensures { λ r. ⌜ r ≡ readsFor (toldBy (now (message .entry)) places) (wantedOf wanted) (held .0) (toldBy (now (message .entry)) places i) ⌝ }
 {
-    let slot = slots[i];
-    let description = slot.description;
+    let description = schedule::told_at(message, places[i]);
     let under = entry_for(i + 1, description);
-    let named = slots[under - 1];
-    let first = named.description;
+    let first = schedule::told_at(message, places[under - 1]);
     let matches = first_matches(first, wanted);
     let missing = unless_held(matches, held, under);
     reads_by(description, matches, missing)
@@ -197,13 +194,13 @@ pub fn decide_on(
     if !known {
         return Decision::Read;
     }
-    let table = schedule::read_slots(message, received);
-    let answer = table.answer;
+    let found = schedule::read_places(message, received);
+    let answer = found.answer;
     if !tells_of(answer, slot) {
         return Decision::Read;
     }
-    let slots = table.slots;
-    if reads_for(slots, slot - 1, wanted, held) {
+    let places = found.places;
+    if reads_for(message, places, slot - 1, wanted, held) {
         return Decision::Read;
     }
     Decision::Skip
@@ -226,14 +223,13 @@ pub fn entered_under_on(known: bool, message: &[u8], received: usize, slot: usiz
     if !known {
         return slot;
     }
-    let table = schedule::read_slots(message, received);
-    let answer = table.answer;
+    let found = schedule::read_places(message, received);
+    let answer = found.answer;
     if !tells_of(answer, slot) {
         return slot;
     }
-    let slots = table.slots;
-    let told = slots[slot - 1];
-    let description = told.description;
+    let places = found.places;
+    let description = schedule::told_at(message, places[slot - 1]);
     entry_for(slot, description)
 }
 

@@ -1,50 +1,11 @@
--- The cases of what a line says, and the room that its words need.
+-- The cases of what a line says.
 use mathlib.Core.Path.{_≡_, refl}
-use mathlib.Core.Bool.{Bool, true, false, cond, _&&_}
-use mathlib.Core.List.{List, [], _∷_, _++_}
-use Prim.Native.Nat.{ℕ, _≤_}
-use Prim.Native.String.{String}
-use native.Mathlib.Omega.{arith}
-use lib.ListN.{length}
-use lib.Dec.{eqb, leb, ltb}
-use borrow.Author.Tests.{eq-eqb, ne-eqb, leb-true}
-use Rattle.laws.proofs.Tests.{both}
-use Rattle.words.specs.Words.{ascii, find, words, ofIntake, ofText, ofLength, ofSchedule, ofPlan, ofSlot}
+use mathlib.Core.List.{[], _∷_, _++_}
+use Prim.Native.Nat.{ℕ}
+use borrow.Author.Tests.{eq-eqb, ne-eqb}
+use Rattle.words.specs.Words.{words}
 use Rattle.lines.specs.Paper.{decimal}
 use Rattle.cbcheck.specs.Listing.{trueWord, slotWord, untrueWords, reason, said}
-
--- every entry of a table is short
-unfoldable short : List (ℕ × String) → Bool
-short [] = true
-short ((k, w) ∷ t) = leb (length (ascii w)) 79 && short t
-
-find-few : (t : List (ℕ × String)) (n : ℕ) → short t ≡ true → length (find t n) ≤ 79
-unfolding find short
-find-few [] n e = omega arith
-find-few ((k, w) ∷ t) n e =
-    let few = both (leb (length (ascii w)) 79) (short t) e in
-    go (eqb n k) refl (leb-true (length (ascii w)) 79 (few .0)) (find-few t n (few .1))
-  where
-    go : (b : Bool) → eqb n k ≡ b → length (ascii w) ≤ 79 → length (find t n) ≤ 79 → length (find ((k, w) ∷ t) n) ≤ 79
-    go true p h rest = rw p h
-    go false p h rest = rw p rest
-
-either-few : (b : Bool) (x y : List ℕ) → length x ≤ 79 → length y ≤ 79 → length (cond b x y) ≤ 79
-either-few true x y h k = h
-either-few false x y h k = k
-
-pub words-few : (n : ℕ) → length (words n) ≤ 79
-unfolding ascii words short
-words-few n =
-    let late = cond (ltb n 40) (find ofPlan n) (find ofSlot n) in
-    let from20 = cond (ltb n 30) (find ofSchedule n) late in
-    let from15 = cond (ltb n 20) (find ofLength n) from20 in
-    let from10 = cond (ltb n 15) (find ofText n) from15 in
-    either-few (ltb n 10) (find ofIntake n) from10 (find-few ofIntake n refl)
-    (either-few (ltb n 15) (find ofText n) from15 (find-few ofText n refl)
-    (either-few (ltb n 20) (find ofLength n) from20 (find-few ofLength n refl)
-    (either-few (ltb n 30) (find ofSchedule n) late (find-few ofSchedule n refl)
-    (either-few (ltb n 40) (find ofPlan n) (find ofSlot n) (find-few ofPlan n refl) (find-few ofSlot n refl)))))
 
 pub reason-words : (n slot : ℕ) → slot ≡ 0 → reason n slot ≡ words n
 unfolding reason

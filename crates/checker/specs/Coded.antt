@@ -4,9 +4,8 @@ use mathlib.Core.List.{List, map}
 use Prim.Native.Nat.{ℕ}
 use lib.ListN.{getD}
 use Rattle.answer.specs.Number.{numberOf}
-use Rattle.schedule.specs.declared.Slot.{Slot}
-use Rattle.schedule.specs.Coded.{shownOf}
-use Rattle.schedule.specs.Parts.{zeroed}
+use Rattle.schedule.specs.Paper.{new}
+use Rattle.schedule.specs.Parts.{toldBy}
 use Rattle.plan.specs.declared.Planned.{Planned}
 use Rattle.plan.specs.Coded.{verdictOf, plannedOf}
 use Rattle.plan.specs.Parts.{nothing}
@@ -16,9 +15,9 @@ use Rattle.checker.specs.declared.Plans.{Plans as PlansCode}
 use Rattle.checker.specs.Paper.{trueBy, Checked}
 use Rattle.checker.specs.Beside.{Plans}
 
--- what an array of slots holds of slot i is untrue by what another says of it
-abbrev pub untrueBy : List Planned → List Slot → ℕ → Bool
-untrueBy v s i = not (trueBy (plannedOf (getD v i nothing)) i (shownOf (getD s i zeroed)))
+-- what a message tells of slot i at its place is untrue by what an array says of the slot
+abbrev pub untrueBy : List Planned → List ℕ → List ℕ → ℕ → Bool
+untrueBy v m p i = not (trueBy (plannedOf (getD v i nothing)) i (record { new = new m i; told = toldBy m p i }))
 
 -- 0 for a true message, or the refusal's number and the slot that comes with it
 abbrev pub checkedOf : Checking → Checked

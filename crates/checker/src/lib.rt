@@ -111,14 +111,14 @@ fn is_true(planned: Planned, i: usize, slot: Slot) -> bool
     new == right
 }
 
-// The lowest slot, by its number, of the first ones that is told untruly by what the plans say of all; 0 for none.
-fn first_untrue(all: [Planned; 48], slots: [Slot; 48], count: usize) -> usize
+// The lowest slot, by its number, of the first ones that is told untruly, at its place, by what the plans say of all; 0 for none.
+fn first_untrue(all: [Planned; 48], message: &[u8], places: [usize; 48], count: usize) -> usize
     requires { ⌜ count ≤ 48 ⌝ }
-    ensures { λ r. ⌜ r ≡ lowestOf (untrueBy all slots) count ⌝ }
+    ensures { λ r. ⌜ r ≡ lowestOf (untrueBy all (now (message .entry)) places) count ⌝ }
 {
     let mut i = 0;
     while i < count {
-        let slot = slots[i];
+        let slot = schedule::shown(message, i, places[i]);
         let said = all[i];
         if !is_true(said, i, slot) {
             return i + 1;
@@ -132,16 +132,16 @@ fn first_untrue(all: [Planned; 48], slots: [Slot; 48], count: usize) -> usize
 fn compare(count: usize, said: [Planned; 48], message: &[u8], received: usize) -> Checking
     ensures { λ r. ⌜ checkedOf r ≡ compared count (map plannedOf said) (now (message .entry)) received ⌝ }
 {
-    let table = schedule::read_slots(message, received);
-    let answer = table.answer;
+    let found = schedule::read_places(message, received);
+    let answer = found.answer;
     match answer {
         Reading::Refused(why) => Checking::Refused(why, 0),
         Reading::Read(_, end) => {
             if end != count {
                 return Checking::Refused(Refusal::Untrue, 0);
             }
-            let slots = table.slots;
-            let slot = first_untrue(said, slots, end);
+            let places = found.places;
+            let slot = first_untrue(said, message, places, end);
             if slot == 0 {
                 return Checking::True;
             }

@@ -1,17 +1,18 @@
 -- Answers that meet a contract of `descriptions` are equal.
 use mathlib.Core.Path.{_≡_, refl, sym, ap, _∙_}
 use mathlib.Core.Bool.{cond}
-use mathlib.Core.List.{List, map}
+use mathlib.Core.List.{List}
 use Prim.Native.Nat.{ℕ}
 use lib.Dec.{eqb}
 use denote.Ref.{RefT, now}
 use borrow.Author.Tests.{ne-eqb}
+use Rattle.laws.proofs.Map.{map-injective}
 use Rattle.answer.specs.Number.{numberOf}
 use Rattle.answer.proofs.Inverse.{refusalOf, refusalOf-numberOf, numberOf-positive}
 use Rattle.schedule.specs.declared.Given.{Given as GivenCode}
 use Rattle.schedule.specs.Paper.{given}
 use Rattle.schedule.specs.Coded.{givenOf}
-use Rattle.schedule.proofs.Determined.{slotFrom, slotFrom-shownOf, map-back, determined-description-at}
+use Rattle.schedule.proofs.Determined.{slotFrom, slotFrom-shownOf, determined-description-at}
 use Rattle.descriptions.specs.declared.Numbered.{Numbered as NumberedCode}
 use Rattle.descriptions.specs.declared.Counted.{Counted}
 use Rattle.descriptions.specs.declared.Counted.the-variants.{Count, Refused}
@@ -52,7 +53,6 @@ determined-moved d place r s a b =
 pub determined-all-given : (m : List ℕ) (received : ℕ) (r s : OrderedCode) → orderedOf r ≡ ordered m received → orderedOf s ≡ ordered m received → r ≡ s
 determined-all-given m received r s a b =
     let e = a ∙ sym b in
-    let back = map-back numberedOf numberedFrom numberedFrom-numberedOf in
     let answer = sym (countedFrom-countOf (r .answer)) ∙ ap (λ (o : Ordered). countedFrom (o .number) (o .count)) e ∙ countedFrom-countOf (s .answer) in
-    let given = sym (back (r .given)) ∙ ap (λ (o : Ordered). map numberedFrom (o .given)) e ∙ back (s .given) in
+    let given = map-injective numberedOf numberedFrom numberedFrom-numberedOf (r .given) (s .given) (ap (λ (o : Ordered). o .given) e) in
     λ i. record { answer = answer i; given = given i }

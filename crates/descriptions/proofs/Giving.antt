@@ -11,13 +11,13 @@ use lib.Dec.{eqb, ltb}
 use borrow.Author.Tests.{lt-ltb, le-ltb, ltb-true, ltb-false, eqb-true, eqb-false, not-false}
 use Rattle.laws.specs.Upto.{each}
 use Rattle.laws.proofs.Outcome.{Outcome, refuses, passes, outcome}
+use Rattle.laws.proofs.Tests.{below-other}
 use Rattle.laws.proofs.Upto.{each-length, each-at}
 use Rattle.schedule.specs.declared.Description.the-variants.{Optional}
 use Rattle.schedule.specs.declared.Slot.{Slot}
 use Rattle.schedule.specs.Paper.{end, within, faults, Given, next, noMore, refusal, givenAt, given}
 use Rattle.schedule.specs.Coded.{shownOf}
 use Rattle.schedule.specs.Parts.{zeroed}
-use Rattle.schedule.proofs.Fills.{below-other}
 use Rattle.schedule.proofs.Header.{within-end}
 use Rattle.descriptions.specs.declared.Numbered.{Numbered as NumberedCode}
 use Rattle.descriptions.specs.Paper.{Numbered, nothing, entry, Ordered, unordered, inOrder, ordered}

@@ -1,9 +1,10 @@
 -- All that the reader of descriptions gives, as document 01 has it, in numbers and lists.
+use mathlib.Core.Bool.{false}
 use mathlib.Core.List.{List}
 use Prim.Native.Nat.{ℕ}
 use Rattle.laws.specs.Ruled.{ruled}
 use Rattle.laws.specs.Upto.{each}
-use Rattle.schedule.specs.Paper.{end, faults, Shown, unused, Given, next, noMore, refusal, givenAt}
+use Rattle.schedule.specs.Paper.{optional, end, faults, Shown, Given, next, noMore, refusal, givenAt}
 
 -- 01 Schedule message: a slot by its number, and what is shown of it
 pub record Numbered : Type 0 where
@@ -16,9 +17,9 @@ pub record Ordered : Type 0 where
   pub count : ℕ
   pub given : List Numbered
 
--- 01 Order: with a refusal the other numbers are 0
+-- 01 Order: where no slot is given the number is 0, and what is shown is not new and optional
 abbrev pub nothing : Numbered
-nothing = record { number = 0; shown = unused }
+nothing = record { number = 0; shown = record { new = false; told = optional } }
 
 -- 01 Schedule message: the slot that is given, if one is
 abbrev pub entry : Given → Numbered

@@ -77,7 +77,7 @@ fn given_at(message: &[u8], received: usize, k: usize) -> Given
     next(moved(open(message, received), k))
 }
 
-// All that is given from opening on. Each step reads the message anew: where the order doesn't matter, `schedule::read_slots` is the fast way.
+// All that is given from opening on. Each step reads the message anew: where the order doesn't matter, `schedule::read_places` is the fast way.
 pub fn all_given(message: &[u8], received: usize) -> Ordered
     ensures { λ r. ⌜ orderedOf r ≡ ordered (now (message .entry)) received ⌝ }
 {

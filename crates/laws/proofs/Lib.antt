@@ -1,6 +1,7 @@
 -- What `laws` proves.
 pub mod Bits
 pub mod Lowest
+pub mod Map
 pub mod Outcome
 pub mod Parts
 pub mod Radix

@@ -40,7 +40,7 @@ below-replicate b zero x h = below-nil b (omega arith)
 below-replicate b (suc n) x h = below-cons b x (replicate n x) h (below-replicate b n x h)
 
 -- a number is below the base's power that its digits fill
-pub value-lt : (b : ℕ) (xs : List ℕ) → Below b xs → value b xs < b ^ length xs
+value-lt : (b : ℕ) (xs : List ℕ) → Below b xs → value b xs < b ^ length xs
 unfolding value
 value-lt b [] h = rw pow-zero (le-refl 1)
 value-lt b (x ∷ xs) h =
@@ -49,13 +49,13 @@ value-lt b (x ∷ xs) h =
     rw pow-succ' (omega (arith, h 0, mul-suc b (value b xs)))
 
 -- joined lists: the second one's number counts by the power that the first one fills
-pub value-append : (b : ℕ) (xs ys : List ℕ) → value b (xs ++ ys) ≡ value b xs + b ^ length xs * value b ys
+value-append : (b : ℕ) (xs ys : List ℕ) → value b (xs ++ ys) ≡ value b xs + b ^ length xs * value b ys
 unfolding value
 value-append b [] ys = rw (pow-zero, zero-add, one-mul)
 value-append b (x ∷ xs) ys = rw (value-append b xs ys, mul-add, pow-succ', mul-assoc, add-assoc)
 
 -- the number from place i on, digit by digit
-pub value-drop : (b i : ℕ) (xs : List ℕ) → i < length xs → value b (drop i xs) ≡ getD xs i 0 + b * value b (drop (i + 1) xs)
+value-drop : (b i : ℕ) (xs : List ℕ) → i < length xs → value b (drop i xs) ≡ getD xs i 0 + b * value b (drop (i + 1) xs)
 unfolding value
 value-drop b i xs h = rw (add-one i, drop-cons xs i 0)
 
@@ -67,25 +67,25 @@ value-back b i xs p h =
     rw (value-drop b (i - 1) xs k, e, mul-comm (value b (drop i xs)) b, add-comm (b * value b (drop i xs)) (getD xs (i - 1) 0))
 
 -- the first n digits, and those from there on
-pub digits-split : (b n m v : ℕ) → digits b (n + m) v ≡ digits b n v ++ digits b m (v / b ^ n)
+digits-split : (b n m v : ℕ) → digits b (n + m) v ≡ digits b n v ++ digits b m (v / b ^ n)
 unfolding digits
 digits-split b zero m v = rw (zero-add, pow-zero, div-one)
 digits-split b (suc n) m v = rw (suc-add, digits-split b n m (v / b), pow-succ', div-div-eq-div-mul)
 
 -- one digit more
-pub digits-more : (b n v : ℕ) → digits b (n + 1) v ≡ digits b n v ++ (v / b ^ n % b ∷ [])
+digits-more : (b n v : ℕ) → digits b (n + 1) v ≡ digits b n v ++ (v / b ^ n % b ∷ [])
 unfolding digits
 digits-more b n v = digits-split b n 1 v
 
 -- n digits see nothing of what counts by the n-th power
-pub digits-low : (b : ℕ) → 0 < b → (n v q : ℕ) → digits b n (v + b ^ n * q) ≡ digits b n v
+digits-low : (b : ℕ) → 0 < b → (n v q : ℕ) → digits b n (v + b ^ n * q) ≡ digits b n v
 unfolding digits
 digits-low b h zero v q = refl
 digits-low b h (suc n) v q =
     rw (pow-succ', mul-assoc, add-mul-mod-self-left, add-mul-div-left v (b ^ n * q) h, digits-low b h n (v / b) q)
 
 -- a list of digits is that of its number
-pub digits-value : (b : ℕ) (xs : List ℕ) → Below b xs → digits b (length xs) (value b xs) ≡ xs
+digits-value : (b : ℕ) (xs : List ℕ) → Below b xs → digits b (length xs) (value b xs) ≡ xs
 unfolding digits value
 digits-value b [] h = refl
 digits-value b (x ∷ xs) h =
@@ -93,7 +93,7 @@ digits-value b (x ∷ xs) h =
     rw (add-mul-mod-self-left, mod-eq-of-lt (h 0), add-mul-div-left x (value b xs) p, div-eq-of-lt (h 0), zero-add, digits-value b xs (below-tail b x xs h))
 
 -- where some digits to base b fill a power of base c, what follows them is read by itself
-pub regroup : (b c m k : ℕ) → 0 < c → (xs ys : List ℕ) → Below b xs → b ^ length xs ≡ c ^ m
+regroup : (b c m k : ℕ) → 0 < c → (xs ys : List ℕ) → Below b xs → b ^ length xs ≡ c ^ m
     → digits c (m + k) (value b (xs ++ ys)) ≡ digits c m (value b xs) ++ digits c k (value b ys)
 regroup b c m k h xs ys low e =
     let l : value b xs < c ^ m = rw e at (value-lt b xs low) in
@@ -131,7 +131,7 @@ pub div-more : (b i v : ℕ) → v / b ^ i / b ≡ v / b ^ (i + 1)
 div-more b i v = rw (add-one, pow-suc, div-div-eq-div-mul)
 
 -- groups of n digits to base b that fill m digits to base c, any number of them
-pub powers : (b c n m : ℕ) → b ^ n ≡ c ^ m → (g : ℕ) → b ^ (n * g) ≡ c ^ (m * g)
+powers : (b c n m : ℕ) → b ^ n ≡ c ^ m → (g : ℕ) → b ^ (n * g) ≡ c ^ (m * g)
 powers b c n m e zero = simp (mul-zero, pow-zero)
 powers b c n m e (suc g) = simp (mul-suc, pow-add, powers b c n m e g, e)
 

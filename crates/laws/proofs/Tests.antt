@@ -1,7 +1,11 @@
--- Laws of tests that are joined.
+-- Laws of tests: joined ones, and one number below another.
 use mathlib.Core.Path.{_≡_, refl}
 use mathlib.Core.Logic.{_⊎_, inl, inr}
 use mathlib.Core.Bool.{Bool, true, false, _&&_, _||_, false≢true, true≢false}
+use Prim.Native.Nat.{ℕ, _+_, _≤_, _<_}
+use native.Mathlib.Omega.{arith}
+use lib.Dec.{ltb}
+use borrow.Author.Tests.{lt-ltb, le-ltb, ltb-true, ltb-false}
 
 -- a conjunction that holds, part by part
 pub both : (a b : Bool) → (a && b) ≡ true → (a ≡ true) × (b ≡ true)
@@ -17,3 +21,11 @@ neither false b e = (refl, e)
 pub either : (a b : Bool) → (a || b) ≡ true → (a ≡ true) ⊎ (b ≡ true)
 either true b e = inl refl
 either false b e = inr e
+
+-- whether i is below j + 1, where it is not j
+pub below-other : (i j : ℕ) → (i ≡ j → ⊥) → ltb i (j + 1) ≡ ltb i j
+below-other i j h = go (ltb i j) refl
+  where
+    go : (b : Bool) → ltb i j ≡ b → ltb i (j + 1) ≡ ltb i j
+    go true e = let l : i < j + 1 = omega (arith, ltb-true i j e) in rw (e, lt-ltb i (j + 1) l)
+    go false e = let l : j + 1 ≤ i = omega (arith, ltb-false i j e) in rw (e, le-ltb i (j + 1) l)

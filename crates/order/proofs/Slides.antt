@@ -12,7 +12,7 @@ use Rattle.laws.specs.Received.{wholeBlocks}
 use Rattle.laws.specs.Ruled.{ruled}
 use Rattle.laws.specs.Upto.{some, count, picked, each}
 use Rattle.laws.proofs.Tests.{both}
-use Rattle.schedule.specs.Paper.{octet, end, new, bitmap, width, reserved, told, place, rank, order, tells, falseRepeat, faults, unused, unread, read, unlisted, listed, next, noMore, refusal, given}
+use Rattle.schedule.specs.Paper.{octet, end, new, bitmap, width, reserved, told, place, rank, order, tells, falseRepeat, faults, unread, read, unplaced, placed, next, noMore, refusal, given}
 use Rattle.order.specs.Claims.{made40, Alike}
 use Rattle.schedule.proofs.Places.{place-mono, place-after}
 
@@ -111,10 +111,13 @@ module _ (m : List ℕ) (k : ℕ) (h : reserved (octet m (place m k)) ≡ true) 
   order-same =
       λ p. picked (λ (x : ℕ). Bool·beq (new-same p x) true) (end-same p % 64) ++ picked (λ (x : ℕ). Bool·beq (new-same p x) false) (end-same p % 64)
 
+  starts-same : (i : ℕ) → place m′ (rank m′ i) ≡ place m (rank m i)
+  starts-same i = ap (place m′) (rank-same i) ∙ place-same (rank m i)
+
   tells-at : (i : ℕ) → tells m′ i ≡ tells m i
   unfolding tells
   tells-at i =
-      ap (λ (r : ℕ). told m′ (place m′ r)) (rank-same i) ∙ ap (told m′) (place-same (rank m i)) ∙ told-same (rank m i)
+      ap (told m′) (starts-same i) ∙ told-same (rank m i)
 
   tells-same : tells m′ ≡ tells m
   tells-same = λ p i. tells-at i p
@@ -135,16 +138,17 @@ module _ (m : List ℕ) (k : ℕ) (h : reserved (octet m (place m k)) ≡ true) 
         ∷ []
 
     pub never-slides : Alike m′ m received
-    unfolding read listed given
+    unfolding read placed given
     never-slides =
         record {
           reads = λ p. ruled unread (faults-same p) (record { number = 0; begin = head-same p % 64; end = end-same p % 64 });
-          lists =
-              λ p. ruled unlisted (faults-same p)
+          places =
+              λ p. ruled unplaced (faults-same p)
               (record {
                 read = record { number = 0; begin = head-same p % 64; end = end-same p % 64 };
-                slots = each (λ (i : ℕ). cond (ltb i (end-same p % 64)) (record { new = new-same p i; told = tells-same p i }) unused) 48;
+                places = each (λ (i : ℕ). cond (ltb i (end-same p % 64)) (starts-same i p) 0) 48;
               });
+          told = tells-at;
           gives =
               λ j p. ruled refusal (faults-same p)
               (cond (ltb j (end-same p % 64))

@@ -5,7 +5,7 @@ use mathlib.Core.List.{List}
 use mathlib.Core.Logic.{_⊎_}
 use Prim.Native.Nat.{ℕ, suc, _-_, _≤_, _<_}
 use lib.ListN.{set}
-use Rattle.schedule.specs.Paper.{again, place, end, rank, tells, isFirst, Shown, shown, read, listed, next, given}
+use Rattle.schedule.specs.Paper.{again, place, end, rank, tells, isFirst, Shown, shown, read, placed, next, given}
 
 -- 01 Schedule message: slot i is given exactly once, with what is shown of it, at its rank
 pub record Once (m : List ℕ) (received i : ℕ) : Type 0 where
@@ -24,8 +24,9 @@ pub record FalseRepeat (m : List ℕ) : Type 0 where
 abbrev pub made40 : List ℕ → ℕ → List ℕ
 made40 m k = set m (place m k) 64
 
--- 01 Easy to get wrong: two messages read alike by every reader
+-- 01 Easy to get wrong: two messages read alike by every reader, and telling the same of each slot
 pub record Alike (m n : List ℕ) (received : ℕ) : Type 0 where
   pub reads : read m received ≡ read n received
-  pub lists : listed m received ≡ listed n received
+  pub places : placed m received ≡ placed n received
+  pub told : (i : ℕ) → tells m i ≡ tells n i
   pub gives : (k : ℕ) → given m received k ≡ given n received k

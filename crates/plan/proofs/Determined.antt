@@ -1,10 +1,11 @@
 -- Answers that meet a contract of `plan` are equal.
 use mathlib.Core.Path.{_≡_, refl, sym, ap, _∙_}
 use mathlib.Core.Bool.{cond}
-use mathlib.Core.List.{List, [], _∷_, map}
+use mathlib.Core.List.{List, map}
 use Prim.Native.Nat.{ℕ}
 use lib.Dec.{eqb}
 use borrow.Author.Tests.{ne-eqb}
+use Rattle.laws.proofs.Map.{map-injective}
 use Rattle.answer.specs.Number.{numberOf}
 use Rattle.answer.proofs.Inverse.{refusalOf, refusalOf-numberOf, numberOf-positive}
 use Rattle.plan.specs.declared.Entry.{Entry as EntryCode}
@@ -14,19 +15,15 @@ use Rattle.plan.specs.declared.Verdict.the-variants.{Good, Refused}
 use Rattle.plan.specs.declared.Reading.{Reading}
 use Rattle.plan.specs.declared.Planned.{Planned as PlannedCode}
 use Rattle.plan.specs.Paper.{Entry, Plan, Read, Planned, empty, planNumber, readPlan, allPlanned}
-use Rattle.plan.specs.Coded.{entriesOf, planOf, verdictOf, readingOf, plannedOf}
+use Rattle.plan.specs.Coded.{entryOf, planOf, verdictOf, readingOf, plannedOf}
 
 -- the code's entry, plan and verdict by the paper's
 abbrev entryFrom : Entry → EntryCode
 entryFrom e = record { kind = e .kind; serial = record { 0 = e .serial }; id = record { 0 = e .id }; parameter = e .parameter }
 
-entriesFrom-entriesOf : (es : List EntryCode) → map entryFrom (entriesOf es) ≡ es
-entriesFrom-entriesOf [] = refl
-entriesFrom-entriesOf (e ∷ es) = ap (λ (l : List EntryCode). e ∷ l) (entriesFrom-entriesOf es)
-
 plan-injective : (r s : PlanCode) → planOf r ≡ planOf s → r ≡ s
 plan-injective r s e =
-    let entries = sym (entriesFrom-entriesOf (r .entries)) ∙ ap (λ (p : Plan). map entryFrom (p .entries)) e ∙ entriesFrom-entriesOf (s .entries) in
+    let entries = map-injective entryOf entryFrom (λ x. refl) (r .entries) (s .entries) (ap (λ (p : Plan). p .entries) e) in
     λ i. record { count = e i .count; entries = entries i }
 
 abbrev verdictFrom : ℕ → Verdict
@@ -55,12 +52,8 @@ determined-read-plan file r s a b =
 abbrev plannedFrom : Planned → PlannedCode
 plannedFrom v = record { kind = v .kind; low = v .low; lowest = v .lowest; fresh = v .fresh }
 
-plannedFrom-plannedOf : (vs : List PlannedCode) → map plannedFrom (map plannedOf vs) ≡ vs
-plannedFrom-plannedOf [] = refl
-plannedFrom-plannedOf (v ∷ vs) = ap (λ (l : List PlannedCode). v ∷ l) (plannedFrom-plannedOf vs)
-
 pub said-injective : (r s : List PlannedCode) → map plannedOf r ≡ map plannedOf s → r ≡ s
-said-injective r s e = sym (plannedFrom-plannedOf r) ∙ ap (map plannedFrom) e ∙ plannedFrom-plannedOf s
+said-injective r s e = map-injective plannedOf plannedFrom (λ x. refl) r s e
 
 pub determined-all-planned : (current previous : PlanCode) (r s : List PlannedCode)
     → map plannedOf r ≡ allPlanned (planOf current) (planOf previous) → map plannedOf s ≡ allPlanned (planOf current) (planOf previous) → r ≡ s

@@ -20,7 +20,7 @@ unfolding planNumber some
 empty-good = refl
 
 -- a plan of good entries, no more than 48, is good
-pub held-good : (es : List Entry) → length es ≤ 48 → some bad es ≡ false → planNumber (held es) ≡ 0
+held-good : (es : List Entry) → length es ≤ 48 → some bad es ≡ false → planNumber (held es) ≡ 0
 held-good es few good = none-bad (held es) few (rw (take-append-seam es (replicate (48 - length es) free)) good)
 
 -- the plan that reading gives is good, beside a refusal too

@@ -20,7 +20,7 @@ use Rattle.plan.proofs.Marks.{lowest-marked, some-marked}
 use Rattle.plan.proofs.Slots.{lowest-counted}
 
 -- a slot below a count that is cut is below the count, and below 48
-pub below-counted : (n i : ℕ) → i < counted n → (i < n) × (i < 48)
+below-counted : (n i : ℕ) → i < counted n → (i < n) × (i < 48)
 below-counted n i l = go (ltb 48 n) refl
   where
     go : (b : Bool) → ltb 48 n ≡ b → (i < n) × (i < 48)

@@ -17,7 +17,7 @@ pub holds-kind : (x : Name) (e : Entry) → holds x e ≡ true → (e .kind ≡ 
 unfolding holds
 holds-kind x e h = let b = both (eqb (e .kind) 2) (samePage (pageOf e) x) h in (eqb-true (e .kind) 2 (b .0), b .1)
 
-pub kind-holds : (x : Name) (e : Entry) → e .kind ≡ 2 → Same (pageOf e) x → holds x e ≡ true
+kind-holds : (x : Name) (e : Entry) → e .kind ≡ 2 → Same (pageOf e) x → holds x e ≡ true
 unfolding holds
 kind-holds x e k s = simp (eq-eqb (e .kind) 2 k, s)
 

@@ -8,7 +8,7 @@ use Rattle.answer.proofs.Inverse.{numberOf-positive}
 use Rattle.answer.specs.declared.Refusal.{Refusal}
 use Rattle.plan.specs.declared.Reading.{Reading}
 use Rattle.plan.specs.declared.Verdict.the-variants as verdicts
-use Rattle.plan.specs.Paper.{Read, empty, planNumber, readPlan}
+use Rattle.plan.specs.Paper.{Read, planNumber, readPlan}
 use Rattle.plan.specs.Coded.{planOf, verdictOf, readingOf}
 use Rattle.plan.proofs.ReadGood.{read-is-good}
 use Rattle.planfile.specs.Taken.{Taken, taken, untaken}

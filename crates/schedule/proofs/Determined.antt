@@ -1,7 +1,7 @@
 -- Answers that meet a contract of `schedule` are equal.
 use mathlib.Core.Path.{_≡_, refl, sym, ap, _∙_}
 use mathlib.Core.Bool.{cond}
-use mathlib.Core.List.{List, [], _∷_, map}
+use mathlib.Core.List.{List}
 use Prim.Native.Nat.{ℕ}
 use lib.Dec.{eqb}
 use borrow.Author.Tests.{ne-eqb}
@@ -11,10 +11,10 @@ use Rattle.schedule.specs.declared.Description.{Description}
 use Rattle.schedule.specs.declared.Description.the-variants.{First, Repeat, Optional, Advised}
 use Rattle.schedule.specs.declared.Slot.{Slot}
 use Rattle.schedule.specs.declared.Reading.{Reading}
-use Rattle.schedule.specs.declared.Table.{Table}
+use Rattle.schedule.specs.declared.Placed.{Placed as PlacedCode}
 use Rattle.schedule.specs.declared.Given.{Given as GivenCode}
-use Rattle.schedule.specs.Paper.{Told, first, again, optional, advised, Shown, Read, read, Listed, listed, Given, next, noMore, refusal, given}
-use Rattle.schedule.specs.Coded.{toldOf, shownOf, readOf, listedOf, givenOf}
+use Rattle.schedule.specs.Paper.{new, Told, first, again, optional, advised, told, Shown, Read, read, Placed, placed, Given, next, noMore, refusal, given}
+use Rattle.schedule.specs.Coded.{toldOf, shownOf, readOf, placedOf, givenOf}
 use Rattle.schedule.specs.declared.Reading.the-variants as readings
 use Rattle.schedule.specs.declared.Given.the-variants as givens
 
@@ -37,11 +37,6 @@ slotFrom s = record { new = s .new; description = toldFrom (s .told) }
 pub slotFrom-shownOf : (s : Slot) → slotFrom (shownOf s) ≡ s
 slotFrom-shownOf s = λ i. record { new = s .new; description = toldFrom-toldOf (s .description) i }
 
--- what brings each entry back brings the list back
-pub map-back : {A B : Type 0} (f : A → B) (g : B → A) → ((x : A) → g (f x) ≡ x) → (xs : List A) → map g (map f xs) ≡ xs
-map-back f g h [] = refl
-map-back f g h (x ∷ xs) = λ i. h x i ∷ map-back f g h xs i
-
 abbrev readingFrom : Read → Reading
 readingFrom r = cond (eqb (r .number) 0) (readings.Read (r .begin) (r .end)) (readings.Refused (refusalOf (r .number)))
 
@@ -62,13 +57,17 @@ givenFrom-givenOf (givens.Refused r) = ap givens.Refused (refusalOf-numberOf r)
 pub determined-read-schedule : (m : List ℕ) (received : ℕ) (r s : Reading) → readOf r ≡ read m received → readOf s ≡ read m received → r ≡ s
 determined-read-schedule m received r s a b = sym (readingFrom-readOf r) ∙ ap readingFrom (a ∙ sym b) ∙ readingFrom-readOf s
 
-pub determined-read-slots : (m : List ℕ) (received : ℕ) (r s : Table) → listedOf r ≡ listed m received → listedOf s ≡ listed m received → r ≡ s
-determined-read-slots m received r s a b =
+pub determined-read-places : (m : List ℕ) (received : ℕ) (r s : PlacedCode) → placedOf r ≡ placed m received → placedOf s ≡ placed m received → r ≡ s
+determined-read-places m received r s a b =
     let e = a ∙ sym b in
-    let answer = sym (readingFrom-readOf (r .answer)) ∙ ap (λ (l : Listed). readingFrom (l .read)) e ∙ readingFrom-readOf (s .answer) in
-    let back = map-back shownOf slotFrom slotFrom-shownOf in
-    let slots = sym (back (r .slots)) ∙ ap (λ (l : Listed). map slotFrom (l .slots)) e ∙ back (s .slots) in
-    λ i. record { answer = answer i; slots = slots i }
+    let answer = sym (readingFrom-readOf (r .answer)) ∙ ap (λ (l : Placed). readingFrom (l .read)) e ∙ readingFrom-readOf (s .answer) in
+    λ i. record { answer = answer i; places = ap (λ (l : Placed). l .places) e i }
+
+pub determined-told-at : (m : List ℕ) (at : ℕ) (r s : Description) → toldOf r ≡ told m at → toldOf s ≡ told m at → r ≡ s
+determined-told-at m at r s a b = sym (toldFrom-toldOf r) ∙ ap toldFrom (a ∙ sym b) ∙ toldFrom-toldOf s
+
+pub determined-shown : (m : List ℕ) (i at : ℕ) (r s : Slot) → shownOf r ≡ record { new = new m i; told = told m at } → shownOf s ≡ record { new = new m i; told = told m at } → r ≡ s
+determined-shown m i at r s a b = sym (slotFrom-shownOf r) ∙ ap slotFrom (a ∙ sym b) ∙ slotFrom-shownOf s
 
 pub determined-description-at : (m : List ℕ) (received place : ℕ) (r s : GivenCode) → givenOf r ≡ given m received place → givenOf s ≡ given m received place → r ≡ s
 determined-description-at m received place r s a b = sym (givenFrom-givenOf r) ∙ ap givenFrom (a ∙ sym b) ∙ givenFrom-givenOf s

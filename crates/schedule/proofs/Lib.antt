@@ -1,10 +1,10 @@
 -- What `schedule` proves.
 pub mod Givens
 pub mod Header
-pub mod Listing
+pub mod Placing
 pub mod News
 pub mod Order
 pub mod Places
 pub mod Determined
-pub mod Fills
+pub mod Finds
 pub mod Repeats

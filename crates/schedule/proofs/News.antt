@@ -3,8 +3,9 @@ use mathlib.Core.Path.{_≡_, refl, sym, ap, _∙_}
 use mathlib.Core.Bool.{Bool, true, false, not, Bool·beq, false≢true, true≢false}
 use mathlib.Core.List.{List}
 use Prim.Native.Nat.{ℕ, _+_, _-_, _/_, _%_, _^_, _≤_, _<_}
+use native.Mathlib.Nat.{zero-div, min-le-left}
 use native.Mathlib.Omega.{arith}
-use lib.ListN.{drop}
+use lib.ListN.{length, take, drop, length-take, List·getD-eq-default}
 use lib.Seq.{getD-take, getD-drop}
 use lib.Dec.{eqb}
 use borrow.Author.Tests.{le-leb, lt-leb}
@@ -39,6 +40,14 @@ module _ (m : List ℕ) (i : ℕ) where
   new-octet h =
       let inside : i / 8 < 6 = omega arith in
       rw (getD-take 6 (drop 2 m) (i / 8) 0 inside, getD-drop 2 m (i / 8) 0)
+
+  -- no slot beyond the 48 has a new bit
+  pub new-beyond : 48 ≤ i → false ≡ new m i
+  unfolding new
+  new-beyond h =
+      let few : length (take 6 (drop 2 m)) ≤ 6 = rw length-take (min-le-left 6 (length (drop 2 m))) in
+      let far : length (take 6 (drop 2 m)) ≤ i / 8 = omega arith in
+      rw (List·getD-eq-default (take 6 (drop 2 m)) 0 far, zero-div (2 ^ (7 - i % 8)))
 
   -- what is not in the one group is in the other
   pub grouped-flip : grouped m false i ≡ not (grouped m true i)

@@ -1,5 +1,5 @@
 -- Laws of the places where descriptions start, and of one step from place to place.
-use mathlib.Core.Path.{_≡_, refl}
+use mathlib.Core.Path.{_≡_, refl, ap, _∙_}
 use mathlib.Core.Bool.{Bool, true, false, cond}
 use mathlib.Core.List.{List}
 use Prim.Native.Nat.{ℕ, zero, suc, _+_, _≤_, _<_}
@@ -7,6 +7,7 @@ use native.Mathlib.Nat.{eq-or-lt-of-le, le-of-suc-le-suc, not-suc-le-zero}
 use native.Mathlib.Numerals.{add-one}
 use native.Mathlib.Omega.{arith}
 use mathlib.Core.Logic.{⊎-elim}
+use lib.ListN.{length, List·getD-eq-default}
 use lib.Dec.{leb}
 use borrow.Author.Tests.{leb-true, leb-false, le-leb, lt-leb}
 use Rattle.schedule.specs.Paper.{Told, octet, width, short, long, told, place}
@@ -18,6 +19,21 @@ width-some x = go (leb 128 x) refl
     go : (b : Bool) → leb 128 x ≡ b → 1 ≤ width x
     go true e = rw e (omega arith)
     go false e = rw e (omega arith)
+
+-- the description at a place by its first octet n
+module _ (m : List ℕ) (at n : ℕ) (e : n ≡ octet m at) where
+  pub octet-inside : 0 < n → at < length m
+  octet-inside l = go (leb (length m) at) refl
+    where
+      go : (b : Bool) → leb (length m) at ≡ b → at < length m
+      go true q = let z : n ≡ 0 = e ∙ List·getD-eq-default m 0 (leb-true (length m) at q) in absurd (omega arith)
+      go false q = leb-false (length m) at q
+
+  pub told-is-short : n < 128 → short n ≡ told m at
+  told-is-short l = rw (← e, lt-leb 128 n l)
+
+  pub told-is-long : 128 ≤ n → long n (octet m (at + 1)) ≡ told m at
+  told-is-long l = rw (← e, le-leb 128 n l)
 
 module _ (m : List ℕ) where
   pub place-next : (k : ℕ) → place m (k + 1) ≡ place m k + width (octet m (place m k))
@@ -69,10 +85,10 @@ module _ (m : List ℕ) where
     unfolding step
     step-is-past h = rw (lt-leb (at + width (octet m at)) received h)
 
-    pub step-is-short : (d : Told) → octet m at < 128 → at < received → d ≡ short (octet m at) → took d (at + 1) ≡ step m received at
+    pub step-is-short : (d : Told) → octet m at < 128 → at < received → d ≡ told m at → took d (at + 1) ≡ step m received at
     unfolding step
-    step-is-short d l h e = simp (lt-leb 128 (octet m at) l, le-leb (at + 1) received (omega arith), e)
+    step-is-short d l h e = ap (λ (x : Told). took x (at + 1)) e ∙ simp (lt-leb 128 (octet m at) l, le-leb (at + 1) received (omega arith))
 
-    pub step-is-long : 128 ≤ octet m at → at + 1 < received → took (long (octet m at) (octet m (at + 1))) (at + 2) ≡ step m received at
+    pub step-is-long : (d : Told) → 128 ≤ octet m at → at + 1 < received → d ≡ told m at → took d (at + 2) ≡ step m received at
     unfolding step
-    step-is-long l h = simp (le-leb 128 (octet m at) l, le-leb (at + 2) received (omega arith))
+    step-is-long d l h e = ap (λ (x : Told). took x (at + 2)) e ∙ simp (le-leb 128 (octet m at) l, le-leb (at + 2) received (omega arith))

@@ -1,19 +1,12 @@
 -- Laws of repeats: what makes one false, and what does not.
 use mathlib.Core.Path.{_≡_, refl, ap, _∙_}
-use mathlib.Core.Bool.{Bool, true, false, or-true}
-use mathlib.Core.List.{[], _∷_}
-use mathlib.Core.Logic.{⊎-elim}
-use Prim.Native.Nat.{ℕ, suc, _-_, _≤_, _<_}
+use mathlib.Core.Bool.{Bool, true, false, cond, or-true}
+use mathlib.Core.List.{List}
+use Prim.Native.Nat.{ℕ, suc, _+_, _-_, _≤_, _<_}
 use native.Mathlib.Omega.{arith}
 use lib.Dec.{eqb, leb}
 use borrow.Author.Tests.{eq-eqb, ne-eqb, le-leb, lt-leb, eqb-false, leb-false}
-use denote.Enum.Declared.{tagOf}
-use types.Run.{OneOf}
-use Rattle.schedule.specs.declared.Description.{Description}
-use Rattle.schedule.specs.declared.Description.the-variants.{First, Repeat, Optional, Advised}
-use Rattle.schedule.specs.Paper.{Told, first, again, optional, advised, isFirst, falseIn, falseRepeat}
-use Rattle.schedule.specs.Coded.{toldOf}
-use Rattle.schedule.proofs.Description.{the-type}
+use Rattle.schedule.specs.Paper.{octet, Told, first, again, optional, advised, long, told, isFirst, falseIn, falseRepeat}
 
 module _ (t : ℕ → Told) (i n : ℕ) (e : t i ≡ again n) where
   pub false-zero : n ≡ 0 → falseRepeat t i ≡ true
@@ -49,9 +42,27 @@ falseRepeat-agree t u e i h l = ap (falseIn t i) (h i l) ∙ go (u i)
     go optional = refl
     go advised = refl
 
--- a description of another kind is no false repeat
-pub no-repeat : (t : ℕ → Told) (i : ℕ) (d : Description) → t i ≡ toldOf d → OneOf (0 ∷ 2 ∷ 3 ∷ []) (tagOf the-type d) → falseRepeat t i ≡ false
-no-repeat t i (First x) e k = ap (falseIn t i) e
-no-repeat t i (Repeat n) e k = absurd (⊎-elim (λ h. omega arith) (λ k′. ⊎-elim (λ h. omega arith) (λ h. omega arith) k′) k)
-no-repeat t i Optional e k = ap (falseIn t i) e
-no-repeat t i Advised e k = ap (falseIn t i) e
+-- what a description is, by its first octet n
+module _ (m : List ℕ) (a n : ℕ) (e : n ≡ octet m a) where
+  pub told-repeat : n < 64 → told m a ≡ again n
+  told-repeat l = rw (← e, lt-leb 128 n (omega arith), le-leb n 63 (omega arith))
+
+  pub told-first : 128 ≤ n → isFirst (told m a) ≡ true
+  told-first l = rw (← e, le-leb 128 n l)
+
+  pub told-short : n < 128 → isFirst (told m a) ≡ false
+  told-short l = rw (← e, lt-leb 128 n l) (go (leb n 63) (eqb n 65))
+    where
+      go : (p q : Bool) → isFirst (cond p (again n) (cond q advised optional)) ≡ false
+      go true q = refl
+      go false true = refl
+      go false false = refl
+
+  -- a description of another kind is no false repeat
+  pub no-repeat : (t : ℕ → Told) (i : ℕ) → t i ≡ told m a → 64 ≤ n → falseRepeat t i ≡ false
+  no-repeat t i q l = ap (falseIn t i) q ∙ rw (← e, lt-leb n 63 (omega arith)) (go (leb 128 n) (eqb n 65))
+    where
+      go : (p q : Bool) → falseIn t i (cond p (long n (octet m (a + 1))) (cond q advised optional)) ≡ false
+      go true q = refl
+      go false true = refl
+      go false false = refl

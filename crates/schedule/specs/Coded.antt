@@ -1,13 +1,12 @@
 -- The code's values as document 01's numbers and lists.
-use mathlib.Core.List.{map}
 use Rattle.answer.specs.Number.{numberOf}
 use Rattle.schedule.specs.declared.Description.{Description}
 use Rattle.schedule.specs.declared.Description.the-variants.{First, Repeat, Optional, Advised}
 use Rattle.schedule.specs.declared.Slot.{Slot}
 use Rattle.schedule.specs.declared.Reading.{Reading}
-use Rattle.schedule.specs.declared.Table.{Table}
+use Rattle.schedule.specs.declared.Placed.{Placed as PlacedCode}
 use Rattle.schedule.specs.declared.Given.{Given as GivenCode}
-use Rattle.schedule.specs.Paper.{Told, first, again, optional, advised, Shown, Read, unread, Listed, Given, next, noMore, refusal}
+use Rattle.schedule.specs.Paper.{Told, first, again, optional, advised, Shown, Read, unread, Placed, Given, next, noMore, refusal}
 use Rattle.schedule.specs.declared.Reading.the-variants as readings
 use Rattle.schedule.specs.declared.Given.the-variants as givens
 
@@ -26,8 +25,8 @@ abbrev pub readOf : Reading → Read
 readOf (readings.Read b e) = record { number = 0; begin = b; end = e }
 readOf (readings.Refused r) = unread (numberOf r)
 
-abbrev pub listedOf : Table → Listed
-listedOf t = record { read = readOf (t .answer); slots = map shownOf (t .slots) }
+abbrev pub placedOf : PlacedCode → Placed
+placedOf p = record { read = readOf (p .answer); places = p .places }
 
 -- a refusal by its number
 abbrev pub givenOf : GivenCode → Given

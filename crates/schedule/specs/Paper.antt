@@ -2,7 +2,7 @@
 use mathlib.Core.Bool.{Bool, true, false, cond, not, _&&_, _||_, Bool·beq}
 use mathlib.Core.List.{List, [], _∷_, _++_}
 use Prim.Native.Nat.{ℕ, zero, suc, _+_, _*_, _-_, _/_, _%_, _^_}
-use lib.ListN.{length, take, drop, getD}
+use lib.ListN.{length, take, drop, getD, replicate}
 use lib.Dec.{eqb, leb, ltb}
 use Rattle.laws.specs.Received.{wholeBlocks}
 use Rattle.laws.specs.Ruled.{ruled}
@@ -83,7 +83,7 @@ rank m i = base m (new m i) + count (grouped m (new m i)) i
 unfoldable pub tells : List ℕ → ℕ → Told
 tells m i = told m (place m (rank m i))
 
--- 01 Numbers given, 24: no first transmission
+-- 01 Numbers given, 24: a first transmission, which a repeat must name
 abbrev pub isFirst : Told → Bool
 isFirst (first x) = true
 isFirst (again n) = false
@@ -135,10 +135,6 @@ pub record Shown : Type 0 where
   pub new : Bool
   pub told : Told
 
--- 01 Order: what is shown of a slot that is not told of: not new, and optional
-abbrev pub unused : Shown
-unused = record { new = false; told = optional }
-
 -- 01 Schedule message: what a message shows of a slot
 abbrev pub shown : List ℕ → ℕ → Shown
 shown m i = record { new = new m i; told = tells m i }
@@ -161,26 +157,26 @@ good m = record { number = 0; begin = begin m; end = end m }
 unfoldable pub read : List ℕ → ℕ → Read
 read m received = ruled unread (faults m received) (good m)
 
--- 01 Schedule message: the reader's answer, and the 48 slots that a message can describe
-pub record Listed : Type 0 where
+-- 01 Schedule message: the reader's answer, and where the descriptions of the 48 slots start that a message can describe
+pub record Placed : Type 0 where
   pub read : Read
-  pub slots : List Shown
+  pub places : List ℕ
 
--- 01 Schedule message: the slots up to End as they are shown, the rest unused
-abbrev pub slotAt : List ℕ → ℕ → Shown
-slotAt m i = cond (ltb i (end m)) (shown m i) unused
+-- 01 Schedule message: where the description of a slot up to End starts, and 0 for the rest
+abbrev pub placeAt : List ℕ → ℕ → ℕ
+placeAt m i = cond (ltb i (end m)) (place m (rank m i)) 0
 
 -- 01 Order: with a refusal no slot is told of
-abbrev pub unlisted : ℕ → Listed
-unlisted n = record { read = unread n; slots = each (λ (i : ℕ). unused) 48 }
+abbrev pub unplaced : ℕ → Placed
+unplaced n = record { read = unread n; places = replicate 48 0 }
 
--- 01 Schedule message: a message that is not refused, with all its slots
-abbrev pub whole : List ℕ → Listed
-whole m = record { read = good m; slots = each (slotAt m) 48 }
+-- 01 Schedule message: a message that is not refused, with the places of all its descriptions
+abbrev pub whole : List ℕ → Placed
+whole m = record { read = good m; places = each (placeAt m) 48 }
 
--- 01 Schedule message, Order: the reader with all slots
-unfoldable pub listed : List ℕ → ℕ → Listed
-listed m received = ruled unlisted (faults m received) (whole m)
+-- 01 Schedule message, Order: the reader with the places of all descriptions; `tells` is what stands there
+unfoldable pub placed : List ℕ → ℕ → Placed
+placed m received = ruled unplaced (faults m received) (whole m)
 
 -- 01 Schedule message: what the reader of descriptions gives: a slot by its number and what is shown of it, no more, or a refusal
 pub data Given : Type 0 where

@@ -3,10 +3,10 @@ use mathlib.Core.Path.{_≡_}
 use mathlib.Core.Bool.{Bool, true, false, cond, _&&_}
 use mathlib.Core.List.{List}
 use Prim.Native.Nat.{ℕ, _+_, _≤_, _<_}
-use lib.ListN.{length, getD}
+use lib.ListN.{length, getD, replicate}
 use lib.Dec.{leb, ltb}
 use Rattle.laws.specs.Ruled.{ruled}
-use Rattle.laws.specs.Upto.{count, each}
+use Rattle.laws.specs.Upto.{count}
 use Rattle.answer.specs.Number.{numberOf}
 use Rattle.schedule.specs.declared.Description.the-variants.{First}
 use Rattle.schedule.specs.declared.Slot.{Slot}
@@ -14,8 +14,8 @@ use Rattle.schedule.specs.declared.told.Step.{Step}
 use Rattle.schedule.specs.declared.told.Step.the-variants.{Took, Past}
 use Rattle.schedule.specs.declared.Reach.{Reach}
 use Rattle.schedule.specs.declared.Reach.the-variants.{To, Refused}
-use Rattle.schedule.specs.Paper.{Told, octet, end, width, told, place, new, grouped, base, shown, Shown, Read, unread, good, headFaults, Listed, unused}
-use Rattle.schedule.specs.Coded.{toldOf, shownOf}
+use Rattle.schedule.specs.Paper.{Told, octet, end, width, told, place, rank, tells, isFirst, grouped, base, Read, unread, good, headFaults, Placed}
+use Rattle.schedule.specs.Coded.{toldOf}
 
 -- what a message must be for its descriptions to be read
 pub record Readable (m : List ℕ) (received e : ℕ) : Type 0 where
@@ -41,32 +41,45 @@ steppedOf Past = past
 unfoldable pub step : List ℕ → ℕ → ℕ → Stepped
 step m received at = cond (leb (at + width (octet m at)) received) (took (told m at) (at + width (octet m at))) past
 
--- what is read past the end of an array, which never is
-abbrev pub zeroed : Slot
-zeroed = record { new = false; description = First 0 }
+-- for a slot below e whose new bit is b what a function gives, and for another what s has
+abbrev pub over : {A : Type 0} → (ℕ → A) → A → List ℕ → Bool → ℕ → List A → ℕ → A
+over f d m b e s i = cond (ltb i e && grouped m b i) (f i) (getD s i d)
 
--- what is shown of slot i once the slots below e with a new bit are read over others
-abbrev pub over : List ℕ → Bool → ℕ → List Slot → ℕ → Shown
-over m b e s i = cond (ltb i e && grouped m b i) (shown m i) (shownOf (getD s i zeroed))
+-- an array t that has this of every slot
+abbrev pub Over : {A : Type 0} → (ℕ → A) → A → List ℕ → Bool → ℕ → List A → List A → Type 0
+Over f d m b e s t = (i : ℕ) → i < 48 → getD t i d ≡ over f d m b e s i
 
--- the slots t and the place reached once those below e with a new bit are read over s
-abbrev pub Fills : List ℕ → Bool → ℕ → List Slot → List Slot → ℕ → Type 0
-Fills m b e s t at =
-    (at ≡ place m (base m b + count (grouped m b) e)) × ((i : ℕ) → i < 48 → shownOf (getD t i zeroed) ≡ over m b e s i)
+-- where a slot's description starts
+abbrev pub start : List ℕ → ℕ → ℕ
+start m i = place m (rank m i)
 
--- a group of descriptions read within the received octets, or refused by 23 because its last passes them
-abbrev pub Group : List ℕ → ℕ → Bool → List Slot → List Slot → Reach → Type 0
-Group m received b s t (To at) = Fills m b (end m) s t at × (at ≤ received) × (length t ≡ 48)
-Group m received b s t (Refused r) =
+-- what is found once the slots below e whose new bit is b are passed: the place reached, where their descriptions start, and which are first transmissions
+pub record Finds (m : List ℕ) (b : Bool) (e : ℕ) (s : List ℕ) (f : List Bool) (t : List ℕ) (g : List Bool) (at : ℕ) : Type 0 where
+  pub reached : at ≡ place m (base m b + count (grouped m b) e)
+  pub starts : Over (start m) 0 m b e s t
+  pub firsts : Over (λ (i : ℕ). isFirst (tells m i)) false m b e f g
+
+-- a group of descriptions found within the received octets, or refused by 23 because its last passes them
+abbrev pub Group : List ℕ → ℕ → Bool → List ℕ → List Bool → List ℕ → List Bool → Reach → Type 0
+Group m received b s f t g (To at) = Finds m b (end m) s f t g at × (at ≤ received) × (length t ≡ 48)
+Group m received b s f t g (Refused r) =
     (numberOf r ≡ 23) × (received < place m (base m b + count (grouped m b) (end m)))
 
 -- an answer that tells of no slot
-abbrev pub unlistedBy : Read → Listed
-unlistedBy r = record { read = r; slots = each (λ (i : ℕ). unused) 48 }
+abbrev pub unplacedBy : Read → Placed
+unplacedBy r = record { read = r; places = replicate 48 0 }
 
--- what an array of slots tells of each
-abbrev pub tellsOf : List Slot → ℕ → Told
-tellsOf s i = toldOf (getD s i zeroed .description)
+-- what is told of each slot by the description at its place
+abbrev pub toldBy : List ℕ → List ℕ → ℕ → Told
+toldBy m p i = told m (getD p i 0)
+
+-- which of the descriptions at the first e places are first transmissions
+abbrev pub Firsts : List ℕ → List ℕ → List Bool → ℕ → Type 0
+Firsts m p f e = (i : ℕ) → i < e → getD f i false ≡ isFirst (toldBy m p i)
+
+-- a slot of zeros, for what is read past the end of an array of slots, which never is
+abbrev pub zeroed : Slot
+zeroed = record { new = false; description = First 0 }
 
 -- a slot up to End, with its new bit, that stands after k others of its group
 pub record Picks (m : List ℕ) (b : Bool) (k i : ℕ) : Type 0 where

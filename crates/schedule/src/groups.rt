@@ -7,13 +7,16 @@ ghost use Rattle.laws.specs.Upto.{some, count};
 ghost use Rattle.schedule.specs.Paper.{new as newOf, end as endOf, newPast, grouped, slotOf};
 ghost use Rattle.schedule.specs.Parts.{Picks};
 use super::SLOTS;
+use super::told::octet_at;
 
 // Whether slot i, counted from 0, has its new bit set.
 pub(crate) fn is_new(message: &[u8], i: usize) -> bool
-    requires { ⌜ (length (now message) ≡ 88) × (i < 48) ⌝ }
     ensures { λ r. ⌜ r ≡ newOf (now (message .entry)) i ⌝ }
 {
-    (message[2 + i / 8] >> (7 - i % 8)) % 2 == 1
+    if i >= SLOTS {
+        return false;
+    }
+    (octet_at(message, 2 + i / 8) >> (7 - i % 8)) % 2 == 1
 }
 
 // Whether the new bit of a slot past End is set.

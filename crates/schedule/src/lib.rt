@@ -1,14 +1,15 @@
-// Schedule messages read: their header, their slots all at once, and their descriptions by place.
+// Schedule messages read: their header, where each slot's description starts, and their descriptions in order.
 mod groups;
 mod told;
 
 ghost use mathlib.Core.Path.{_≡_};
 ghost use Prim.Native.Nat.{_≤_};
-ghost use Rattle.schedule.specs.Paper.{place as placeOf, base, read, listed, given};
-ghost use Rattle.schedule.specs.Coded.{readOf, listedOf, givenOf};
-ghost use Rattle.schedule.specs.Parts.{Readable, headRead, Group, unlistedBy};
+ghost use Rattle.schedule.specs.Paper.{new as newOf, told, place as placeOf, base, read, placed, given};
+ghost use Rattle.schedule.specs.Coded.{shownOf, readOf, placedOf, givenOf};
+ghost use Rattle.schedule.specs.Parts.{Readable, headRead, Group, unplacedBy};
 use answer::Refusal;
 use answer::whole_blocks;
+pub use told::told_at;
 
 // 000 3.3.1: the octets of a message.
 const MESSAGE: usize = 88;
@@ -40,10 +41,10 @@ pub enum Reading {
     Refused(Refusal),
 }
 
-// Every slot of a message, with the reader's answer.
-pub struct Table {
+// Where the description of each slot starts, with the reader's answer; 0 for a slot that is not told of.
+pub struct Placed {
     pub answer: Reading,
-    pub slots: [Slot; 48],
+    pub places: [usize; 48],
 }
 
 // What the description reader answers: a slot by its number, no more, or a refusal.
@@ -89,24 +90,28 @@ enum Reach {
     Refused(Refusal),
 }
 
+// A group's descriptions among others: the place after them, where that of each slot starts, and which are first transmissions.
 struct Part {
     reach: Reach,
-    slots: [Slot; 48],
+    places: [usize; 48],
+    firsts: [bool; 48],
 }
 
-// Reads the descriptions of the slots up to End whose new bit is as given, which start at a place.
-fn read_group(
+// Finds the descriptions of the slots up to End whose new bit is as given, which start at a place.
+fn find_group(
     message: &[u8],
     received: usize,
     end: usize,
     new: bool,
-    slots: [Slot; 48],
+    places: [usize; 48],
+    firsts: [bool; 48],
     from: usize,
 ) -> Part
     requires { ⌜ Readable (now message) received end × (from ≡ placeOf (now message) (base (now message) new)) × (from ≤ received) ⌝ }
-    ensures { λ r. ⌜ Group (now (message .entry)) received new slots (r .slots) (r .reach) ⌝ }
+    ensures { λ r. ⌜ Group (now (message .entry)) received new places firsts (r .places) (r .firsts) (r .reach) ⌝ }
 {
-    let mut filled = slots;
+    let mut found = places;
+    let mut marked = firsts;
     let mut at = from;
     let mut i = 0;
     while i < end {
@@ -114,79 +119,86 @@ fn read_group(
             let told::Step::Took(description, next) = told::step_at(message, received, at) else {
                 return Part {
                     reach: Reach::Refused(Refusal::DescriptionPastReceived),
-                    slots: filled,
+                    places: found,
+                    firsts: marked,
                 };
             };
-            filled[i] = Slot { new, description };
+            found[i] = at;
+            marked[i] = told::is_first(description);
             at = next;
         }
         i += 1;
     }
     Part {
         reach: Reach::To(at),
-        slots: filled,
+        places: found,
+        firsts: marked,
     }
 }
 
-// Reads a message with all its slots.
-pub fn read_slots(message: &[u8], received: usize) -> Table
-    ensures { λ r. ⌜ listedOf r ≡ listed (now (message .entry)) received ⌝ }
+// Reads a message as far as where each description starts.
+pub fn read_places(message: &[u8], received: usize) -> Placed
+    ensures { λ r. ⌜ placedOf r ≡ placed (now (message .entry)) received ⌝ }
 {
     let header = read_header(message, received);
-    let Reading::Read(begin, end) = header else {
+    let Reading::Read(_, end) = header else {
         return refused(header);
     };
-    let blank = [Slot {
-        new: false,
-        description: Description::Optional,
-    }; 48];
-    let news = read_group(message, received, end, true, blank, HEADER);
+    let news = find_group(message, received, end, true, [0; 48], [false; 48], HEADER);
     let reach = news.reach;
     let Reach::To(next) = reach else {
         return refused(Reading::Refused(Refusal::DescriptionPastReceived));
     };
-    let read = news.slots;
-    let others = read_group(message, received, end, false, read, next);
+    let found = news.places;
+    let marked = news.firsts;
+    let others = find_group(message, received, end, false, found, marked, next);
     let reach = others.reach;
     let Reach::To(_) = reach else {
         return refused(Reading::Refused(Refusal::DescriptionPastReceived));
     };
-    let slots = others.slots;
-    if told::has_false_repeat(slots, end) {
+    let places = others.places;
+    let firsts = others.firsts;
+    if told::has_false_repeat(message, places, firsts, end) {
         return refused(Reading::Refused(Refusal::RepeatOfNoFirst));
     }
-    Table {
+    Placed {
         answer: header,
-        slots,
+        places,
     }
 }
 
 // An answer that tells of no slot.
-fn refused(answer: Reading) -> Table
-    ensures { λ r. ⌜ listedOf r ≡ unlistedBy (readOf answer) ⌝ }
+fn refused(answer: Reading) -> Placed
+    ensures { λ r. ⌜ placedOf r ≡ unplacedBy (readOf answer) ⌝ }
 {
-    Table {
+    Placed {
         answer,
-        slots: [Slot {
-            new: false,
-            description: Description::Optional,
-        }; 48],
+        places: [0; 48],
     }
+}
+
+// Slot i, counted from 0, as it is told by the description that starts at a place.
+pub fn shown(message: &[u8], i: usize, at: usize) -> Slot
+    ensures { λ r. ⌜ shownOf r ≡ record { new = newOf (now (message .entry)) i; told = told (now (message .entry)) at } ⌝ }
+{
+    let new = groups::is_new(message, i);
+    let description = told_at(message, at);
+    Slot { new, description }
 }
 
 // Reads Begin and End of a message.
 pub fn read_schedule(message: &[u8], received: usize) -> Reading
     ensures { λ r. ⌜ readOf r ≡ read (now (message .entry)) received ⌝ }
 {
-    read_slots(message, received).answer
+    read_places(message, received).answer
 }
 
 // The description that stands after the given number of others, with its slot.
 pub fn description_at(message: &[u8], received: usize, place: usize) -> Given
     ensures { λ r. ⌜ givenOf r ≡ given (now (message .entry)) received place ⌝ }
 {
-    let table = read_slots(message, received);
-    let answer = table.answer;
+    let found = read_places(message, received);
+    let answer = found.answer;
     match answer {
         Reading::Refused(refusal) => Given::Refused(refusal),
         Reading::Read(_, end) => {
@@ -194,8 +206,8 @@ pub fn description_at(message: &[u8], received: usize, place: usize) -> Given
                 return Given::NoMore;
             }
             let i = groups::slot_at(message, end, place);
-            let slots = table.slots;
-            Given::Next(i + 1, slots[i])
+            let places = found.places;
+            Given::Next(i + 1, shown(message, i, places[i]))
         }
     }
 }

@@ -1,13 +1,22 @@
-// What one description tells: how it is read, and whether its repeat is false.
+// What one description tells: where it ends, what is read from it, and whether its repeat is false.
 ghost use mathlib.Core.Path.{_≡_};
 ghost use Prim.Native.Nat.{_≤_};
 ghost use lib.ListN.{length};
 ghost use Rattle.laws.specs.Upto.{some};
-ghost use Rattle.schedule.specs.Paper.{short, isFirst, falseRepeat};
+ghost use Rattle.schedule.specs.Paper.{octet, short, told, isFirst, falseRepeat};
 ghost use Rattle.schedule.specs.Coded.{toldOf};
-ghost use Rattle.schedule.specs.Parts.{steppedOf, step, tellsOf};
+ghost use Rattle.schedule.specs.Parts.{steppedOf, step, toldBy, Firsts};
 use super::Description;
-use super::Slot;
+
+// An octet of a message, and 0 past its end.
+pub(crate) fn octet_at(message: &[u8], at: usize) -> u8
+    ensures { λ r. ⌜ r ≡ octet (now (message .entry)) at ⌝ }
+{
+    if at >= message.len() {
+        return 0;
+    }
+    message[at]
+}
 
 // A description with the place after it, or one that passes the received octets.
 pub(crate) enum Step {
@@ -22,16 +31,26 @@ pub(crate) fn step_at(message: &[u8], received: usize, at: usize) -> Step
     if at >= received {
         return Step::Past;
     }
-    let octet = message[at];
-    if octet < 0x80 {
-        return Step::Took(short_description(octet), at + 1);
+    if message[at] < 0x80 {
+        return Step::Took(told_at(message, at), at + 1);
     }
     if at + 1 >= received {
         return Step::Past;
     }
+    Step::Took(told_at(message, at), at + 2)
+}
+
+// The description that starts at a place.
+pub fn told_at(message: &[u8], at: usize) -> Description
+    ensures { λ r. ⌜ toldOf r ≡ told (now (message .entry)) at ⌝ }
+{
+    let octet = octet_at(message, at);
+    if octet < 0x80 {
+        return short_description(octet);
+    }
     let high = octet as u16 - 0x80;
-    let low = message[at + 1] as u16;
-    Step::Took(Description::First(256 * high + low), at + 2)
+    let low = octet_at(message, at + 1) as u16;
+    Description::First(256 * high + low)
 }
 
 // The description of one octet.
@@ -47,7 +66,7 @@ fn short_description(octet: u8) -> Description
     Description::Optional
 }
 
-fn is_first(description: Description) -> bool
+pub(crate) fn is_first(description: Description) -> bool
     ensures { λ r. ⌜ r ≡ isFirst (toldOf description) ⌝ }
 {
     match description {
@@ -59,25 +78,27 @@ fn is_first(description: Description) -> bool
 }
 
 // Whether a slot up to End repeats what is no first transmission in a slot below it.
-pub(crate) fn has_false_repeat(slots: [Slot; 48], end: usize) -> bool
-    requires { ⌜ end ≤ 48 ⌝ }
-    ensures { λ r. ⌜ r ≡ some (falseRepeat (tellsOf slots)) end ⌝ }
+pub(crate) fn has_false_repeat(
+    message: &[u8],
+    places: [usize; 48],
+    firsts: [bool; 48],
+    end: usize,
+) -> bool
+    requires { ⌜ (end ≤ 48) × Firsts (now message) places firsts end ⌝ }
+    ensures { λ r. ⌜ r ≡ some (falseRepeat (toldBy (now (message .entry)) places)) end ⌝ }
 {
     let mut i = 0;
     while i < end {
-        let slot = slots[i];
-        let description = slot.description;
-        if let Description::Repeat(octet) = description {
-            let n = octet as usize;
+        let at = places[i];
+        let n = octet_at(message, at) as usize;
+        if n < 0x40 {
             if n == 0 {
                 return true;
             }
             if n > i {
                 return true;
             }
-            let named = slots[n - 1];
-            let first = named.description;
-            if !is_first(first) {
+            if !firsts[n - 1] {
                 return true;
             }
         }

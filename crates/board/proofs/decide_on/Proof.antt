@@ -1,4 +1,4 @@
--- `board::decide_on` meets its contract: each answer is told from the table of slots.
+-- `board::decide_on` meets its contract: each answer is told from the places of the descriptions.
 use mathlib.Core.Path.{sym, _∙_}
 use mathlib.Core.Bool.{true, false}
 use native.Mathlib.Omega.{arith}
@@ -26,8 +26,8 @@ returns-4 c =
     decided-as s (a .slot) (wantedOf (a .wanted)) (a .held .0) (record { some = search needs; low = search needs }) true (search needs)
     (reads-untold s (a .slot) (wantedOf (a .wanted)) (a .held .0) (tells-unknown s (a .slot) (not-true _ (c .if4 .taken))))
 
-read-slots-requires : tie.Need-read-slots-requires
-read-slots-requires c κs = search needs
+read-places-requires : tie.Need-read-places-requires
+read-places-requires c κs = search needs
 
 tells-of-requires : tie.Need-tells-of-requires
 tells-of-requires c κs = search needs
@@ -35,7 +35,7 @@ tells-of-requires c κs = search needs
 returns-5 : tie.Need-returns-5
 returns-5 c =
     let a = c .before .before .before .before .before .before .before .before .before .args in
-    let t = c .before .before .read-slots in
+    let t = c .before .before .read-places in
     let s = lentSchedule (a .known) (a .message .now) (a .received) in
     decided-as s (a .slot) (wantedOf (a .wanted)) (a .held .0) (record { some = search needs; low = search needs }) true (search needs)
     (reads-untold s (a .slot) (wantedOf (a .wanted)) (a .held .0)
@@ -45,21 +45,21 @@ returns-5 c =
 reads-for-requires : tie.Need-reads-for-requires
 reads-for-requires c κs =
     let a = c .before .before .before .before .before .before .before .before .before .before .args in
-    let t = c .before .before .before .read-slots in
+    let t = c .before .before .before .read-places in
     let g = telling (a .message .now) (a .received) (a .slot) (t .result) (t .ensures) (sym (c .before .before .tells-of .ensures) ∙ not-false _ (c .before .if5 .left)) in
     (omega (arith, g .some, g .low), g .repeats, search needs)
 
 returns-6 : tie.Need-returns-6
 returns-6 c =
     let a = c .before .before .before .before .before .before .before .before .before .before .before .before .args in
-    let t = c .before .before .before .before .before .read-slots in
+    let t = c .before .before .before .before .before .read-places in
     decided-slots (a .known) (a .message .now) (a .received) (a .slot) (t .result) (t .ensures) (not-false _ (c .before .before .before .before .before .before .if4 .left)) (sym (c .before .before .before .before .tells-of .ensures) ∙ not-false _ (c .before .before .before .if5 .left))
     (wantedOf (a .wanted)) (a .held .0) (c .before .reads-for .result) true (record { some = search needs; low = search needs }) (search needs) (c .before .reads-for .ensures) (c .if6 .taken)
 
 returns-7 : tie.Need-returns-7
 returns-7 c =
     let a = c .before .before .before .before .before .before .before .before .before .before .before .before .args in
-    let t = c .before .before .before .before .before .read-slots in
+    let t = c .before .before .before .before .before .read-places in
     decided-slots (a .known) (a .message .now) (a .received) (a .slot) (t .result) (t .ensures) (not-false _ (c .before .before .before .before .before .before .if4 .left)) (sym (c .before .before .before .before .tells-of .ensures) ∙ not-false _ (c .before .before .before .if5 .left))
     (wantedOf (a .wanted)) (a .held .0) (c .before .reads-for .result) false (record { some = search needs; low = search needs }) (search needs) (c .before .reads-for .ensures) (c .if6 .left)
 
@@ -71,7 +71,7 @@ decide-on-spec =
     returns-2
     returns-3
     returns-4
-    read-slots-requires
+    read-places-requires
     tells-of-requires
     returns-5
     reads-for-requires

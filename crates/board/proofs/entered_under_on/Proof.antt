@@ -1,9 +1,10 @@
--- `board::entered_under_on` meets its contract: the entry is told from the table of slots.
-use mathlib.Core.Path.{sym, _∙_}
+-- `board::entered_under_on` meets its contract: the entry is told from the places of the descriptions.
+use mathlib.Core.Path.{sym, ap, _∙_}
 use mathlib.Core.Bool.{false}
 use native.Mathlib.Omega.{arith}
 use borrow.Author.Needs.{needs}
 use borrow.Author.Tests.{not-true, not-false}
+use Rattle.board.specs.Paper.{entryFor}
 use Rattle.board.specs.Coded.{lentSchedule}
 use Rattle.board.proofs.Cases.{entered-untold, tells-unknown}
 use Rattle.board.proofs.Telling.{Telling, telling, tells-by, entered-slot}
@@ -16,8 +17,8 @@ returns c =
     let s = lentSchedule (a .known) (a .message .now) (a .received) in
     sym (entered-untold s (a .slot) (tells-unknown s (a .slot) (not-true _ (c .if1 .taken))))
 
-read-slots-requires : tie.Need-read-slots-requires
-read-slots-requires c κs = search needs
+read-places-requires : tie.Need-read-places-requires
+read-places-requires c κs = search needs
 
 tells-of-requires : tie.Need-tells-of-requires
 tells-of-requires c κs = search needs
@@ -25,26 +26,29 @@ tells-of-requires c κs = search needs
 returns-2 : tie.Need-returns-2
 returns-2 c =
     let a = c .before .before .before .before .before .args in
-    let t = c .before .before .read-slots in
+    let t = c .before .before .read-places in
     sym (entered-untold (lentSchedule (a .known) (a .message .now) (a .received)) (a .slot)
     (tells-by (a .known) (a .message .now) (a .received) (a .slot) (t .result) (t .ensures) (not-false _ (c .before .before .before .if1 .left)) false
     (sym (c .before .tells-of .ensures) ∙ not-true _ (c .if2 .taken))))
 
 -- the message tells of the slot
-tells : (c : tie.After-slots) → let a = c .before .before .before .before .before .before .args in Telling (a .message .now) (a .received) (a .slot) (c .before .before .before .read-slots .result .slots)
+tells : (c : tie.After-places) → let a = c .before .before .before .before .before .before .args in Telling (a .message .now) (a .received) (a .slot) (c .before .before .before .read-places .result .places)
 tells c =
     let a = c .before .before .before .before .before .before .args in
-    let t = c .before .before .before .read-slots in
+    let t = c .before .before .before .read-places in
     telling (a .message .now) (a .received) (a .slot) (t .result) (t .ensures) (sym (c .before .before .tells-of .ensures) ∙ not-false _ (c .before .if2 .left))
 
-sub-told : tie.Need-sub-told
-sub-told c = tells c .some
+sub-told-at : tie.Need-sub-told-at
+sub-told-at c = tells c .some
 
-mul-told : tie.Need-mul-told
-mul-told c = omega (arith, tells c .low)
+mul-told-at : tie.Need-mul-told-at
+mul-told-at c = omega (arith, tells c .low)
 
-array-copy-out-told : tie.Need-array-copy-out-told
-array-copy-out-told c = omega (arith, tells c .some, tells c .low)
+array-read-told-at : tie.Need-array-read-told-at
+array-read-told-at c = omega (arith, tells c .some, tells c .low)
+
+told-at-requires : tie.Need-told-at-requires
+told-at-requires c κs = search needs
 
 entry-for-requires : tie.Need-entry-for-requires
 entry-for-requires c κs = search needs
@@ -52,8 +56,9 @@ entry-for-requires c κs = search needs
 returns-3 : tie.Need-returns-3
 returns-3 c =
     let a = c .before .before .before .before .before .before .before .before .args in
-    let t = c .before .before .before .before .before .read-slots in
+    let t = c .before .before .before .before .before .read-places in
     c .entry-for .ensures
+    ∙ ap (entryFor (a .slot)) (c .before .told-at .ensures)
     ∙ entered-slot (a .known) (a .message .now) (a .received) (a .slot) (t .result) (t .ensures) (not-false _ (c .before .before .before .before .before .before .if1 .left)) (sym (c .before .before .before .before .tells-of .ensures) ∙ not-false _ (c .before .before .before .if2 .left))
 
 pub entered-under-on-spec : {M : Type 1} → statement M
@@ -61,11 +66,12 @@ entered-under-on-spec =
     tie.close
     (tie.spec
     returns
-    read-slots-requires
+    read-places-requires
     tells-of-requires
     returns-2
-    sub-told
-    mul-told
-    array-copy-out-told
+    sub-told-at
+    mul-told-at
+    array-read-told-at
+    told-at-requires
     entry-for-requires
     returns-3)

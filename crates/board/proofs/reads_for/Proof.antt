@@ -1,19 +1,24 @@
 -- `board::reads_for` meets its contract: a repeat of a message that is read names a slot below its own.
-use mathlib.Core.Path.{_∙_}
+use mathlib.Core.Path.{_≡_, ap, _∙_}
 use Prim.Native.Nat.{_+_}
 use native.Mathlib.Omega.{arith}
 use borrow.Author.Needs.{needs}
-use Rattle.schedule.specs.Parts.{tellsOf}
+use Rattle.schedule.specs.Parts.{toldBy}
+use Rattle.board.specs.Paper.{firstMatches, entryFor}
+use Rattle.board.specs.Parts.{readsBy}
 use Rattle.board.specs.Coded.{wantedOf}
 use Rattle.board.proofs.Telling.{Named, entry-named, reads-by-entry}
 use Rattle.board.proofs.reads_for.Statement.{statement}
 use Rattle.board.proofs.reads_for.Tie as tie
 
-mul-slot : tie.Need-mul-slot
-mul-slot c = search needs
+mul-told-at : tie.Need-mul-told-at
+mul-told-at c = search needs
 
-array-copy-out-slot : tie.Need-array-copy-out-slot
-array-copy-out-slot c = search needs
+array-read-told-at : tie.Need-array-read-told-at
+array-read-told-at c = search needs
+
+told-at-requires : tie.Need-told-at-requires
+told-at-requires c κs = search needs
 
 add-entry-for : tie.Need-add-entry-for
 add-entry-for c = search needs
@@ -21,18 +26,27 @@ add-entry-for c = search needs
 entry-for-requires : tie.Need-entry-for-requires
 entry-for-requires c κs = search needs
 
--- the page is entered under the slot or one below it
-lower : (c : tie.After-entry-for) → Named (c .before .before .args .i + 1) (c .entry-for .result)
-lower c = rw (c .entry-for .ensures) (entry-named (tellsOf (c .before .before .args .t1)) (c .before .before .args .i) (c .before .before .pre .1))
+-- the slot that the page is entered under, by what is told at the slot's place
+under : (c : tie.After-entry-for) → let a = c .before .before .before .args in c .entry-for .result ≡ entryFor (a .i + 1) (toldBy (a .message .now) (a .t2) (a .i))
+under c = c .entry-for .ensures ∙ ap (entryFor (c .before .before .before .args .i + 1)) (c .before .told-at .ensures)
 
-sub-named : tie.Need-sub-named
-sub-named c = lower c .some
+-- it is the slot or one below it
+lower : (c : tie.After-entry-for) → Named (c .before .before .before .args .i + 1) (c .entry-for .result)
+lower c =
+    let s = c .before .before .before in
+    rw (under c) (entry-named (toldBy (s .args .message .now) (s .args .t2)) (s .args .i) (s .pre .1))
 
-mul-named : tie.Need-mul-named
-mul-named c = omega (arith, lower c .low)
+sub-told-at : tie.Need-sub-told-at
+sub-told-at c = lower c .some
 
-array-copy-out-named : tie.Need-array-copy-out-named
-array-copy-out-named c = omega (arith, lower c .some, lower c .low)
+mul-told-at-2 : tie.Need-mul-told-at-2
+mul-told-at-2 c = omega (arith, lower c .low)
+
+array-read-told-at-2 : tie.Need-array-read-told-at-2
+array-read-told-at-2 c = omega (arith, lower c .some, lower c .low)
+
+told-at-requires-2 : tie.Need-told-at-requires-2
+told-at-requires-2 c κs = search needs
 
 first-matches-requires : tie.Need-first-matches-requires
 first-matches-requires c κs = search needs
@@ -45,22 +59,28 @@ reads-by-requires c κs = search needs
 
 returns : tie.Need-returns
 returns c =
-    let a = c .before .before .before .before .before .before .args in
+    let entered = c .before .before .before .before in
+    let a = entered .before .before .before .args in
+    let matches = c .before .before .first-matches in
+    let missing = c .before .unless-held in
     c .reads-by .ensures
-    ∙ reads-by-entry (tellsOf (a .t1)) (wantedOf (a .wanted)) (a .held .0) (a .i) (c .before .before .before .before .entry-for .result) (c .before .before .first-matches .result) (c .before .unless-held .result)
-    (c .before .before .before .before .entry-for .ensures) (c .before .before .first-matches .ensures) (c .before .unless-held .ensures)
+    ∙ ap (readsBy (matches .result) (missing .result)) (entered .before .told-at .ensures)
+    ∙ reads-by-entry (toldBy (a .message .now) (a .t2)) (wantedOf (a .wanted)) (a .held .0) (a .i) (entered .entry-for .result) (matches .result) (missing .result)
+    (under entered) (matches .ensures ∙ ap (firstMatches (wantedOf (a .wanted))) (c .before .before .before .told-at2 .ensures)) (missing .ensures)
 
 pub reads-for-spec : {M : Type 1} → statement M
 reads-for-spec =
     tie.close
     (tie.spec
-    mul-slot
-    array-copy-out-slot
+    mul-told-at
+    array-read-told-at
+    told-at-requires
     add-entry-for
     entry-for-requires
-    sub-named
-    mul-named
-    array-copy-out-named
+    sub-told-at
+    mul-told-at-2
+    array-read-told-at-2
+    told-at-requires-2
     first-matches-requires
     unless-held-requires
     reads-by-requires

@@ -8,7 +8,8 @@ use Rattle.lines.proofs.Behind.{puts-behind, puts-then, puts-wider}
 use Rattle.lines.proofs.Numbers.{length-spelled}
 use Rattle.words.specs.Words.{words}
 use Rattle.cbcheck.specs.Listing.{slotWord, untrueWords}
-use Rattle.cbcheck.proofs.Said.{words-few, reason-words, reason-slot}
+use Rattle.words.proofs.Few.{words-few}
+use Rattle.cbcheck.proofs.Said.{reason-words, reason-slot}
 use Rattle.cbcheck.proofs.put_reason.Statement.{statement}
 use Rattle.cbcheck.proofs.put_reason.Tie as tie
 

@@ -4,27 +4,34 @@ use mathlib.Core.Bool.{false, not}
 use Prim.Native.Nat.{ℕ, _-_, _≤_, _<_}
 use native.Mathlib.Numerals.{add-one}
 use native.Mathlib.Omega.{arith}
+use lib.ListN.{getD}
 use borrow.Author.Count.{below-none, below-more}
 use borrow.Author.Needs.{needs}
 use Rattle.laws.proofs.Lowest.{lowest-at, lowest-none}
+use Rattle.plan.specs.Coded.{plannedOf}
+use Rattle.plan.specs.Parts.{nothing}
+use Rattle.checker.specs.Paper.{trueBy}
 use Rattle.checker.specs.Coded.{untrueBy}
 use Rattle.checker.proofs.first_untrue.Statement.{statement}
 use Rattle.checker.proofs.first_untrue.Tie as tie
 
 abbrev Inv-loop : tie.InvT-loop
-Inv-loop count all slots i₀ i = (i ≤ count) × ((k : ℕ) → k < i → untrueBy all slots k ≡ false)
+Inv-loop message count all places i₀ i = (i ≤ count) × ((k : ℕ) → k < i → untrueBy all message places k ≡ false)
 
 abbrev μ-loop : tie.MeasureT-loop
-μ-loop count all slots i₀ i = count - i
+μ-loop message count all places i₀ i = count - i
 
 loop-holds : tie.Need-loop-holds Inv-loop μ-loop
 loop-holds c = (omega arith, below-none _)
 
-mul-slot : tie.Need-mul-slot Inv-loop μ-loop
-mul-slot c = search needs
+mul-shown : tie.Need-mul-shown Inv-loop μ-loop
+mul-shown c = search needs
 
-array-copy-out-slot : tie.Need-array-copy-out-slot Inv-loop μ-loop
-array-copy-out-slot c = search needs
+array-read-shown : tie.Need-array-read-shown Inv-loop μ-loop
+array-read-shown c = search needs
+
+shown-requires : tie.Need-shown-requires Inv-loop μ-loop
+shown-requires c κs = search needs
 
 mul-said : tie.Need-mul-said Inv-loop μ-loop
 mul-said c = search needs
@@ -35,20 +42,23 @@ array-copy-out-said c = search needs
 is-true-requires : tie.Need-is-true-requires Inv-loop μ-loop
 is-true-requires c κs = search needs
 
+-- whether the slot is told truly is answered by its description
+told : (c : tie.After-is-true Inv-loop μ-loop) → let b = c .before .before .before .before in let a = b .before .before .args in not (c .is-true .result) ≡ untrueBy (a .t1) (a .message .now) (a .t3) (b .loop .i)
+told c =
+    let b = c .before .before .before .before in
+    ap not
+    (c .is-true .ensures
+    ∙ ap (trueBy (plannedOf (getD (b .before .before .args .t1) (b .loop .i) nothing)) (b .loop .i)) (c .before .before .shown .ensures))
+
 add-result : tie.Need-add-result Inv-loop μ-loop
 add-result c = search needs
 
 returns : tie.Need-returns Inv-loop μ-loop
 returns c =
     let b = c .before .before .before .before .before in
-    let a = b .before .args in
-    let l = b .loop in
-    let told = c .before .is-true in
+    let a = b .before .before .args in
     rw add-one
-    (sym
-    (lowest-at (untrueBy (a .t1) (a .t2)) (a .count) (l .i) (omega arith)
-    (ap not (sym (told .ensures)) ∙ c .if1 .taken)
-    (l .inv .1)))
+    (sym (lowest-at (untrueBy (a .t1) (a .message .now) (a .t3)) (a .count) (b .loop .i) (omega arith) (sym (told (c .before)) ∙ c .if1 .taken) (b .loop .inv .1)))
 
 add-i : tie.Need-add-i Inv-loop μ-loop
 add-i c = search needs
@@ -58,21 +68,15 @@ loop-less c = search needs
 
 loop-again : tie.Need-loop-again Inv-loop μ-loop
 loop-again c =
-    let b = c .before .before .before .before .before in
-    let a = b .before .args in
-    let l = b .loop in
-    let told = c .before .is-true in (
-      omega arith,
-      below-more _ _ (l .inv .1)
-          (ap not (sym (told .ensures)) ∙ c .if1 .left),
-    )
+    let l = c .before .before .before .before .before .loop in
+    (omega arith, below-more _ _ (l .inv .1) (sym (told (c .before)) ∙ c .if1 .left))
 
 returns-2 : tie.Need-returns-2 Inv-loop μ-loop
 returns-2 c =
-    let a = c .before .before .args in
+    let a = c .before .before .before .args in
     let l = c .before .loop in
     let e : l .i ≡ a .count = omega arith in
-    sym (lowest-none (untrueBy (a .t1) (a .t2)) (a .count) (rw e at (l .inv .1)))
+    sym (lowest-none (untrueBy (a .t1) (a .message .now) (a .t3)) (a .count) (rw e at (l .inv .1)))
 
 pub first-untrue-spec : {M : Type 1} → statement M
 first-untrue-spec =
@@ -81,8 +85,9 @@ first-untrue-spec =
     Inv-loop
     μ-loop
     loop-holds
-    mul-slot
-    array-copy-out-slot
+    mul-shown
+    array-read-shown
+    shown-requires
     mul-said
     array-copy-out-said
     is-true-requires

@@ -1,7 +1,7 @@
 -- `schedule::told::has_false_repeat` meets its contract. The invariant: no slot passed so far has a false repeat.
 use mathlib.Core.Logic.{⊎-elim}
 use mathlib.Core.Bool.{false}
-use mathlib.Core.Path.{_≡_, sym, ap, _∙_, refl}
+use mathlib.Core.Path.{_≡_, sym, refl, _∙_}
 use Prim.Native.Nat.{ℕ, _≤_, _<_, _-_}
 use native.Mathlib.Omega.{arith}
 use lib.ListN.{getD}
@@ -9,63 +9,66 @@ use borrow.Author.Tests.{not-true, not-false}
 use borrow.Author.Count.{below-none, below-more}
 use borrow.Author.Needs.{needs}
 use Rattle.laws.proofs.Upto.{some-none, some-at}
-use Rattle.schedule.specs.Coded.{toldOf}
-use Rattle.schedule.specs.Parts.{tellsOf, zeroed}
+use Rattle.schedule.specs.Parts.{toldBy}
 use Rattle.schedule.specs.Paper.{falseRepeat}
-use Rattle.schedule.proofs.Repeats.{false-zero, false-late, false-other, true-repeat, no-repeat}
+use Rattle.schedule.proofs.Repeats.{false-zero, false-late, false-other, true-repeat, told-repeat, no-repeat}
 use Rattle.schedule.proofs.told.has_false_repeat.Statement.{statement}
 use Rattle.schedule.proofs.told.has_false_repeat.Tie as tie
 
 abbrev Inv-loop : tie.InvT-loop
-Inv-loop end slots i₀ i = (i ≤ end) × ((k : ℕ) → k < i → falseRepeat (tellsOf slots) k ≡ false)
+Inv-loop message end places firsts i₀ i = (i ≤ end) × ((k : ℕ) → k < i → falseRepeat (toldBy message places) k ≡ false)
 
 abbrev μ-loop : tie.MeasureT-loop
-μ-loop end slots i₀ i = end - i
+μ-loop message end places firsts i₀ i = end - i
 
 loop-holds : tie.Need-loop-holds Inv-loop μ-loop
 loop-holds c = (omega arith, below-none _)
 
-mul-slot : tie.Need-mul-slot Inv-loop μ-loop
-mul-slot c = search needs
+mul-at : tie.Need-mul-at Inv-loop μ-loop
+mul-at c = search needs
 
-array-copy-out-slot : tie.Need-array-copy-out-slot Inv-loop μ-loop
-array-copy-out-slot c = search needs
+array-read-at : tie.Need-array-read-at Inv-loop μ-loop
+array-read-at c = search needs
 
-enum-known-description : tie.Need-enum-known-description Inv-loop μ-loop
-enum-known-description c = search needs
+octet-at-requires : tie.Need-octet-at-requires Inv-loop μ-loop
+octet-at-requires c κs = search needs
 
 cast-n : tie.Need-cast-n Inv-loop μ-loop
 cast-n c = search needs
 
 returns : tie.Need-returns Inv-loop μ-loop
 returns c =
-    let t = tellsOf (c .before .before .before .before .before .before .before .args .t1) in
-    let l = c .before .before .before .before .before .before .loop in
-    sym (some-at (falseRepeat t) _ (l .i) (omega arith) (false-zero t (l .i) _ (ap toldOf (c .before .before .description .given .1)) (c .if1 .taken)))
+    let a = c .before .before .before .before .before .before .args in
+    let t = toldBy (a .message .now) (a .t2) in
+    let i = c .before .before .before .before .loop .i in
+    let octet = c .before .before .octet-at in
+    sym (some-at (falseRepeat t) _ i (omega arith) (false-zero t i _ (told-repeat (a .message .now) (getD (a .t2) i 0) _ (octet .ensures) (c .before .if1 .taken)) (c .if2 .taken)))
 
 returns-2 : tie.Need-returns-2 Inv-loop μ-loop
 returns-2 c =
-    let t = tellsOf (c .before .before .before .before .before .before .before .before .args .t1) in
-    let l = c .before .before .before .before .before .before .before .loop in
-    sym (some-at (falseRepeat t) _ (l .i) (omega arith) (false-late t (l .i) _ (ap toldOf (c .before .before .before .description .given .1)) (c .if2 .taken)))
+    let a = c .before .before .before .before .before .before .before .args in
+    let t = toldBy (a .message .now) (a .t2) in
+    let i = c .before .before .before .before .before .loop .i in
+    let octet = c .before .before .before .octet-at in
+    sym (some-at (falseRepeat t) _ i (omega arith) (false-late t i _ (told-repeat (a .message .now) (getD (a .t2) i 0) _ (octet .ensures) (c .before .before .if1 .taken)) (c .if3 .taken)))
 
-sub-named : tie.Need-sub-named Inv-loop μ-loop
-sub-named c = search needs
+sub-if4 : tie.Need-sub-if4 Inv-loop μ-loop
+sub-if4 c = search needs
 
-mul-named : tie.Need-mul-named Inv-loop μ-loop
-mul-named c = search needs
-
-array-copy-out-named : tie.Need-array-copy-out-named Inv-loop μ-loop
-array-copy-out-named c = search needs
-
-is-first-requires : tie.Need-is-first-requires Inv-loop μ-loop
-is-first-requires c κs = search needs
+array-read-if4 : tie.Need-array-read-if4 Inv-loop μ-loop
+array-read-if4 c = search needs
 
 returns-3 : tie.Need-returns-3 Inv-loop μ-loop
 returns-3 c =
-    let t = tellsOf (c .before .before .before .before .before .before .before .before .before .before .before .args .t1) in
-    let l = c .before .before .before .before .before .before .before .before .before .before .loop in
-    sym (some-at (falseRepeat t) _ (l .i) (omega arith) (false-other t (l .i) _ (ap toldOf (c .before .before .before .before .before .before .description .given .1)) (sym (c .before .is-first .ensures) ∙ not-true _ (c .if3 .taken))))
+    let s = c .before .before .before .before .before .before .before .before in
+    let a = s .args in
+    let t = toldBy (a .message .now) (a .t2) in
+    let i = c .before .before .before .before .before .before .loop .i in
+    let octet = c .before .before .before .before .octet-at in
+    sym
+    (some-at (falseRepeat t) _ i (omega arith)
+    (false-other t i _ (told-repeat (a .message .now) (getD (a .t2) i 0) _ (octet .ensures) (c .before .before .before .if1 .taken))
+    (sym (s .pre .1 (octet .result - 1) (omega arith)) ∙ not-true _ (c .if4 .taken))))
 
 add-i : tie.Need-add-i Inv-loop μ-loop
 add-i c = search needs
@@ -75,20 +78,24 @@ loop-less c = search needs
 
 loop-again : tie.Need-loop-again Inv-loop μ-loop
 loop-again c =
-    let t = tellsOf (c .before .before .before .before .args .t1) in
-    let l = c .before .before .before .loop in (
+    let s = c .before .before .before .before .before in
+    let a = s .args in
+    let t = toldBy (a .message .now) (a .t2) in
+    let l = c .before .before .before .loop in
+    let at = getD (a .t2) (l .i) 0 in
+    let octet = c .before .octet-at in (
       omega arith,
       below-more _ _ (l .inv .1)
           (⊎-elim
-          (λ w. true-repeat t (l .i) _ (ap toldOf (w .1 .given .1)) (w .3 .left) (w .4 .left) (sym (w .6 .ensures) ∙ not-false _ (w .7 .left)))
-          (λ w. no-repeat t (l .i) (getD (c .before .before .before .before .args .t1) (l .i) zeroed .description) refl (w .keys2))
-          (c .match .came)),
+          (λ w. true-repeat t (l .i) _ (told-repeat (a .message .now) at _ (octet .ensures) (w .0 .taken)) (w .1 .left) (w .2 .left) (sym (s .pre .1 (octet .result - 1) (omega arith)) ∙ not-false _ (w .3 .left)))
+          (λ w. no-repeat (a .message .now) at _ (octet .ensures) t (l .i) refl (w .left))
+          (c .if1 .came)),
     )
 
 returns-4 : tie.Need-returns-4 Inv-loop μ-loop
 returns-4 c =
-    let e : c .before .loop .i ≡ c .before .before .args .end = omega arith in
-    sym (some-none (falseRepeat (tellsOf (c .before .before .args .t1))) _ (rw e at (c .before .loop .inv .1)))
+    let e : c .before .loop .i ≡ c .before .before .before .args .end = omega arith in
+    sym (some-none (falseRepeat (toldBy (c .before .before .before .args .message .now) (c .before .before .before .args .t2))) _ (rw e at (c .before .loop .inv .1)))
 
 pub has-false-repeat-spec : {M : Type 1} → statement M
 has-false-repeat-spec =
@@ -97,16 +104,14 @@ has-false-repeat-spec =
     Inv-loop
     μ-loop
     loop-holds
-    mul-slot
-    array-copy-out-slot
-    enum-known-description
+    mul-at
+    array-read-at
+    octet-at-requires
     cast-n
     returns
     returns-2
-    sub-named
-    mul-named
-    array-copy-out-named
-    is-first-requires
+    sub-if4
+    array-read-if4
     returns-3
     add-i
     loop-less

@@ -1,5 +1,4 @@
 -- `schedule::told::step_at` meets its contract: the octet that is met decides the width, and the width whether it fits.
-use Prim.Native.Nat.{_+_}
 use native.Mathlib.Omega.{arith}
 use borrow.Author.Tests.{le-leb}
 use borrow.Author.Needs.{needs}
@@ -13,19 +12,19 @@ returns c =
     let a = c .before .before .args in
     step-is-past (a .message .now) (a .received) (a .at) (omega (arith, width-some (octet (a .message .now) (a .at))))
 
-shared-slice-read-octet : tie.Need-shared-slice-read-octet
-shared-slice-read-octet c = search needs
+shared-slice-read-if2 : tie.Need-shared-slice-read-if2
+shared-slice-read-if2 c = search needs
 
-short-description-requires : tie.Need-short-description-requires
-short-description-requires c κs = search needs
+told-at-requires : tie.Need-told-at-requires
+told-at-requires c κs = search needs
 
-add-t11 : tie.Need-add-t11
-add-t11 c = search needs
+add-t8 : tie.Need-add-t8
+add-t8 c = search needs
 
 returns-2 : tie.Need-returns-2
 returns-2 c =
     let a = c .before .before .before .before .before .args in
-    step-is-short (a .message .now) (a .received) (a .at) _ (omega arith) (omega arith) (c .short-description .ensures)
+    step-is-short (a .message .now) (a .received) (a .at) _ (c .before .if2 .taken) (omega arith) (c .told-at .ensures)
 
 add-if3 : tie.Need-add-if3
 add-if3 c = search needs
@@ -35,52 +34,28 @@ returns-3 c =
     let a = c .before .before .before .before .before .args in
     step-is-past (a .message .now) (a .received) (a .at) (simp (le-leb _ _ (c .before .if2 .left)) (omega arith))
 
-cast-high : tie.Need-cast-high
-cast-high c = omega (arith, c .before .before .shared-slice-known2 .given (c .before .before .before .before .before .args .at) .fits)
+told-at-requires-2 : tie.Need-told-at-requires-2
+told-at-requires-2 c κs = search needs
 
-sub-high : tie.Need-sub-high
-sub-high c = search needs
-
-add-low : tie.Need-add-low
-add-low c = search needs
-
-shared-slice-read-low : tie.Need-shared-slice-read-low
-shared-slice-read-low c = search needs
-
-cast-low : tie.Need-cast-low
-cast-low c = omega (arith, c .shared-slice-known3 .given (c .before .before .before .before .before .before .args .at + 1) .fits)
-
-mul-t13 : tie.Need-mul-t13
-mul-t13 c = omega (arith, c .shared-slice-known3 .given (c .before .before .before .before .before .before .args .at) .fits)
-
-add-t15 : tie.Need-add-t15
-add-t15 c = omega (arith, c .shared-slice-known3 .given (c .before .before .before .before .before .before .args .at) .fits, c .shared-slice-known3 .given (c .before .before .before .before .before .before .args .at + 1) .fits)
-
-add-t12 : tie.Need-add-t12
-add-t12 c = search needs
+add-t9 : tie.Need-add-t9
+add-t9 c = search needs
 
 returns-4 : tie.Need-returns-4
 returns-4 c =
     let a = c .before .before .before .before .before .before .args in
-    step-is-long (a .message .now) (a .received) (a .at) (omega arith) (omega arith)
+    step-is-long (a .message .now) (a .received) (a .at) _ (c .before .before .if2 .left) (omega arith) (c .told-at2 .ensures)
 
 pub step-at-spec : {M : Type 1} → statement M
 step-at-spec =
     tie.close
     (tie.spec
     returns
-    shared-slice-read-octet
-    short-description-requires
-    add-t11
+    shared-slice-read-if2
+    told-at-requires
+    add-t8
     returns-2
     add-if3
     returns-3
-    cast-high
-    sub-high
-    add-low
-    shared-slice-read-low
-    cast-low
-    mul-t13
-    add-t15
-    add-t12
+    told-at-requires-2
+    add-t9
     returns-4)

@@ -1,0 +1,12 @@
+-- Laws of a function that has a way back, along lists.
+use mathlib.Core.Path.{_≡_, refl, sym, ap, _∙_}
+use mathlib.Core.List.{List, [], _∷_, map}
+
+module _ {A B : Type 0} (f : A → B) (g : B → A) (h : (x : A) → g (f x) ≡ x) where
+  -- what brings each element back brings the list back
+  map-back : (xs : List A) → map g (map f xs) ≡ xs
+  map-back [] = refl
+  map-back (x ∷ xs) = λ i. h x i ∷ map-back xs i
+
+  pub map-injective : (xs ys : List A) → map f xs ≡ map f ys → xs ≡ ys
+  map-injective xs ys e = sym (map-back xs) ∙ ap (map g) e ∙ map-back ys
