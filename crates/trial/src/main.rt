@@ -2,26 +2,29 @@
 //
 // Each argument names a file of results, one to a line, in the format of tests/second/README.md, "Stored results". An empty
 // line and one that starts with # hold no result.
-ghost use Prim.Native.Nat.{_<_};
-use fields::Verdict;
+mod fields;
+mod pages;
+mod pieces;
+mod tellings;
+mod told;
+
+ghost use mathlib.Core.Path.{_≡_};
+ghost use Prim.Native.Nat.{_≤_, _<_};
+ghost use lib.ListN.{length};
+ghost use Rattle.trial.specs.Within.{Within};
+use fields::UNREAD;
 use libc::STDOUT_FILENO;
 
-// A line has room for 4096 characters.
-const TOO_LONG: usize = 4097;
+// The most octets of a file.
+const FILE: usize = 262144;
 
 // The rows of the table: one for each letter, and one for lines and files that cannot be read.
 const ROWS: usize = 17;
 
-const UNREAD: usize = 16;
+const UNREAD_ROW: usize = 16;
 
 // The results tried in each row, and after them those that differ.
 const COUNTS: usize = 34;
-
-// A line as far as it is taken up: its number in its file, and its characters so far.
-struct Line {
-    number: u64,
-    length: usize,
-}
 
 fn main() {
     let mut counts = [0u64; COUNTS];
@@ -31,62 +34,29 @@ fn main() {
         try_argument(i, &mut counts);
         i += 1;
     }
-    print_table(&counts);
-}
-
-fn print_table(counts: &[u64; COUNTS]) {
     print(b"what tried differ\n");
-    print_row(b"starts", 0, counts);
-    print_row(b"pieces", 1, counts);
-    print_row(b"sequences", 2, counts);
-    print_row(b"pages", 3, counts);
-    print_row(b"blocks", 4, counts);
-    print_row(b"texts-written", 5, counts);
-    print_row(b"texts-read", 6, counts);
-    print_row(b"contents", 7, counts);
-    print_row(b"packings", 8, counts);
-    print_row(b"alphabet", 9, counts);
-    print_row(b"schedules", 10, counts);
-    print_row(b"descriptions", 11, counts);
-    print_row(b"plans", 12, counts);
-    print_row(b"messages", 13, counts);
-    print_row(b"checks", 14, counts);
-    print_row(b"decisions", 15, counts);
-    print_row(b"unread", UNREAD, counts);
+    print_rows(
+        b"starts pieces sequences pages blocks texts-written texts-read contents packings alphabet schedules descriptions plans messages checks decisions unread ",
+        &counts,
+    );
 }
 
-// The row of a letter.
-fn row_of(letter: u8) -> usize
-    ensures { λ r. ⌜ r < 17 ⌝ }
-{
-    match letter {
-        b'N' => 0,
-        b'I' => 1,
-        b'Q' => 2,
-        b'V' => 3,
-        b'B' => 4,
-        b'T' => 5,
-        b'R' => 6,
-        b'C' => 7,
-        b'X' => 8,
-        b'A' => 9,
-        b'S' => 10,
-        b'G' => 11,
-        b'P' => 12,
-        b'W' => 13,
-        b'K' => 14,
-        b'D' => 15,
-        _ => UNREAD,
+// Prints the table's rows, each with its name.
+fn print_rows(names: &[u8], counts: &[u64; COUNTS]) {
+    let mut at = 0;
+    let mut row = 0;
+    while row < ROWS {
+        let end = bytes::scan::find(names, at, names.len(), b' ');
+        print(&names[at..end]);
+        print_number(counts[row]);
+        print_number(counts[ROWS + row]);
+        print(b"\n");
+        if end == names.len() {
+            return;
+        }
+        at = end + 1;
+        row += 1;
     }
-}
-
-fn print_row(what: &[u8], row: usize, counts: &[u64; COUNTS])
-    requires { do ⌜ row < (← ⟦ROWS⟧) ⌝ }
-{
-    print(what);
-    print_number(counts[row]);
-    print_number(counts[ROWS + row]);
-    print(b"\n");
 }
 
 // A space and a number.
@@ -103,128 +73,96 @@ fn print(text: &[u8]) {
     }
 }
 
-// Tries the file that an argument names. One that cannot be read is a difference.
+// Tries the file that an argument names.
 fn try_argument(i: usize, counts: &mut [u64; COUNTS]) {
     let mut name = io::buffer();
     let count = os::arg(i, &mut name);
-    let file = os::open_read(&name[..count]);
+    let mut text = file_room();
+    let length = read_file(&name[..count], &mut text);
+    try_lines(&name[..count], &text[..length], counts);
+}
+
+fn file_room() -> [u8; FILE]
+    ensures { λ r. ⌜ 262144 ≡ length r ⌝ }
+{
+    [0; FILE]
+}
+
+// Reads a file, and answers how much of it there is: nothing, where it cannot be read or does not fit.
+fn read_file(name: &[u8], room: &mut [u8]) -> usize
+    ensures { λ r. ⌜ Within r (now (room .exit)) ⌝ }
+{
+    let file = os::open_read(name);
     if file < 0 {
-        os::fail(&name[..count]);
-        count_in(UNREAD, false, counts);
-        return;
+        os::fail(name);
+        return 0;
     }
-    try_file(&name[..count], file, counts);
+    let count = io::read_full(file, room);
     libc::close(file);
+    if count == room.len() {
+        return 0;
+    }
+    count
 }
 
-// Tries a file to its end. Nothing says that a file ends, so the reads are counted down from a number that no file
-// uses up.
-fn try_file(name: &[u8], file: i32, counts: &mut [u64; COUNTS]) {
-    let mut text = io::large_buffer();
-    let mut characters = io::buffer();
-    let mut line = Line {
-        number: 1,
-        length: 0,
-    };
-    let mut turns = u64::MAX;
-    while turns > 0 {
-        let got = libc::read(file, &mut text);
-        if got < 0 {
-            os::fail(name);
-            count_in(UNREAD, false, counts);
+// Tries each line, and tells of those that differ; of a file with nothing in it as if it had a line 0.
+fn try_lines(name: &[u8], text: &[u8], counts: &mut [u64; COUNTS]) {
+    if text.len() == 0 {
+        count_in(UNREAD_ROW, false, counts);
+        tell(name, 0);
+    }
+    let mut number: u64 = 1;
+    let mut at = 0;
+    while at < text.len() {
+        let end = bytes::scan::find(text, at, text.len(), b'\n');
+        if !try_line(&text[at..end], counts) {
+            tell(name, number);
+        }
+        if end == text.len() {
             return;
         }
-        let count = io::count(got, &text);
-        if count == 0 {
-            end_line(line, name, &characters, counts);
-            return;
-        }
-        line = try_text(line, name, &text[..count], &mut characters, counts);
-        turns -= 1;
+        at = end + 1;
+        number = std::num::wrapping_add_u64(number, 1);
     }
 }
 
-// Tries the lines that a piece of a file ends, and keeps the beginning of the next.
-fn try_text(
-    line: Line,
-    name: &[u8],
-    text: &[u8],
-    characters: &mut [u8],
-    counts: &mut [u64; COUNTS],
-) -> Line {
-    let mut next = line;
-    let mut i = 0;
-    while i < text.len() {
-        next = take_up(next, name, text[i], characters, counts);
-        i += 1;
-    }
-    next
+// Tells of a line that differs.
+fn tell(name: &[u8], number: u64) {
+    print(name);
+    print_number(number);
+    print(b"\n");
 }
 
-// Takes up a character: the line's end, or one more of the line.
-fn take_up(
-    line: Line,
-    name: &[u8],
-    character: u8,
-    characters: &mut [u8],
-    counts: &mut [u64; COUNTS],
-) -> Line {
-    if character == b'\n' {
-        return end_line(line, name, characters, counts);
-    }
-    let length = line.length;
-    if length < characters.len() {
-        characters[length] = character;
-        return Line {
-            number: line.number,
-            length: length + 1,
-        };
-    }
-    Line {
-        number: line.number,
-        length: TOO_LONG,
-    }
-}
-
-// Tries a whole line, tells of a difference, and goes on to the next line.
-fn end_line(line: Line, name: &[u8], characters: &[u8], counts: &mut [u64; COUNTS]) -> Line {
-    if !try_line(line.length, characters, counts) {
-        print(name);
-        print_number(line.number);
-        print(b"\n");
-    }
-    Line {
-        number: more(line.number),
-        length: 0,
-    }
-}
-
-// Tries a line of some length, and answers whether nothing differs.
-fn try_line(length: usize, characters: &[u8], counts: &mut [u64; COUNTS]) -> bool {
-    if length > characters.len() {
-        return count_in(UNREAD, false, counts);
-    }
-    if length == 0 {
+// Tries a line, and answers whether nothing differs. A line is right only where it is told to its end.
+fn try_line(line: &[u8], counts: &mut [u64; COUNTS]) -> bool {
+    if line.len() == 0 {
         return true;
     }
-    let letter = characters[0];
+    let letter = line[0];
     if letter == b'#' {
         return true;
     }
-    let verdict = verdict_of(letter, &characters[..length]);
-    match verdict {
-        Verdict::Right => count_in(row_of(letter), true, counts),
-        Verdict::Differs => count_in(row_of(letter), false, counts),
-        Verdict::Unread => count_in(UNREAD, false, counts),
+    let end = told_by(letter, line);
+    if end == UNREAD {
+        return count_in(UNREAD_ROW, false, counts);
     }
+    count_in(row_of(letter), end == line.len(), counts)
 }
 
-fn verdict_of(letter: u8, line: &[u8]) -> Verdict {
+// The row of a letter.
+fn row_of(letter: u8) -> usize
+    ensures { λ r. ⌜ r ≤ 16 ⌝ }
+{
+    bytes::scan::find(b"NIQVBTRCXASGPWKD", 0, 16, letter)
+}
+
+// How far a line is told by the call of its letter.
+fn told_by(letter: u8, line: &[u8]) -> usize {
     match letter {
         b'N' => pieces::start(line),
         b'I' => pieces::intake(line),
         b'Q' => pieces::sequence(line),
-        b'V' => pages::completed(line),
+        b'V' => pieces::completed(line),
         b'B' => pages::blocks(line),
         b'T' => pages::writing(line),
         b'R' => pages::reading(line),
@@ -237,26 +175,24 @@ fn verdict_of(letter: u8, line: &[u8]) -> Verdict {
         b'W' => tellings::message(line),
         b'K' => tellings::check(line),
         b'D' => tellings::decision(line),
-        _ => Verdict::Unread,
+        _ => UNREAD,
     }
 }
 
 // Counts a result in its row of the table, and answers whether it is right.
 fn count_in(row: usize, right: bool, counts: &mut [u64; COUNTS]) -> bool
-    requires { do ⌜ row < (← ⟦ROWS⟧) ⌝ }
+    requires { ⌜ row ≤ 16 ⌝ }
 {
-    counts[row] = more(counts[row]);
+    count(row, counts);
     if right {
         return true;
     }
-    counts[ROWS + row] = more(counts[ROWS + row]);
+    count(ROWS + row, counts);
     false
 }
 
-// One more, up to a number that no file reaches.
-fn more(number: u64) -> u64 {
-    if number == u64::MAX {
-        return number;
-    }
-    number + 1
+fn count(at: usize, counts: &mut [u64; COUNTS])
+    requires { ⌜ at < 34 ⌝ }
+{
+    counts[at] = std::num::wrapping_add_u64(counts[at], 1);
 }

@@ -5,10 +5,10 @@ use Rattle.trial.proofs.main.Statement.{statement}
 use Rattle.trial.proofs.main.Tie as tie
 
 abbrev Inv-loop : tie.InvT-loop
-Inv-loop counts₀ count i₀ counts i = Unit {0}
+Inv-loop counts₀ count i₀ t4 t5 counts i = Unit {0}
 
 abbrev μ-loop : tie.MeasureT-loop
-μ-loop counts₀ count i₀ counts i = count - i
+μ-loop counts₀ count i₀ t4 t5 counts i = count - i
 
 arg-count-requires : tie.Need-arg-count-requires Inv-loop μ-loop
 arg-count-requires c κs = search needs
@@ -28,8 +28,17 @@ loop-less c = search needs
 loop-again : tie.Need-loop-again Inv-loop μ-loop
 loop-again c = search needs
 
-print-table-requires : tie.Need-print-table-requires Inv-loop μ-loop
-print-table-requires c κs = search needs
+slice-aggregate-print : tie.Need-slice-aggregate-print Inv-loop μ-loop
+slice-aggregate-print c = search needs
+
+print-requires : tie.Need-print-requires Inv-loop μ-loop
+print-requires c κs = search needs
+
+slice-aggregate-print-rows : tie.Need-slice-aggregate-print-rows Inv-loop μ-loop
+slice-aggregate-print-rows c = search needs
+
+print-rows-requires : tie.Need-print-rows-requires Inv-loop μ-loop
+print-rows-requires c κs = search needs
 
 returns : tie.Need-returns Inv-loop μ-loop
 returns c = search needs
@@ -46,5 +55,8 @@ main-spec =
     add-i
     loop-less
     loop-again
-    print-table-requires
+    slice-aggregate-print
+    print-requires
+    slice-aggregate-print-rows
+    print-rows-requires
     returns)

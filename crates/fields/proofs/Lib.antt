@@ -1,2 +1,0 @@
--- What `fields` proves.
-pub mod Rooms

@@ -1,2 +1,0 @@
--- What the contracts of `fields` cite.
-pub mod Within

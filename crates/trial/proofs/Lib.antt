@@ -1,0 +1,2 @@
+-- What `trial` proves.
+pub mod Rooms

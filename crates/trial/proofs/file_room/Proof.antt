@@ -1,0 +1,12 @@
+-- `trial::file_room` has its length, without counting it.
+use mathlib.Core.Path.{sym}
+use Prim.Native.Nat.{ℕ}
+use lib.ListN.{length-replicate}
+use Rattle.trial.proofs.file_room.Statement.{statement}
+use Rattle.trial.proofs.file_room.Tie as tie
+
+returns : tie.Need-returns
+returns c = sym (length-replicate {A = ℕ} 262144 0)
+
+pub file-room-spec : {M : Type 1} → statement M
+file-room-spec = tie.close (tie.spec returns)
