@@ -100,7 +100,10 @@ fn write(current: Plan, previous: Plan, begin: usize) {
                 os::fail(b"standard output");
             }
         }
-        Sent::Refused(refusal) => planfile::say_refused(b"cbwrite", b"", refusal),
+        Sent::Refused(refusal) => {
+            let mut line = [0u8; planfile::LINE];
+            planfile::say_refused(b"cbwrite", b"", refusal, &mut line);
+        }
     }
 }
 

@@ -5,6 +5,6 @@ use Prim.Native.Nat.{ℕ}
 use Rattle.lines.specs.Paper.{Left}
 use Rattle.planfile.specs.Refused.{allBehind, refused}
 
-pub determined-put-refused : (program about : List ℕ) (number n : ℕ) (t : List ℕ) (a b : Left) → a ≡ allBehind (refused program about number) n t
-    → b ≡ allBehind (refused program about number) n t → a ≡ b
-determined-put-refused program about number n t a b p q = p ∙ sym q
+pub determined-say-refused : (program about : List ℕ) (number : ℕ) (t : List ℕ) (a b : Left) → a ≡ allBehind (refused program about number) 0 t
+    → b ≡ allBehind (refused program about number) 0 t → a ≡ b
+determined-say-refused program about number t a b p q = p ∙ sym q

@@ -13,6 +13,9 @@ use libc::STDERR_FILENO;
 use plan::Plan;
 use plan::Verdict;
 
+// Room for the line of a refusal.
+pub const LINE: usize = 200;
+
 // What reading a file gave: so many octets before its end or that of the memory, or a fault.
 pub enum Filled {
     Octets(usize),
@@ -45,13 +48,7 @@ pub fn fill(fd: i32, memory: &mut [u8]) -> Filled
 }
 
 // Puts a line on a refusal: a program, the number, what it is about, and the words. Answers where it ends; a part that does not fit is left out.
-pub fn put_refused(
-    program: &[u8],
-    about: &[u8],
-    refusal: Refusal,
-    text: &mut [u8],
-    at: usize,
-) -> usize
+fn put_refused(program: &[u8], about: &[u8], refusal: Refusal, text: &mut [u8], at: usize) -> usize
     ensures { λ r. ⌜ record { end = r; text = now (text .exit) } ≡ allBehind (refused (now (program .entry)) (now (about .entry)) (numberOf refusal)) at (now (text .entry)) ⌝ }
 {
     let named = lines::put(program, text, at);
@@ -69,11 +66,13 @@ fn put_number(number: u8, text: &mut [u8], at: usize) -> usize
     lines::put(b": ", text, ended)
 }
 
-// Says on standard error what refused something.
-pub fn say_refused(program: &[u8], about: &[u8], refusal: Refusal) {
-    let mut text = [0u8; 200];
-    let end = put_refused(program, about, refusal, &mut text, 0);
+// Says on standard error what refused something, in a line that is made in lent memory. Answers the line's length.
+pub fn say_refused(program: &[u8], about: &[u8], refusal: Refusal, text: &mut [u8]) -> usize
+    ensures { λ r. ⌜ record { end = r; text = now (text .exit) } ≡ allBehind (refused (now (program .entry)) (now (about .entry)) (numberOf refusal)) 0 (now (text .entry)) ⌝ }
+{
+    let end = put_refused(program, about, refusal, text, 0);
     io::write_all(STDERR_FILENO, &text[..end]);
+    end
 }
 
 fn none_taken() -> Taken
@@ -95,7 +94,8 @@ fn take_octets(program: &[u8], about: &[u8], file: &[u8]) -> Taken
     match verdict {
         Verdict::Good => Taken { good: true, plan },
         Verdict::Refused(refusal) => {
-            say_refused(program, about, refusal);
+            let mut line = [0u8; LINE];
+            say_refused(program, about, refusal, &mut line);
             Taken { good: false, plan }
         }
     }

@@ -199,7 +199,8 @@ fn given_of(known: bool, message: &[u8], received: usize) -> Schedule
     }
 }
 
-// The identifiers that are wanted by value: the first 64, and how many there are.
+// The identifiers that are wanted by value: the first 64, and how many there are. That is made here once more, since what the
+// call makes of its list is what is tried.
 fn wanted_of(list: &[u16]) -> Wanted {
     let mut ids = [MessageId(0); WANTED];
     let mut i = 0;

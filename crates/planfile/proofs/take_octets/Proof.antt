@@ -13,6 +13,9 @@ enum-told c = search needs
 enum-known-verdict : tie.Need-enum-known-verdict
 enum-known-verdict c = search needs
 
+slice-aggregate-say-refused : tie.Need-slice-aggregate-say-refused
+slice-aggregate-say-refused c = search needs
+
 say-refused-requires : tie.Need-say-refused-requires
 say-refused-requires c κs = search needs
 
@@ -20,7 +23,10 @@ returns : tie.Need-returns
 returns c = let r = c .before .before .before .read-plan in takes-good _ (r .result) (r .ensures) (c .enum-told .given .1)
 
 returns-2 : tie.Need-returns-2
-returns-2 c = let r = c .before .before .before .before .before .read-plan in takes-refused _ (r .result) (r .ensures) _ (c .before .before .verdict .given .1)
+returns-2 c =
+    let v = c .before .before .before .before in
+    let r = v .before .before .before .read-plan in
+    takes-refused _ (r .result) (r .ensures) _ (v .verdict .given .1)
 
 pub take-octets-spec : {M : Type 1} → statement M
 take-octets-spec =
@@ -29,6 +35,7 @@ take-octets-spec =
     read-plan-requires
     enum-told
     enum-known-verdict
+    slice-aggregate-say-refused
     say-refused-requires
     returns
     returns-2)
