@@ -1,20 +1,30 @@
 -- What a call packs into one number is taken out of it again as the header's macros do it: nothing runs into its neighbour.
 use mathlib.Core.Path.{_≡_, refl, ap}
-use mathlib.Core.Bool.{Bool, true, false, _&&_}
+use mathlib.Core.Bool.{Bool, true, false, cond, not, _&&_}
 use mathlib.Core.List.{List, [], _∷_}
 use mathlib.Core.Logic.{inl, inr}
 use Prim.Native.Nat.{ℕ, _+_, _*_, _/_, _%_, _≤_, _<_}
 use native.Mathlib.Omega.{arith}
-use lib.Dec.{lit<, ltb}
-use borrow.Author.Tests.{ltb-true}
+use lib.Dec.{lit<, eqb, leb, ltb}
+use lib.ListN.{length}
+use borrow.Author.Tests.{ltb-true, lt-ltb}
 use Rattle.laws.specs.Ruled.{ruled}
+use Rattle.laws.specs.Search.{some}
+use Rattle.laws.specs.Upto.{lowest}
 use Rattle.laws.proofs.Ruled.{Among, Ruling, refuses, passes, ruling}
 use Rattle.laws.proofs.Tests.{both}
+use Rattle.block.specs.Paper.{refusal as refused, step}
+use Rattle.history.proofs.History.{number-small}
+use Rattle.firmware.specs.Paper.{heldIn, moved, intakeCall}
 use Rattle.page.specs.Paper.{Heading}
-use Rattle.plan.specs.Paper.{Read as PlanRead, held, listed, faults as planFaults, refusal as planRefusal, readPlan}
+use Rattle.plan.specs.Paper.{Plan, within, bad, planNumber, Read as PlanRead, held, listed, faults as planFaults, refusal as planRefusal, readPlan}
 use Rattle.schedule.specs.Paper.{end, faults, Read, unread, good, read, Shown, Given, next, noMore, refusal, givenAt, given}
 use Rattle.text.specs.Paper.{Writing, written, writerTests, usedOctets, pageOf, Reading, reading, readerTests, shown, trimmed, received}
-use Rattle.capi.specs.Paper.{bitOf, codeOf, packedGiven, writeCall, readCall, scheduleCall, descriptionCall, planCall}
+use Rattle.sender.specs.Paper as sender
+use Rattle.checker.specs.Paper as checker
+use Rattle.board.specs.Paper.{Wanted, Schedule, Decided, undecided, reads, decide}
+use Rattle.capi.specs.Paper.{bitOf, codeOf, packedGiven, writeCall, readCall, scheduleCall, descriptionCall, planCall, fileFaults, writtenFrom, writeScheduleCall, checkedBeside, checkScheduleCall, decidedFor, decideCall}
+use Rattle.unpacked.specs.Answered.{answeredCall}
 use Rattle.capi.proofs.Scheduled.{bit-byte, bit-small, ends-small, slot-small, slotNumber}
 
 -- the numbers of some tests fit eight bits
@@ -84,6 +94,34 @@ given-fits m n k = ruled-fitting refusalNumber refusal (faults m n) (givenAt m k
     none true e = rw e (lit< tt)
     none false e = rw e (lit< tt)
 
+plan-number-fits : (p : Plan) → planNumber p < 256
+unfolding planNumber
+plan-number-fits p =
+    ruled-fitting (λ (n : ℕ). n) (λ (n : ℕ). n) ((ltb 48 (p .count), 32) ∷ (some bad (within p), 33) ∷ []) 0 (λ n l. l) refl (lit< tt)
+
+module _ (c p : Plan) where
+  message-fits : (b : ℕ) (o : List ℕ) → sender.write c p b o .number < 256
+  unfolding sender.write
+  message-fits b o =
+      ruled-fitting (λ (w : sender.Writing). w .number) (sender.unwritten o) (sender.faults c p b o) (sender.message c p b) (λ n l. l)
+      (rw (lt-ltb (planNumber c) 256 (plan-number-fits c), lt-ltb (planNumber p) 256 (plan-number-fits p)))
+      (lit< tt)
+
+  verdict-fits : (m : List ℕ) → checker.verdict c p m .number < 256
+  verdict-fits m = go (eqb (end m) (c .count)) (eqb (lowest (checker.untrue c p m) (c .count)) 0) (lowest (checker.untrue c p m) (c .count))
+    where
+      go : (s t : Bool) (i : ℕ) → cond s (cond t (checker.unchecked 0) (checker.untrueAt i)) (checker.untrueAt 0) .number < 256
+      go true true i = lit< tt
+      go true false i = lit< tt
+      go false t i = lit< tt
+
+  check-fits : (m : List ℕ) (n : ℕ) → checker.check c p m n .number < 256
+  unfolding checker.check
+  check-fits m n =
+      ruled-fitting (λ (x : checker.Checked). x .number) checker.unchecked (checker.faults c p m n) (checker.verdict c p m) (λ n l. l)
+      (rw (lt-ltb (planNumber c) 256 (plan-number-fits c), lt-ltb (planNumber p) 256 (plan-number-fits p), lt-ltb (read m n .number) 256 (read-fits m n)))
+      (verdict-fits m)
+
 pub unpacked-write-text : (h : Heading) (t p : List ℕ)
     → (writeCall h t p .returned % 256 ≡ written h t p .number) × (writeCall h t p .returned / 256 ≡ written h t p .used)
 unpacked-write-text h t p = apart (written h t p .number) (written h t p .used) (written-fits h t p)
@@ -114,3 +152,46 @@ module _ (m : List ℕ) (n : ℕ) where
   unpacked-refusal k r g =
       let few : r < 256 = omega (arith, given-fits m n k, ap refusalNumber g) in
       rw (ap packedGiven g) (omega arith, omega arith)
+
+module _ (c p : List ℕ) where
+  -- the numbers of two plan files
+  files-fit : fitting (fileFaults c p) ≡ true
+  files-fit = rw (lt-ltb (readPlan c .number) 256 (plan-fits c), lt-ltb (readPlan p .number) 256 (plan-fits p))
+
+  pub unpacked-write-schedule : (b : ℕ) (o : List ℕ)
+      → (writeScheduleCall c p b o .returned % 256 ≡ writtenFrom c p b o .number) × (writeScheduleCall c p b o .returned / 256 ≡ writtenFrom c p b o .used)
+  unpacked-write-schedule b o =
+      apart (writtenFrom c p b o .number) (writtenFrom c p b o .used)
+      (ruled-fitting (λ (w : sender.Writing). w .number) (sender.unwritten o) ((not (eqb (length o) 88), 15) ∷ fileFaults c p) (sender.write (readPlan c .plan) (readPlan p .plan) b o) (λ n l. l) files-fit
+      (message-fits (readPlan c .plan) (readPlan p .plan) b o))
+
+  pub unpacked-check-schedule : (m : List ℕ) (n : ℕ)
+      → (checkScheduleCall c p m n % 256 ≡ checkedBeside c p m n .number) × (checkScheduleCall c p m n / 256 ≡ checkedBeside c p m n .slot)
+  unpacked-check-schedule m n =
+      apart (checkedBeside c p m n .number) (checkedBeside c p m n .slot)
+      (ruled-fitting (λ (x : checker.Checked). x .number) checker.unchecked (fileFaults c p) (checker.check (readPlan c .plan) (readPlan p .plan) m n) (λ n l. l) files-fit
+      (check-fits (readPlan c .plan) (readPlan p .plan) m n))
+
+decide-fits : (s : Schedule) (n : ℕ) (w : Wanted) (h : ℕ) → decide s n w h .number < 256
+unfolding decide
+decide-fits s n w h =
+    ruled-fitting (λ (d : Decided). d .number) undecided ((not (leb 1 n && leb n 48), 41) ∷ (ltb 64 (w .count), 42) ∷ [])
+    (record { number = 0; read = reads s n w h }) (λ n l. l) refl (lit< tt)
+
+pub unpacked-decide : (known : Bool) (m : List ℕ) (n slot : ℕ) (wanted : List ℕ) (held : ℕ)
+    → (decideCall known m n slot wanted held % 256 ≡ decidedFor known m n slot wanted held .number) × (decideCall known m n slot wanted held / 256 ≡ bitOf (decidedFor known m n slot wanted held .read))
+unpacked-decide known m n slot wanted held =
+    apart (decidedFor known m n slot wanted held .number) (bitOf (decidedFor known m n slot wanted held .read))
+    (decide-fits (record { known = known; message = m; received = n }) slot (record { count = length wanted; ids = wanted }) held)
+
+pub unpacked-intake : (s p o : List ℕ)
+    → (intakeCall s p o .returned % 256 ≡ answeredCall s p o .number) × (intakeCall s p o .returned / 256 ≡ answeredCall s p o .received)
+unfolding intakeCall
+unpacked-intake s p o = go (not (eqb (length o) 88)) (not (eqb (length s) 90))
+  where
+    go : (t u : Bool)
+        → (ruled (λ (n : ℕ). record { returned = n; state = s; output = o }) ((t, 15) ∷ (u, 8) ∷ []) (moved (step (heldIn s) p) o) .returned % 256 ≡ ruled refused ((t, 15) ∷ (u, 8) ∷ []) (step (heldIn s) p) .number)
+        × (ruled (λ (n : ℕ). record { returned = n; state = s; output = o }) ((t, 15) ∷ (u, 8) ∷ []) (moved (step (heldIn s) p) o) .returned / 256 ≡ ruled refused ((t, 15) ∷ (u, 8) ∷ []) (step (heldIn s) p) .received)
+    go true u = (refl, refl)
+    go false true = (refl, refl)
+    go false false = apart (step (heldIn s) p .number) (step (heldIn s) p .received) (omega (arith, number-small (heldIn s) p))

@@ -1,1 +1,2 @@
--- What `unpacked` states: nothing beside its theorems.
+-- What `unpacked` defines.
+pub mod Answered
