@@ -1,0 +1,2 @@
+-- What `called` proves.
+pub mod Called

@@ -1,0 +1,2 @@
+-- What `called` defines.
+pub mod Claims

@@ -1,0 +1,1 @@
+// Demand 3 over the calls for C. No functions.
