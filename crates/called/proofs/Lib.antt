@@ -1,2 +1,3 @@
 -- What `called` proves.
 pub mod Called
+pub mod Example
