@@ -1,9 +1,9 @@
 -- Laws of a set of slots held: case by case, and what entering a slot does to it.
 use mathlib.Core.Path.{_≡_, refl, sym, ap, _∙_}
-use mathlib.Core.Bool.{Bool, true, false}
+use mathlib.Core.Bool.{Bool, true, false, _&&_, and-false}
 use mathlib.Core.Logic.{_⊎_, inl, inr, ⊎-elim}
 use Prim.Native.Nat.{ℕ, _+_, _*_, _-_, _/_, _%_, _^_, _≤_, _<_}
-use native.Mathlib.Nat.{eq-or-lt-of-le, one-mul}
+use native.Mathlib.Nat.{eq-or-lt-of-le, one-mul, zero-div}
 use native.Mathlib.Omega.{arith}
 use lib.Dec.{eqb, leb, lit<}
 use lib.Pow.{shl-exact}
@@ -61,6 +61,11 @@ module _ (h n : ℕ) where
   clear s e =
       let off = eqb-false (h / 2 ^ (n - 1) % 2) 1 (sym (held-bit s) ∙ e) in
       omega arith
+
+-- the empty set holds no slot
+pub held-none : (n : ℕ) → isHeld 0 n ≡ false
+unfolding isHeld
+held-none n = rw (zero-div (2 ^ (n - 1))) (and-false (leb 1 n && leb n 48))
 
 -- a number is that of a slot, or entering it does nothing
 slot-or-not : (n : ℕ) → Slot n ⊎ ((n < 1) ⊎ (48 < n))

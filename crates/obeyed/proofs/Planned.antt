@@ -1,8 +1,8 @@
 -- What a truthful message tells of a slot, seen from what it tells: which slots of the plan can be told so.
-use mathlib.Core.Path.{_≡_}
+use mathlib.Core.Path.{_≡_, _∙_}
 use mathlib.Core.List.{List}
 use mathlib.Core.Logic.{_⊎_, ⊎-elim}
-use Prim.Native.Nat.{ℕ, suc, _≤_, _<_}
+use Prim.Native.Nat.{ℕ, suc, _-_, _≤_, _<_}
 use native.Mathlib.Nat.{eq-or-lt-of-le, le-of-suc-le-suc}
 use native.Mathlib.Omega.{arith}
 use Rattle.schedule.specs.Paper.{first, again, optional, advised, tells, shown}
@@ -10,6 +10,13 @@ use Rattle.plan.specs.Paper.{Plan, entryAt, lowestAt, low15At}
 use Rattle.plan.proofs.Lowest.{leading}
 use Rattle.truth.specs.Truthful.{TrueAt, Truthful}
 use Rattle.plan.proofs.GoodPlan.{kind-few}
+use Rattle.obeyed.specs.Claims.{LowestSlot}
+
+-- the lowest slot with the page of slot i
+pub leads : (c : Plan) (i : ℕ) → i < c .count → entryAt c i .kind ≡ 2 → LowestSlot c (lowestAt c i - 1)
+leads c i l k =
+    let a = leading c i l k in
+    record { below = omega (arith, a .some, a .reaches); page = a .page; own = a .own ∙ (omega (arith, a .some)) }
 
 -- a slot by its plan, with what may be told of it
 pub data Planned (c : Plan) (m : List ℕ) (i : ℕ) : Type 0 where

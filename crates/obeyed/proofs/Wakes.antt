@@ -7,15 +7,16 @@ use Prim.Native.Nat.{ℕ, suc, _-_, _%_, _≤_, _<_}
 use native.Mathlib.Omega.{arith}
 use borrow.Author.Tests.{eq-eqb, le-leb, not-true}
 use Rattle.laws.proofs.Tests.{both}
-use Rattle.schedule.specs.Paper.{first, optional, tells, end, read}
+use Rattle.schedule.specs.Paper.{first, again, optional, isFirst, tells, end, read}
+use Rattle.schedule.proofs.Repeats.{false-other}
 use Rattle.plan.specs.Paper.{Plan, entryAt, lowestAt, low15At}
 use Rattle.plan.proofs.Lowest.{leading}
 use Rattle.truth.specs.Truthful.{Truthful}
 use Rattle.board.specs.Paper.{Wanted, isWanted, isHeld, firstMatches, readsFor, tellsOf, decide, enteredUnder, entryFor}
 use Rattle.obeyed.specs.Claims.{obeyed, Wakes, Why, marked, led, repeated, WakesOnly}
 use Rattle.board.proofs.Cases.{decide-reads, reads-told, entered-told}
-use Rattle.board.proofs.Matching.{low15-wanted, wanted-matches}
-use Rattle.obeyed.proofs.Planned.{Planned, free-slot, advised-slot, lowest-slot, later-slot, planned}
+use Rattle.board.proofs.Matching.{low15-wanted}
+use Rattle.obeyed.proofs.Planned.{Planned, free-slot, advised-slot, lowest-slot, later-slot, planned, leads}
 use Rattle.board.proofs.Sets.{Slot}
 use Rattle.board.proofs.Telling.{is-read}
 
@@ -34,15 +35,23 @@ module _ (c p : Plan) (m : List ℕ) (received : ℕ) (t : Truthful c p m receiv
   own : (i : ℕ) → suc i - 1 ≡ i
   own i = omega arith
 
-  -- a page of the lowest slot with it is entered under that slot
-  pub entered-own : (i : ℕ) → i < c .count → entryAt c i .kind ≡ 2 → lowestAt c i ≡ suc i → enteredUnder (obeyed m received) (suc i) ≡ suc i
-  entered-own i l k o =
-      entered-told (obeyed m received) (suc i) (tells-slot i l)
-      ∙ ap (λ (j : ℕ). entryFor (suc i) (tells m j)) (own i)
-      ∙ ⊎-elim (λ e. ap (entryFor (suc i)) e) (λ e. ap (entryFor (suc i)) e) (t .slots i l .lowest-slot k o)
+  -- where a page is entered, by what is told of its slot
+  pub entered-for : (i : ℕ) → i < c .count → enteredUnder (obeyed m received) (suc i) ≡ entryFor (suc i) (tells m i)
+  entered-for i l = entered-told (obeyed m received) (suc i) (tells-slot i l) ∙ ap (λ (j : ℕ). entryFor (suc i) (tells m j)) (own i)
+
+  -- a repeat names a first transmission with the low 15 bits of its page
+  pub repeat-first : (i : ℕ) → i < c .count → entryAt c i .kind ≡ 2 → tells m i ≡ again (lowestAt c i) → tells m (lowestAt c i - 1) ≡ first (low15At c i)
+  repeat-first i l k e =
+      let a = leads c i l k in
+      let near : i < end m = omega (arith, t .ends) in
+      ⊎-elim
+      (λ f. f ∙ ap (λ (x : ℕ). first (x % 32768)) (leading c i l k .id))
+      (λ s.
+      absurd (false≢true (sym (is-read m received (t .reads) .repeats i near) ∙ false-other (tells m) i (lowestAt c i) e (ap isFirst s))))
+      (t .slots (lowestAt c i - 1) (a .below) .lowest-slot (a .page) (a .own))
 
   module _ (w : Wanted) (few : w .count ≤ 64) where
-    reads-for : (h i : ℕ) → i < c .count → decide (obeyed m received) (suc i) w h ≡ record { number = 0; read = readsFor (tells m) w h (tells m i) }
+    pub reads-for : (h i : ℕ) → i < c .count → decide (obeyed m received) (suc i) w h ≡ record { number = 0; read = readsFor (tells m) w h (tells m i) }
     reads-for h i l =
         let e = reads-told (obeyed m received) (suc i) w h (tells-slot i l) ∙ ap (λ (j : ℕ). readsFor (tells m) w h (tells m j)) (own i) in
         decide-reads (obeyed m received) (suc i) w h (slot-number i l) few ∙ (λ j. record { number = 0; read = e j })
@@ -50,39 +59,12 @@ module _ (c p : Plan) (m : List ℕ) (received : ℕ) (t : Truthful c p m receiv
     pub wakes-truthful : Wakes c m received w
     wakes-truthful h i q o =
         let told = t .slots i (q .below) .lowest-slot (q .page) o in
-        let wanted : isWanted w (low15At c i) ≡ true = low15-wanted w (entryAt c i .id) ∙ wanted-matches w (entryAt c i .id) (q .wanted) in
+        let wanted : isWanted w (low15At c i) ≡ true = low15-wanted w (entryAt c i .id) ∙ q .wanted in
         let e : readsFor (tells m) w h (tells m i) ≡ true =
         ⊎-elim (λ f. ap (readsFor (tells m) w h) f ∙ wanted) (λ a. ap (readsFor (tells m) w h) a) told in
         reads-for h i (q .below) ∙ (λ j. record { number = 0; read = e j })
 
-    -- why a repeat is read
-    module _ (h i : ℕ) (l : i < c .count) (k : entryAt c i .kind ≡ 2) where
-      lead : ℕ
-      lead = lowestAt c i - 1
-
-      -- the lowest slot, where it is told as a first transmission that matches
-      record Matches : Type 0 where
-        told : tells m lead ≡ first (low15At c i)
-        wanted : isWanted w (entryAt c i .id) ≡ true
-
-      matches : firstMatches w (tells m lead) ≡ true → Matches
-      unfolding lead
-      matches e =
-          let a = leading c i l k in
-          let below : lead < c .count = omega (arith, a .some, a .reaches) in
-          let number : lowestAt c lead ≡ suc lead = a .own ∙ (omega (arith, a .some)) in
-          ⊎-elim
-          (λ f.
-          let alike : low15At c lead ≡ low15At c i = ap (λ (x : ℕ). x % 32768) (a .id) in
-          record {
-            told = f ∙ ap first alike;
-            wanted = sym (low15-wanted w (entryAt c i .id)) ∙ ap (isWanted w) (sym alike) ∙ sym (ap (firstMatches w) f) ∙ e;
-          })
-          (λ s. absurd (false≢true (sym (ap (firstMatches w) s) ∙ e)))
-          (t .slots lead below .lowest-slot (a .page) number)
-
     pub wakes-only-truthful : WakesOnly c m received w
-    unfolding lead
     wakes-only-truthful h i l r = go (planned c p m received t i l)
       where
         reads : readsFor (tells m) w h (tells m i) ≡ true
@@ -98,7 +80,8 @@ module _ (c p : Plan) (m : List ℕ) (received : ℕ) (t : Truthful c p m receiv
         go (lowest-slot k o (inr e)) = marked e
         go (later-slot k o (inl e)) =
             let q = both (firstMatches w (tells m (lowestAt c i - 1))) (not (isHeld h (lowestAt c i))) (sym (ap (readsFor (tells m) w h) e) ∙ reads) in
-            let f = matches h i l k (q .0) in
-            repeated e k o (f .told) (f .wanted) (not-true (isHeld h (lowestAt c i)) (q .1))
+            let f = repeat-first i l k e in
+            let wanted : isWanted w (entryAt c i .id) ≡ true = sym (low15-wanted w (entryAt c i .id)) ∙ sym (ap (firstMatches w) f) ∙ q .0 in
+            repeated e k o f wanted (not-true (isHeld h (lowestAt c i)) (q .1))
         go (later-slot k o (inr (inl e))) = marked e
         go (later-slot k o (inr (inr e))) = absurd (skipped e)

@@ -1,6 +1,6 @@
 -- What is claimed of a board that obeys an accepted schedule. Slots are counted from 0 here, as in plans: slot i is number i + 1.
 use mathlib.Core.Path.{_≡_}
-use mathlib.Core.Bool.{true, false, cond}
+use mathlib.Core.Bool.{Bool, true, false, cond}
 use mathlib.Core.List.{List, [], _∷_}
 use Prim.Native.Nat.{ℕ, zero, suc, _-_, _≤_, _<_}
 use lib.ListN.{take}
@@ -8,7 +8,7 @@ use lib.Dec.{eqb}
 use Rattle.laws.specs.Search.{some}
 use Rattle.page.specs.Paper.{Name, samePage}
 use Rattle.plan.specs.Paper.{Plan, entryAt, pageAt, lowestAt, low15At}
-use Rattle.schedule.specs.Paper.{first, again, advised, tells}
+use Rattle.schedule.specs.Paper.{Told, first, again, optional, advised, tells}
 use Rattle.checker.specs.Paper.{check}
 use Rattle.board.specs.Paper.{Wanted, Schedule, isWanted, isHeld, enter, decide, enteredUnder}
 
@@ -21,8 +21,14 @@ pub record Obeys (c p : Plan) (m : List ℕ) (received : ℕ) (w : Wanted) : Typ
   pub accepted : check c p m received .number ≡ 0
   pub few : w .count ≤ 64
 
--- 01 The plan: slot i is planned with a page whose identifier is wanted, all 16 bits of it
+-- 01 Decision: slot i is planned with a page whose identifier matches a wanted one in 15 bits
 pub record WantedPage (c : Plan) (w : Wanted) (i : ℕ) : Type 0 where
+  pub below : i < c .count
+  pub page : entryAt c i .kind ≡ 2
+  pub wanted : isWanted w (entryAt c i .id) ≡ true
+
+-- 00 demand 3: slot i is planned with a page whose identifier is wanted, all 16 bits of it
+pub record WantedExactly (c : Plan) (w : Wanted) (i : ℕ) : Type 0 where
   pub below : i < c .count
   pub page : entryAt c i .kind ≡ 2
   pub wanted : some (λ (x : ℕ). eqb x (entryAt c i .id)) (take (w .count) (w .ids)) ≡ true
@@ -53,27 +59,104 @@ pub record Board : Type 0 where
   pub held : ℕ
   pub got : List Name
 
--- 01 Decision: a board that reads slot i, which goes out as planned, gets the page of that slot if one is planned, and enters it
+-- 01 Decision: a board with nothing held and nothing got
+abbrev pub fresh : Board
+fresh = record { held = 0; got = [] }
+
+-- 01 Decision: a board holds a slot, by its number
+abbrev pub Holds : Board → ℕ → Type 0
+Holds b n = isHeld (b .held) n ≡ true
+
+-- 01 Page and text: a page is among those that a board got
+abbrev pub Has : Board → Name → Type 0
+Has b x = some (samePage x) (b .got) ≡ true
+
+-- 01 Decision: a board gets the page planned for slot i, and enters it
+abbrev pub entering : Plan → List ℕ → ℕ → ℕ → Board → Board
+entering c m received i b = record { held = enter (b .held) (enteredUnder (obeyed m received) (suc i)); got = pageAt c i ∷ b .got }
+
+-- 01 Decision: a board that reads slot i, which goes out as planned, gets the page of that slot if one is planned
 abbrev pub getting : Plan → List ℕ → ℕ → ℕ → Board → Board
-getting c m received i b =
-    cond (eqb (entryAt c i .kind) 2)
-    (record { held = enter (b .held) (enteredUnder (obeyed m received) (suc i)); got = pageAt c i ∷ b .got })
-    b
+getting c m received i b = cond (eqb (entryAt c i .kind) 2) (entering c m received i b) b
 
 -- 01 Decision: slot i passes a board that obeys the message
 abbrev pub passing : Plan → List ℕ → ℕ → Wanted → ℕ → Board → Board
 passing c m received w i b =
     cond (decide (obeyed m received) (suc i) w (b .held) .read) (getting c m received i b) b
 
--- 01 Decision: a board after the first n slots of a period that it began with nothing held
-unfoldable pub after : Plan → List ℕ → ℕ → Wanted → ℕ → Board
-after c m received w zero = record { held = 0; got = [] }
-after c m received w (suc n) = passing c m received w n (after c m received w n)
+-- 00 demand 3: a board b after the first n slots of a period. A slot that is lost to its radio gives it nothing, whether it reads or not
+unfoldable pub after : Plan → List ℕ → ℕ → Wanted → (ℕ → Bool) → Board → ℕ → Board
+after c m received w lost b zero = b
+after c m received w lost b (suc n) =
+    cond (lost n) (after c m received w lost b n) (passing c m received w n (after c m received w lost b n))
 
--- 00 demand 3: at the end of the period the board has every wanted page of the plan, and holds its lowest slot
+-- 00 demand 3: and at the end of the period, after all slots of the plan
+abbrev pub ended : Plan → List ℕ → ℕ → Wanted → (ℕ → Bool) → Board → Board
+ended c m received w lost b = after c m received w lost b (c .count)
+
+-- 01 Truthful: slot i is the lowest with its page
+pub record LowestSlot (c : Plan) (i : ℕ) : Type 0 where
+  pub below : i < c .count
+  pub page : entryAt c i .kind ≡ 2
+  pub own : lowestAt c i ≡ suc i
+
+-- 01 Decision: the held set is true of the board: where it holds the lowest slot of a page, it has that page
+abbrev pub HeldTruly : Plan → Board → Type 0
+HeldTruly c b = (i : ℕ) → LowestSlot c i → Holds b (suc i) → Has b (pageAt c i)
+
+-- 01 Schedule message: a description that names a page: a first transmission or a repeat
+abbrev pub namesPage : Told → Bool
+namesPage (first x) = true
+namesPage (again n) = true
+namesPage optional = false
+namesPage advised = false
+
+-- 01 Decision: a description that a board may read for: a first transmission, a repeat or advised
+abbrev pub callsFor : Told → Bool
+callsFor (first x) = true
+callsFor (again n) = true
+callsFor optional = false
+callsFor advised = true
+
+-- 00 demand 3: what the period leaves a board b with, of a wanted page that it heard in slot i
+pub record Leaves (c : Plan) (m : List ℕ) (received : ℕ) (w : Wanted) (lost : ℕ → Bool) (b : Board) (i : ℕ) : Type 0 where
+  -- told as first, repeat or advised: the page
+  pub has : callsFor (tells m i) ≡ true → Has (ended c m received w lost b) (pageAt c i)
+  -- told as first or repeat: its lowest slot too
+  pub holds : namesPage (tells m i) ≡ true → Holds (ended c m received w lost b) (lowestAt c i)
+  -- and if i is that lowest slot, whatever is told of it
+  pub holds-own : lowestAt c i ≡ suc i → Holds (ended c m received w lost b) (lowestAt c i)
+
+-- 00 demand 3: a period on a radio that loses slots, begun with any held set that is true of the board
+abbrev pub PeriodWithLosses : Plan → List ℕ → ℕ → Wanted → Type 0
+PeriodWithLosses c m received w =
+    (lost : ℕ → Bool) (b : Board) → HeldTruly c b → (i : ℕ) → WantedPage c w i → lost i ≡ false → Leaves c m received w lost b i
+
+-- 00 demand 3: the held set is true of the board at the end too
+abbrev pub StaysTrue : Plan → List ℕ → ℕ → Wanted → Type 0
+StaysTrue c m received w = (lost : ℕ → Bool) (b : Board) → HeldTruly c b → HeldTruly c (ended c m received w lost b)
+
+-- 00 demand 3: a board b gets a page in slot i, told as first or repeat: the slot isn't lost, and the board reads it
+pub record GetsIn (c : Plan) (m : List ℕ) (received : ℕ) (w : Wanted) (lost : ℕ → Bool) (b : Board) (i : ℕ) : Type 0 where
+  pub page : entryAt c i .kind ≡ 2
+  pub named : namesPage (tells m i) ≡ true
+  pub heard : lost i ≡ false
+  pub reads : decide (obeyed m received) (suc i) w (after c m received w lost b i .held) .read ≡ true
+
+-- 00 demand 3: from then on the board skips every slot k that is told as a repeat of that page, whatever it held before and lost since
+abbrev pub ReadsOnce : Plan → List ℕ → ℕ → Wanted → Type 0
+ReadsOnce c m received w =
+    (lost : ℕ → Bool) (b : Board) (i k : ℕ) → GetsIn c m received w lost b i → i < k → k < c .count → tells m k ≡ again (lowestAt c i)
+    → decide (obeyed m received) (suc k) w (after c m received w lost b k .held) ≡ record { number = 0; read = false }
+
+-- 00 demand 3: a radio that loses no slot
+abbrev pub noneLost : ℕ → Bool
+noneLost i = false
+
+-- 00 demand 3: at the end of a period that it begins with nothing and loses nothing of, the board has every wanted page of the plan, and holds its lowest slot
 pub record Ends (c : Plan) (m : List ℕ) (received : ℕ) (w : Wanted) (i : ℕ) : Type 0 where
-  pub has : some (samePage (pageAt c i)) (after c m received w (c .count) .got) ≡ true
-  pub holds : isHeld (after c m received w (c .count) .held) (lowestAt c i) ≡ true
+  pub has : Has (ended c m received w noneLost fresh) (pageAt c i)
+  pub holds : Holds (ended c m received w noneLost fresh) (lowestAt c i)
 
 abbrev pub Period : Plan → List ℕ → ℕ → Wanted → Type 0
 Period c m received w = (i : ℕ) → WantedPage c w i → Ends c m received w i
