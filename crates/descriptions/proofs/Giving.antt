@@ -3,7 +3,7 @@ use mathlib.Core.Path.{_≡_, refl, sym, ap, _∙_}
 use mathlib.Core.Bool.{Bool, true, false, cond}
 use mathlib.Core.List.{List, map}
 use mathlib.Core.Logic.{_⊎_, inl, inr}
-use Prim.Native.Nat.{ℕ, _+_, _≤_, _<_}
+use Prim.Native.Nat.{ℕ, _+_, _≤_, _<_, _^_}
 use native.Mathlib.Omega.{arith}
 use lib.ListN.{length, getD, set, replicate, getD-replicate, length-map, length-set, List·getD-map}
 use lib.Seq.{ext-getD, getD-set-same, getD-set-other}
@@ -20,7 +20,7 @@ use Rattle.schedule.specs.Coded.{shownOf}
 use Rattle.schedule.specs.Parts.{zeroed}
 use Rattle.schedule.proofs.Header.{within-end}
 use Rattle.descriptions.specs.declared.Numbered.{Numbered as NumberedCode}
-use Rattle.descriptions.specs.Paper.{Numbered, nothing, entry, Ordered, unordered, inOrder, ordered}
+use Rattle.descriptions.specs.Paper.{Stepped, passed, stepped, Numbered, nothing, entry, Ordered, unordered, inOrder, ordered}
 use Rattle.descriptions.specs.Coded.{numberedOf}
 
 -- what is read past the end of an array, which never is
@@ -71,6 +71,23 @@ module _ (m : List ℕ) (received : ℕ) where
           (within-end m (not-false (within m) (h .1 .1 .1 .0)))
           (λ i. f Given refusal (givenAt m i))
           (f Ordered unordered (inOrder m))
+
+  -- a call at place k that gives g and passes n
+  module _ (k : ℕ) (g : Given) (n : ℕ) (gives : g ≡ given m received k) (passes : n ≡ passed g) where
+    -- a slot is given below End only, so the place past it has room
+    pub step-fits : k < 2 ^ 64 → k + n < 2 ^ 64
+    step-fits fits = rw (passes, gives) (go told)
+      where
+        room : end m ≤ 48 → (b : Bool) → ltb k (end m) ≡ b → k + passed (givenAt m k) < 2 ^ 64
+        room w true e = let low = ltb-true k (end m) e in rw e (omega arith)
+        room w false e = rw e (omega arith)
+
+        go : Told → k + passed (given m received k) < 2 ^ 64
+        go (refused j h o) = rw (h k) (omega arith)
+        go (whole w h o) = rw (h k) (room w (ltb k (end m)) refl)
+
+    pub step-made : _≡_ {A = Stepped} (record { given = g; place = k + n }) (stepped m received k)
+    step-made = let q = passes ∙ ap passed gives in λ i. record { given = gives i; place = k + q i }
 
   -- what stands at place i once k slots are given
   abbrev upTo : ℕ → ℕ → Numbered

@@ -2,8 +2,8 @@
 ghost use mathlib.Core.Path.{_≡_};
 ghost use Rattle.schedule.specs.Paper.{given};
 ghost use Rattle.schedule.specs.Coded.{givenOf};
-ghost use Rattle.descriptions.specs.Paper.{ordered};
-ghost use Rattle.descriptions.specs.Coded.{orderedOf};
+ghost use Rattle.descriptions.specs.Paper.{passed, stepped, ordered};
+ghost use Rattle.descriptions.specs.Coded.{steppedOf, orderedOf};
 use answer::Refusal;
 use schedule::Description;
 use schedule::Given;
@@ -30,6 +30,12 @@ pub struct Ordered {
     pub given: [Numbered; 48],
 }
 
+// What a call gives, and the place that it leaves.
+pub struct Stepped {
+    pub given: Given,
+    pub place: usize,
+}
+
 // The lent message, the octets received of it, and how many of its descriptions are given already.
 pub struct Descriptions<'a> {
     pub message: &'a [u8],
@@ -45,6 +51,28 @@ pub fn open<'a>(message: &'a [u8], received: usize) -> Descriptions<'a>
         message,
         received,
         place: 0,
+    }
+}
+
+// How many descriptions a call passes.
+fn passed(given: Given) -> usize
+    ensures { λ r. ⌜ r ≡ passed (givenOf given) ⌝ }
+{
+    match given {
+        Given::Next(_, _) => 1,
+        Given::NoMore => 0,
+        Given::Refused(_) => 0,
+    }
+}
+
+// What a call gives at a place, and the place that it leaves.
+fn step_at(message: &[u8], received: usize, place: usize) -> Stepped
+    ensures { λ r. ⌜ steppedOf r ≡ stepped (now (message .entry)) received place ⌝ }
+{
+    let given = schedule::description_at(message, received, place);
+    Stepped {
+        given,
+        place: place + passed(given),
     }
 }
 
