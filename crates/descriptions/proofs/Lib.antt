@@ -1,3 +1,4 @@
 -- What `descriptions` proves.
 pub mod Determined
+pub mod Stepping
 pub mod Giving

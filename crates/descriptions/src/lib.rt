@@ -1,9 +1,8 @@
 // The descriptions of a lent schedule message, given one after the other.
 ghost use mathlib.Core.Path.{_≡_};
-ghost use Rattle.schedule.specs.Paper.{given};
 ghost use Rattle.schedule.specs.Coded.{givenOf};
 ghost use Rattle.descriptions.specs.Paper.{passed, stepped, ordered};
-ghost use Rattle.descriptions.specs.Coded.{steppedOf, orderedOf};
+ghost use Rattle.descriptions.specs.Coded.{steppedOf, calledOf, called, orderedOf};
 use answer::Refusal;
 use schedule::Description;
 use schedule::Given;
@@ -67,7 +66,7 @@ fn passed(given: Given) -> usize
 
 // What a call gives at a place, and the place that it leaves.
 fn step_at(message: &[u8], received: usize, place: usize) -> Stepped
-    ensures { λ r. ⌜ steppedOf r ≡ stepped (now (message .entry)) received place ⌝ }
+    ensures { λ s. ⌜ steppedOf s ≡ stepped (now (message .entry)) received place ⌝ }
 {
     let given = schedule::description_at(message, received, place);
     Stepped {
@@ -76,70 +75,71 @@ fn step_at(message: &[u8], received: usize, place: usize) -> Stepped
     }
 }
 
-// What is given next.
-pub fn next<'a>(descriptions: Descriptions<'a>) -> Given
-    ensures { λ r. ⌜ givenOf r ≡ given (now (descriptions .entry .message)) (descriptions .entry .received) (descriptions .entry .place) ⌝ }
+// What stands at the place is given, and the place moves past it.
+pub fn next<'s, 'a>(descriptions: &'s mut Descriptions<'a>) -> Given
+    ensures { λ r. ⌜ calledOf r (now (descriptions .exit)) ≡ called (now (descriptions .entry)) ⌝ }
 {
-    schedule::description_at(
+    let step = step_at(
         descriptions.message,
         descriptions.received,
         descriptions.place,
-    )
+    );
+    descriptions.place = step.place;
+    step.given
 }
 
-// The same descriptions with another number given.
-pub fn moved<'a>(descriptions: Descriptions<'a>, place: usize) -> Descriptions<'a>
-    ensures { λ r. ⌜ (r .message ≡ descriptions .entry .message) × (r .received ≡ descriptions .entry .received) × (r .place ≡ place) ⌝ }
+// The held reader at a place: what a call gives, and the place that it leaves.
+pub fn given_at(message: &[u8], received: usize, place: usize) -> Stepped
+    ensures { λ r. ⌜ steppedOf r ≡ stepped (now (message .entry)) received place ⌝ }
 {
-    Descriptions {
-        message: descriptions.message,
-        received: descriptions.received,
+    let mut descriptions = Descriptions {
+        message,
+        received,
         place,
+    };
+    let given = next(&mut descriptions);
+    Stepped {
+        given,
+        place: descriptions.place,
     }
-}
-
-// What is given once k descriptions are.
-fn given_at(message: &[u8], received: usize, k: usize) -> Given
-    ensures { λ r. ⌜ givenOf r ≡ given (now (message .entry)) received k ⌝ }
-{
-    next(moved(open(message, received), k))
 }
 
 // All that is given from opening on. Each step reads the message anew: where the order doesn't matter, `schedule::read_places` is the fast way.
 pub fn all_given(message: &[u8], received: usize) -> Ordered
     ensures { λ r. ⌜ orderedOf r ≡ ordered (now (message .entry)) received ⌝ }
 {
-    let mut given = [Numbered {
+    let mut slots = [Numbered {
         number: 0,
         slot: Slot {
             new: false,
             description: Description::Optional,
         },
     }; 48];
-    let mut k = 0;
-    while k < SLOTS {
-        let step = given_at(message, received, k);
-        match step {
+    let mut place = 0;
+    while place < SLOTS {
+        let step = given_at(message, received, place);
+        let given = step.given;
+        match given {
             Given::Next(number, slot) => {
-                given[k] = Numbered { number, slot };
+                slots[place] = Numbered { number, slot };
             }
             Given::NoMore => {
                 return Ordered {
-                    answer: Counted::Count(k),
-                    given,
+                    answer: Counted::Count(place),
+                    given: slots,
                 };
             }
             Given::Refused(refusal) => {
                 return Ordered {
                     answer: Counted::Refused(refusal),
-                    given,
+                    given: slots,
                 };
             }
         }
-        k += 1;
+        place = step.place;
     }
     Ordered {
-        answer: Counted::Count(k),
-        given,
+        answer: Counted::Count(place),
+        given: slots,
     }
 }
