@@ -2,3 +2,4 @@
 pub mod Determined
 pub mod Stepping
 pub mod Giving
+pub mod Places

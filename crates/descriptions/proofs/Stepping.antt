@@ -1,18 +1,18 @@
--- A call of the reader of descriptions: what it gives, the place that it leaves, and the places that opening and calls reach.
+-- A call of the reader of descriptions: what it gives, and the place that it leaves.
 use mathlib.Core.Path.{_≡_, refl, sym, ap, _∙_}
 use mathlib.Core.Bool.{Bool, true, false}
 use mathlib.Core.List.{List}
-use Prim.Native.Nat.{ℕ, zero, suc, _+_, _≤_, _<_, _^_, min}
+use Prim.Native.Nat.{ℕ, _+_, _≤_, _<_, _^_}
 use native.Mathlib.Omega.{arith}
 use lib.Dec.{ltb}
-use borrow.Author.Tests.{ltb-true, ltb-false, not-false}
+use borrow.Author.Tests.{ltb-true, not-false}
 use Rattle.laws.proofs.Outcome.{Outcome, refuses, passes, outcome}
 use Rattle.schedule.specs.declared.Given.{Given as GivenCode}
 use Rattle.schedule.specs.Paper.{end, within, faults, Given, refusal, givenAt, given}
 use Rattle.schedule.specs.Coded.{givenOf}
 use Rattle.schedule.proofs.Header.{within-end}
 use Rattle.descriptions.specs.declared.Stepped.{Stepped as SteppedCode}
-use Rattle.descriptions.specs.Paper.{Stepped, passed, stepped, reached, Ordered, unordered, inOrder, ordered}
+use Rattle.descriptions.specs.Paper.{Stepped, passed, stepped, Ordered, unordered, inOrder, ordered}
 use Rattle.descriptions.specs.Coded.{steppedOf}
 
 module _ (m : List ℕ) (received : ℕ) where
@@ -57,21 +57,3 @@ module _ (m : List ℕ) (received : ℕ) where
 
     pub step-left : t .place ≡ k + passed (givenOf x)
     step-left = ap (λ (s : Stepped). s .place) step ∙ ap (λ (y : Given). k + passed y) (sym step-gave)
-
-  -- opening and calls reach each place up to the number of slots given and stay there: a place past it they don't reach
-  pub reached-least : (k : ℕ) → reached m received k ≡ min k (ordered m received .count)
-  reached-least zero = omega arith
-  reached-least (suc k) = go told (reached-least k)
-    where
-      slots : (p : ℕ) → p ≡ min k (end m) → (b : Bool) → ltb p (end m) ≡ b → p + passed (givenAt m p) ≡ min (suc k) (end m)
-      slots p q true e = let low = ltb-true p (end m) e in rw e (omega arith)
-      slots p q false e = let high = ltb-false p (end m) e in rw e (omega arith)
-
-      go : Told → reached m received k ≡ min k (ordered m received .count)
-          → reached m received k + passed (given m received (reached m received k)) ≡ min (suc k) (ordered m received .count)
-      go (refused n h o) q =
-          let none : ordered m received .count ≡ 0 = ap (λ (x : Ordered). x .count) o in
-          rw (h (reached m received k)) (omega arith)
-      go (whole w h o) q =
-          let all : ordered m received .count ≡ end m = ap (λ (x : Ordered). x .count) o in
-          rw (h (reached m received k), all) (slots (reached m received k) (q ∙ ap (min k) all) (ltb (reached m received k) (end m)) refl)
