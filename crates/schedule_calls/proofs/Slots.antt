@@ -48,42 +48,67 @@ module _ (m p : List ℕ) (e : ℕ) (s : Shows m p e) (o : List ℕ) (i : ℕ) (
 
 -- what the call leaves
 module _ (m : List ℕ) (received : ℕ) (o : List ℕ) where
-  pub refuses-length : (r : ℕ) → r ≡ 15 → (length o ≡ 48 → ⊥) → _≡_ {A = Left} (record { returned = r; memory = o }) (slotsCall m received o)
+  abbrev refusal : ℕ → Left
+  refusal n = record { returned = n; memory = o }
+
+  pub slots-length : (length o ≡ 48 → ⊥) → slotsCall m received o ≡ refusal 15
   unfolding slotsCall
-  refuses-length r n e = rw (ne-eqb (length o) 48 e) (λ i. record { returned = n i; memory = o })
+  slots-length e = rw (ne-eqb (length o) 48 e)
 
-  module _ (room : length o ≡ 48) (t : PlacedCode) (q : placedOf t ≡ placed m received) where
-    same : readOf (t .answer) ≡ read m received
-    same = ap (λ (l : Placed). l .read) q ∙ read-placed m received
+  module _ (room : length o ≡ 48) where
+    past-length : slotsCall m received o ≡ ruled refusal (faults m received) (toldAll m)
+    unfolding slotsCall
+    past-length = rw (eq-eqb (length o) 48 room)
 
-    pub refuses-slots : (f : Refusal) (r : ℕ) → r ≡ numberOf f → t .answer ≡ Refused f → _≡_ {A = Left} (record { returned = r; memory = o }) (slotsCall m received o)
-    unfolding slotsCall read
-    refuses-slots f r n a = rw (eq-eqb (length o) 48 room) (go (outcome (faults m received)))
+    pub slots-refused : (n : ℕ) → (n ≡ 0 → ⊥) → read m received .number ≡ n → slotsCall m received o ≡ refusal n
+    unfolding read
+    slots-refused n z e = past-length ∙ go (outcome (faults m received))
       where
-        go : Outcome (faults m received) → _≡_ {A = Left} (record { returned = r; memory = o }) (ruled (λ (k : ℕ). record { returned = k; memory = o }) (faults m received) (toldAll m))
-        go (refuses k w h) =
-            let number : numberOf f ≡ k = ap (λ (x : Reads). x .number) ((rw a at same) ∙ h Reads unread (good m)) in
-            (λ i. record { returned = (n ∙ number) i; memory = o }) ∙ sym (h Left (λ (j : ℕ). record { returned = j; memory = o }) (toldAll m))
-        go (passes w h) = absurd (numberOf-positive f (ap (λ (x : Reads). x .number) ((rw a at same) ∙ h Reads unread (good m))))
+        go : Outcome (faults m received) → ruled refusal (faults m received) (toldAll m) ≡ refusal n
+        go (refuses k w h) = h Left refusal (toldAll m) ∙ ap refusal (sym (ap (λ (x : Reads). x .number) (h Reads unread (good m))) ∙ e)
+        go (passes w h) = absurd (z (sym e ∙ ap (λ (x : Reads). x .number) (h Reads unread (good m))))
 
-    module _ (b e : ℕ) (a : t .answer ≡ Read b e) where
-      found : Good m received (placedOf t) q e
-      found = given-good m received (placedOf t) q b e (ap readOf a)
+    -- a message that is read
+    pub slots-told : read m received .number ≡ 0 → (slotsCall m received o ≡ toldAll m) × (read m received ≡ good m)
+    unfolding read
+    slots-told e = go (outcome (faults m received))
+      where
+        go : Outcome (faults m received) → (slotsCall m received o ≡ toldAll m) × (read m received ≡ good m)
+        go (refuses k w h) = absurd (faults-some m received k w (sym (ap (λ (x : Reads). x .number) (h Reads unread (good m))) ∙ e))
+        go (passes w h) = (past-length ∙ h Left refusal (toldAll m), h Reads unread (good m))
 
-      pub found-shows : Shows m (t .places) e
-      found-shows = record { ends = found .ends; shows = told-at m received (placedOf t) q e found }
+    -- the call returns what the reader does
+    pub slots-returned : slotsCall m received o .returned ≡ packedRead (read m received)
+    unfolding read
+    slots-returned = ap (λ (l : Left). l .returned) past-length ∙ go (outcome (faults m received))
+      where
+        go : Outcome (faults m received) → ruled refusal (faults m received) (toldAll m) .returned ≡ packedRead (read m received)
+        go (refuses k w h) = omega (arith, ap (λ (l : Left). l .returned) (h Left refusal (toldAll m)), ap packedRead (h Reads unread (good m)))
+        go (passes w h) = ap (λ (l : Left). l .returned) (h Left refusal (toldAll m)) ∙ sym (ap packedRead (h Reads unread (good m)))
 
-      pub found-small : (b < 64) × (e < 64)
-      found-small =
-          let w = rw a at same in
-          (omega (arith, ends-small m received .0, ap (λ (x : Reads). x .begin) w), omega (arith, ends-small m received .1, ap (λ (x : Reads). x .end) w))
+    module _ (t : PlacedCode) (q : placedOf t ≡ placed m received) where
+      same : readOf (t .answer) ≡ read m received
+      same = ap (λ (l : Placed). l .read) q ∙ read-placed m received
 
-      pub tells-slots : (x : List ℕ) → x ≡ each (packedSlot m) 48 → _≡_ {A = Left} (record { returned = 0x100 * b + 0x10000 * e; memory = x }) (slotsCall m received o)
-      unfolding slotsCall read
-      tells-slots x s = rw (eq-eqb (length o) 48 room) (go (outcome (faults m received)))
-        where
-          go : Outcome (faults m received) → _≡_ {A = Left} (record { returned = 0x100 * b + 0x10000 * e; memory = x }) (ruled (λ (k : ℕ). record { returned = k; memory = o }) (faults m received) (toldAll m))
-          go (refuses k w h) = absurd (faults-some m received k w (sym (ap (λ (x : Reads). x .number) ((rw a at same) ∙ h Reads unread (good m)))))
-          go (passes w h) =
-              let packed : 0x100 * b + 0x10000 * e ≡ packedRead (good m) = omega (arith, ap packedRead ((rw a at same) ∙ h Reads unread (good m))) in
-              (λ i. record { returned = packed i; memory = s i }) ∙ sym (h Left (λ (j : ℕ). record { returned = j; memory = o }) (toldAll m))
+      pub refuses-slots : (f : Refusal) (r : ℕ) → r ≡ numberOf f → t .answer ≡ Refused f → refusal r ≡ slotsCall m received o
+      refuses-slots f r n a =
+          ap refusal n ∙ sym (slots-refused (numberOf f) (numberOf-positive f) (sym (ap (λ (x : Reads). x .number) (rw a at same))))
+
+      module _ (b e : ℕ) (a : t .answer ≡ Read b e) where
+        found : Good m received (placedOf t) q e
+        found = given-good m received (placedOf t) q b e (ap readOf a)
+
+        pub found-shows : Shows m (t .places) e
+        found-shows = record { ends = found .ends; shows = told-at m received (placedOf t) q e found }
+
+        pub found-small : (b < 64) × (e < 64)
+        found-small =
+            let w = rw a at same in
+            (omega (arith, ends-small m received .0, ap (λ (x : Reads). x .begin) w), omega (arith, ends-small m received .1, ap (λ (x : Reads). x .end) w))
+
+        pub tells-slots : (x : List ℕ) → x ≡ each (packedSlot m) 48 → _≡_ {A = Left} (record { returned = 0x100 * b + 0x10000 * e; memory = x }) (slotsCall m received o)
+        tells-slots x s =
+            let w = rw a at same in
+            let told = slots-told (sym (ap (λ (r : Reads). r .number) w)) in
+            let packed : 0x100 * b + 0x10000 * e ≡ packedRead (good m) = omega (arith, ap packedRead (w ∙ told .1)) in
+            (λ i. record { returned = packed i; memory = s i }) ∙ sym (told .0)

@@ -1,15 +1,16 @@
 -- `schedule_calls::cb_slots` meets its contract: all slots told from the places of the message's descriptions.
-use Prim.Native.Nat.{_<_}
+use mathlib.Core.Path.{sym, ap, _∙_}
+use Prim.Native.Nat.{ℕ, _<_}
 use native.Mathlib.Omega.{arith}
 use borrow.Author.Needs.{needs}
-use Rattle.schedule_calls.proofs.Slots.{refuses-length, refuses-slots, found-shows, found-small, tells-slots}
+use Rattle.schedule_calls.proofs.Slots.{slots-length, refuses-slots, found-shows, found-small, tells-slots}
 use Rattle.schedule_calls.proofs.cb_slots.Statement.{statement}
 use Rattle.schedule_calls.proofs.cb_slots.Tie as tie
 
 returns : tie.Need-returns
 returns c =
     let a = c .before .before .before .before .args in
-    refuses-length (a .message .now) (a .received) (a .slots .now) (c .number .result) (c .number .ensures) (λ e. omega arith)
+    ap (λ (r : ℕ). record { returned = r; memory = a .slots .now }) (c .number .ensures) ∙ sym (slots-length (a .message .now) (a .received) (a .slots .now) (λ e. omega arith))
 
 tell-requires : tie.Need-tell-requires
 tell-requires c κs =
