@@ -10,16 +10,15 @@ use Rattle.laws.proofs.Map.{map-injective}
 use Rattle.answer.specs.Number.{numberOf}
 use Rattle.answer.proofs.Inverse.{refusalOf, refusalOf-numberOf, numberOf-positive}
 use Rattle.schedule.specs.declared.Given.{Given as GivenCode}
-use Rattle.schedule.specs.Paper.{given}
-use Rattle.schedule.specs.Coded.{givenOf}
 use Rattle.schedule.proofs.Determined.{slotFrom, slotFrom-shownOf, determined-description-at}
 use Rattle.descriptions.specs.declared.Numbered.{Numbered as NumberedCode}
 use Rattle.descriptions.specs.declared.Counted.{Counted}
 use Rattle.descriptions.specs.declared.Counted.the-variants.{Count, Refused}
 use Rattle.descriptions.specs.declared.Ordered.{Ordered as OrderedCode}
 use Rattle.descriptions.specs.declared.Descriptions.{Descriptions}
-use Rattle.descriptions.specs.Paper.{Numbered, Ordered, ordered}
-use Rattle.descriptions.specs.Coded.{numberedOf, countOf, orderedOf}
+use Rattle.descriptions.specs.declared.Stepped.{Stepped as SteppedCode}
+use Rattle.descriptions.specs.Paper.{Stepped, stepped, Numbered, Ordered, ordered}
+use Rattle.descriptions.specs.Coded.{steppedOf, Called, calledOf, called, numberedOf, countOf, orderedOf}
 
 -- the code's count and numbered slot by the paper's
 abbrev countedFrom : ℕ → ℕ → Counted
@@ -40,15 +39,17 @@ pub determined-open : (m : RefT (List ℕ)) (received : ℕ) (r s : Descriptions
 determined-open m received r s a b =
     λ i. record { message = (a .0 ∙ sym (b .0)) i; received = (a .1 ∙ sym (b .1)) i; place = (a .2 ∙ sym (b .2)) i }
 
-pub determined-next : (d : Descriptions) (r s : GivenCode)
-    → givenOf r ≡ given (now (d .message)) (d .received) (d .place) → givenOf s ≡ given (now (d .message)) (d .received) (d .place) → r ≡ s
-determined-next d r s a b = determined-description-at (now (d .message)) (d .received) (d .place) r s a b
+pub determined-next : (d : Descriptions) (r s : GivenCode) (e f : Descriptions) → calledOf r e ≡ called d → calledOf s f ≡ called d → (r ≡ s) × (e ≡ f)
+determined-next d r s e f a b = (
+  determined-description-at (now (d .message)) (d .received) (d .place) r s (ap (λ (c : Called). c .given) a) (ap (λ (c : Called). c .given) b),
+  ap (λ (c : Called). c .left) (a ∙ sym b),
+)
 
-pub determined-moved : (d : Descriptions) (place : ℕ) (r s : Descriptions)
-    → (r .message ≡ d .message) × (r .received ≡ d .received) × (r .place ≡ place)
-    → (s .message ≡ d .message) × (s .received ≡ d .received) × (s .place ≡ place) → r ≡ s
-determined-moved d place r s a b =
-    λ i. record { message = (a .0 ∙ sym (b .0)) i; received = (a .1 ∙ sym (b .1)) i; place = (a .2 ∙ sym (b .2)) i }
+pub determined-given-at : (m : List ℕ) (received place : ℕ) (r s : SteppedCode) → steppedOf r ≡ stepped m received place → steppedOf s ≡ stepped m received place → r ≡ s
+determined-given-at m received place r s a b =
+    let given = determined-description-at m received place (r .given) (s .given) (ap (λ (t : Stepped). t .given) a) (ap (λ (t : Stepped). t .given) b) in
+    let left = ap (λ (t : Stepped). t .place) (a ∙ sym b) in
+    λ i. record { given = given i; place = left i }
 
 pub determined-all-given : (m : List ℕ) (received : ℕ) (r s : OrderedCode) → orderedOf r ≡ ordered m received → orderedOf s ≡ ordered m received → r ≡ s
 determined-all-given m received r s a b =

@@ -8,20 +8,19 @@ use native.Mathlib.Omega.{arith}
 use lib.ListN.{length, getD, set, replicate, getD-replicate, length-map, length-set, List·getD-map}
 use lib.Seq.{ext-getD, getD-set-same, getD-set-other}
 use lib.Dec.{eqb, ltb}
-use borrow.Author.Tests.{lt-ltb, le-ltb, ltb-true, ltb-false, eqb-true, eqb-false, not-false}
+use borrow.Author.Tests.{lt-ltb, le-ltb, ltb-true, ltb-false, eqb-true, eqb-false}
 use Rattle.laws.specs.Upto.{each}
-use Rattle.laws.proofs.Outcome.{Outcome, refuses, passes, outcome}
 use Rattle.laws.proofs.Tests.{below-other}
 use Rattle.laws.proofs.Upto.{each-length, each-at}
 use Rattle.schedule.specs.declared.Description.the-variants.{Optional}
 use Rattle.schedule.specs.declared.Slot.{Slot}
-use Rattle.schedule.specs.Paper.{end, within, faults, Given, next, noMore, refusal, givenAt, given}
+use Rattle.schedule.specs.Paper.{end, Given, next, noMore, refusal, givenAt, given}
 use Rattle.schedule.specs.Coded.{shownOf}
 use Rattle.schedule.specs.Parts.{zeroed}
-use Rattle.schedule.proofs.Header.{within-end}
 use Rattle.descriptions.specs.declared.Numbered.{Numbered as NumberedCode}
-use Rattle.descriptions.specs.Paper.{Numbered, nothing, entry, Ordered, unordered, inOrder, ordered}
+use Rattle.descriptions.specs.Paper.{Numbered, nothing, entry, Ordered, ordered}
 use Rattle.descriptions.specs.Coded.{numberedOf}
+use Rattle.descriptions.proofs.Stepping.{Told, refused, whole, told}
 
 -- what is read past the end of an array, which never is
 abbrev past : NumberedCode
@@ -55,23 +54,6 @@ placed m k = go (ltb k (end m)) refl
     go false e = past-slots (ltb-false k (end m) e) (rw e)
 
 module _ (m : List ℕ) (received : ℕ) where
-  -- every answer is that of one refusal, or the message is read
-  data Told : Type 0 where
-    refused : (n : ℕ) → ((i : ℕ) → given m received i ≡ refusal n) → ordered m received ≡ unordered n → Told
-    whole : end m ≤ 48 → ((i : ℕ) → given m received i ≡ givenAt m i) → ordered m received ≡ inOrder m → Told
-
-  told : Told
-  unfolding given ordered
-  told = go (outcome (faults m received))
-    where
-      go : Outcome (faults m received) → Told
-      go (refuses n a h) = refused n (λ i. h Given refusal (givenAt m i)) (h Ordered unordered (inOrder m))
-      go (passes h f) =
-          whole
-          (within-end m (not-false (within m) (h .1 .1 .1 .0)))
-          (λ i. f Given refusal (givenAt m i))
-          (f Ordered unordered (inOrder m))
-
   -- what stands at place i once k slots are given
   abbrev upTo : ℕ → ℕ → Numbered
   upTo k i = cond (ltb i k) (entry (given m received i)) nothing
@@ -121,13 +103,13 @@ module _ (m : List ℕ) (received : ℕ) where
 
     pub gave-refused : (n : ℕ) → refusal n ≡ given m received k
         → _≡_ {A = Ordered} (record { number = n; count = 0; given = map numberedOf g }) (ordered m received)
-    gave-refused n q = go told
+    gave-refused n q = go (told m received)
       where
         none : (i j : ℕ) (b : Bool) → given m received i ≡ refusal j → cond b (entry (given m received i)) nothing ≡ nothing
         none i j true h = ap entry h
         none i j false h = refl
 
-        go : Told → _≡_ {A = Ordered} (record { number = n; count = 0; given = map numberedOf g }) (ordered m received)
+        go : Told m received → _≡_ {A = Ordered} (record { number = n; count = 0; given = map numberedOf g }) (ordered m received)
         go (refused j h o) =
             let same = ap by (q ∙ h k) in
             let all = collected (λ (i : ℕ). nothing) (λ i l. none i j (ltb i k) (h i)) in
@@ -158,7 +140,7 @@ module _ (m : List ℕ) (received : ℕ) where
 
     pub gave-all : (noMore ≡ given m received k) ⊎ (48 ≤ k) → k ≤ 48
         → _≡_ {A = Ordered} (record { number = 0; count = k; given = map numberedOf g }) (ordered m received)
-    gave-all q l = go told
+    gave-all q l = go (told m received)
       where
         none : (j : ℕ) → ((i : ℕ) → given m received i ≡ refusal j) → (noMore ≡ given m received k) ⊎ (48 ≤ k) → ⊥
         none j h (inl x) = let z : _≡_ {A = ℕ} 1 2 = ap kind (x ∙ h k) in omega arith
@@ -171,7 +153,7 @@ module _ (m : List ℕ) (received : ℕ) where
         alike c h i true p = rw p (ap entry (h i))
         alike c h i false p = rw p (sym (entry-past i (ltb-false i k p) c))
 
-        go : Told → _≡_ {A = Ordered} (record { number = 0; count = k; given = map numberedOf g }) (ordered m received)
+        go : Told m received → _≡_ {A = Ordered} (record { number = 0; count = k; given = map numberedOf g }) (ordered m received)
         go (refused j h o) = absurd (none j h q)
         go (whole w h o) =
             let c = all-end w h q l in

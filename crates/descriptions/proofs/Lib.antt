@@ -1,3 +1,5 @@
 -- What `descriptions` proves.
 pub mod Determined
+pub mod Stepping
 pub mod Giving
+pub mod Places

@@ -1,10 +1,31 @@
--- All that the reader of descriptions gives, as document 01 has it, in numbers and lists.
+-- What the reader of descriptions gives, call by call and in all, as document 01 has it, in numbers and lists.
 use mathlib.Core.Bool.{false}
 use mathlib.Core.List.{List}
-use Prim.Native.Nat.{ℕ}
+use Prim.Native.Nat.{ℕ, zero, suc, _+_}
 use Rattle.laws.specs.Ruled.{ruled}
 use Rattle.laws.specs.Upto.{each}
-use Rattle.schedule.specs.Paper.{optional, end, faults, Shown, Given, next, noMore, refusal, givenAt}
+use Rattle.schedule.specs.Paper.{optional, end, faults, Shown, Given, next, noMore, refusal, givenAt, given}
+
+-- 01 Schedule message: a call of the reader of descriptions: what it gives, and the place that it leaves; a place is how many slots are given already
+pub record Stepped : Type 0 where
+  pub given : Given
+  pub place : ℕ
+
+-- 01 Schedule message: a call passes the slot that it gives; after the last, and over a refused message, it passes none
+abbrev pub passed : Given → ℕ
+passed (next n s) = 1
+passed noMore = 0
+passed (refusal n) = 0
+
+-- 01 Schedule message: a call at a place gives what stands there, and the next call what stands after it
+abbrev pub stepped : List ℕ → ℕ → ℕ → Stepped
+stepped m received place =
+    record { given = given m received place; place = place + passed (given m received place) }
+
+-- 01 Schedule message: the place that opening and k calls reach
+abbrev pub reached : List ℕ → ℕ → ℕ → ℕ
+reached m received zero = 0
+reached m received (suc k) = stepped m received (reached m received k) .place
 
 -- 01 Schedule message: a slot by its number, and what is shown of it
 pub record Numbered : Type 0 where

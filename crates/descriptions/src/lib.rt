@@ -1,9 +1,8 @@
 // The descriptions of a lent schedule message, given one after the other.
 ghost use mathlib.Core.Path.{_≡_};
-ghost use Rattle.schedule.specs.Paper.{given};
 ghost use Rattle.schedule.specs.Coded.{givenOf};
-ghost use Rattle.descriptions.specs.Paper.{ordered};
-ghost use Rattle.descriptions.specs.Coded.{orderedOf};
+ghost use Rattle.descriptions.specs.Paper.{passed, stepped, ordered};
+ghost use Rattle.descriptions.specs.Coded.{steppedOf, calledOf, called, orderedOf};
 use answer::Refusal;
 use schedule::Description;
 use schedule::Given;
@@ -30,6 +29,12 @@ pub struct Ordered {
     pub given: [Numbered; 48],
 }
 
+// What a call gives, and the place that it leaves.
+pub struct Stepped {
+    pub given: Given,
+    pub place: usize,
+}
+
 // The lent message, the octets received of it, and how many of its descriptions are given already.
 pub struct Descriptions<'a> {
     pub message: &'a [u8],
@@ -48,70 +53,93 @@ pub fn open<'a>(message: &'a [u8], received: usize) -> Descriptions<'a>
     }
 }
 
-// What is given next.
-pub fn next<'a>(descriptions: Descriptions<'a>) -> Given
-    ensures { λ r. ⌜ givenOf r ≡ given (now (descriptions .entry .message)) (descriptions .entry .received) (descriptions .entry .place) ⌝ }
+// How many descriptions a call passes.
+fn passed(given: Given) -> usize
+    ensures { λ r. ⌜ r ≡ passed (givenOf given) ⌝ }
 {
-    schedule::description_at(
-        descriptions.message,
-        descriptions.received,
-        descriptions.place,
-    )
-}
-
-// The same descriptions with another number given.
-pub fn moved<'a>(descriptions: Descriptions<'a>, place: usize) -> Descriptions<'a>
-    ensures { λ r. ⌜ (r .message ≡ descriptions .entry .message) × (r .received ≡ descriptions .entry .received) × (r .place ≡ place) ⌝ }
-{
-    Descriptions {
-        message: descriptions.message,
-        received: descriptions.received,
-        place,
+    match given {
+        Given::Next(_, _) => 1,
+        Given::NoMore => 0,
+        Given::Refused(_) => 0,
     }
 }
 
-// What is given once k descriptions are.
-fn given_at(message: &[u8], received: usize, k: usize) -> Given
-    ensures { λ r. ⌜ givenOf r ≡ given (now (message .entry)) received k ⌝ }
+// What a call gives at a place, and the place that it leaves.
+fn step_at(message: &[u8], received: usize, place: usize) -> Stepped
+    ensures { λ s. ⌜ steppedOf s ≡ stepped (now (message .entry)) received place ⌝ }
 {
-    next(moved(open(message, received), k))
+    let given = schedule::description_at(message, received, place);
+    Stepped {
+        given,
+        place: place + passed(given),
+    }
+}
+
+// What stands at the place is given, and the place moves past it.
+pub fn next<'s, 'a>(descriptions: &'s mut Descriptions<'a>) -> Given
+    ensures { λ r. ⌜ calledOf r (now (descriptions .exit)) ≡ called (now (descriptions .entry)) ⌝ }
+{
+    let step = step_at(
+        descriptions.message,
+        descriptions.received,
+        descriptions.place,
+    );
+    descriptions.place = step.place;
+    step.given
+}
+
+// The held reader at a place: what a call gives, and the place that it leaves.
+pub fn given_at(message: &[u8], received: usize, place: usize) -> Stepped
+    ensures { λ r. ⌜ steppedOf r ≡ stepped (now (message .entry)) received place ⌝ }
+{
+    let mut descriptions = Descriptions {
+        message,
+        received,
+        place,
+    };
+    let given = next(&mut descriptions);
+    Stepped {
+        given,
+        place: descriptions.place,
+    }
 }
 
 // All that is given from opening on. Each step reads the message anew: where the order doesn't matter, `schedule::read_places` is the fast way.
 pub fn all_given(message: &[u8], received: usize) -> Ordered
     ensures { λ r. ⌜ orderedOf r ≡ ordered (now (message .entry)) received ⌝ }
 {
-    let mut given = [Numbered {
+    let mut slots = [Numbered {
         number: 0,
         slot: Slot {
             new: false,
             description: Description::Optional,
         },
     }; 48];
-    let mut k = 0;
-    while k < SLOTS {
-        let step = given_at(message, received, k);
-        match step {
+    let mut place = 0;
+    while place < SLOTS {
+        let step = given_at(message, received, place);
+        let given = step.given;
+        match given {
             Given::Next(number, slot) => {
-                given[k] = Numbered { number, slot };
+                slots[place] = Numbered { number, slot };
             }
             Given::NoMore => {
                 return Ordered {
-                    answer: Counted::Count(k),
-                    given,
+                    answer: Counted::Count(place),
+                    given: slots,
                 };
             }
             Given::Refused(refusal) => {
                 return Ordered {
                     answer: Counted::Refused(refusal),
-                    given,
+                    given: slots,
                 };
             }
         }
-        k += 1;
+        place = step.place;
     }
     Ordered {
-        answer: Counted::Count(k),
-        given,
+        answer: Counted::Count(place),
+        given: slots,
     }
 }

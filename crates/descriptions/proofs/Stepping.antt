@@ -1,0 +1,59 @@
+-- A call of the reader of descriptions: what it gives, and the place that it leaves.
+use mathlib.Core.Path.{_≡_, refl, sym, ap, _∙_}
+use mathlib.Core.Bool.{Bool, true, false}
+use mathlib.Core.List.{List}
+use Prim.Native.Nat.{ℕ, _+_, _≤_, _<_, _^_}
+use native.Mathlib.Omega.{arith}
+use lib.Dec.{ltb}
+use borrow.Author.Tests.{ltb-true, not-false}
+use Rattle.laws.proofs.Outcome.{Outcome, refuses, passes, outcome}
+use Rattle.schedule.specs.declared.Given.{Given as GivenCode}
+use Rattle.schedule.specs.Paper.{end, within, faults, Given, refusal, givenAt, given}
+use Rattle.schedule.specs.Coded.{givenOf}
+use Rattle.schedule.proofs.Header.{within-end}
+use Rattle.descriptions.specs.declared.Stepped.{Stepped as SteppedCode}
+use Rattle.descriptions.specs.Paper.{Stepped, passed, stepped, Ordered, unordered, inOrder, ordered}
+use Rattle.descriptions.specs.Coded.{steppedOf}
+
+module _ (m : List ℕ) (received : ℕ) where
+  -- every answer is that of one refusal, or the message is read
+  pub data Told : Type 0 where
+    refused : (n : ℕ) → ((i : ℕ) → given m received i ≡ refusal n) → ordered m received ≡ unordered n → Told
+    whole : end m ≤ 48 → ((i : ℕ) → given m received i ≡ givenAt m i) → ordered m received ≡ inOrder m → Told
+
+  pub told : Told
+  unfolding given ordered
+  told = go (outcome (faults m received))
+    where
+      go : Outcome (faults m received) → Told
+      go (refuses n a h) = refused n (λ i. h Given refusal (givenAt m i)) (h Ordered unordered (inOrder m))
+      go (passes h f) =
+          whole
+          (within-end m (not-false (within m) (h .1 .1 .1 .0)))
+          (λ i. f Given refusal (givenAt m i))
+          (f Ordered unordered (inOrder m))
+
+  -- a call at place k that gives g and passes n
+  module _ (k : ℕ) (g : Given) (n : ℕ) (gives : g ≡ given m received k) (passes : n ≡ passed g) where
+    -- a slot is given below End only, so the place past it has room
+    pub step-fits : k < 2 ^ 64 → k + n < 2 ^ 64
+    step-fits fits = rw (passes, gives) (go told)
+      where
+        room : end m ≤ 48 → (b : Bool) → ltb k (end m) ≡ b → k + passed (givenAt m k) < 2 ^ 64
+        room w true e = let low = ltb-true k (end m) e in rw e (omega arith)
+        room w false e = rw e (omega arith)
+
+        go : Told → k + passed (given m received k) < 2 ^ 64
+        go (refused j h o) = rw (h k) (omega arith)
+        go (whole w h o) = rw (h k) (room w (ltb k (end m)) refl)
+
+    pub step-made : _≡_ {A = Stepped} (record { given = g; place = k + n }) (stepped m received k)
+    step-made = let q = passes ∙ ap passed gives in λ i. record { given = gives i; place = k + q i }
+
+  -- a step at place k that gave x
+  module _ (k : ℕ) (t : SteppedCode) (step : steppedOf t ≡ stepped m received k) (x : GivenCode) (gave : t .given ≡ x) where
+    pub step-gave : givenOf x ≡ given m received k
+    step-gave = sym (ap givenOf gave) ∙ ap (λ (s : Stepped). s .given) step
+
+    pub step-left : t .place ≡ k + passed (givenOf x)
+    step-left = ap (λ (s : Stepped). s .place) step ∙ ap (λ (y : Given). k + passed y) (sym step-gave)
