@@ -9,6 +9,7 @@ use board::Decision;
 use board::Held;
 use board::Schedule;
 use board::Wanted;
+use descriptions::Stepped;
 use page::MessageId;
 use schedule::Given;
 use schedule::Slot;
@@ -65,39 +66,40 @@ struct Step {
 fn describe_both(message: &[u8], received: usize, place: usize) -> Step {
     let returned = capi::cb_description(message, received, place);
     let step = descriptions::given_at(message, received, place);
-    let given = step.given;
-    if step.place as u64 != place_after(place, returned) {
+    if gives(step, place, returned) {
         return Step {
-            returned: NO_ANSWER as u64,
-            place,
-        };
-    }
-    if !is_given(given, returned) {
-        return Step {
-            returned: NO_ANSWER as u64,
-            place,
+            returned,
+            place: step.place,
         };
     }
     Step {
-        returned,
-        place: step.place,
+        returned: NO_ANSWER as u64,
+        place,
     }
 }
 
-// The place that is left: past a slot that is given.
-fn place_after(place: usize, returned: u64) -> u64 {
-    if returned / 0x100 == 0 {
-        return place as u64;
-    }
-    std::num::wrapping_add_u64(place as u64, 1)
-}
-
-// Whether what is given is returned so.
-fn is_given(given: Given, returned: u64) -> bool {
+// Whether a step from a place gives what is returned so, and passes the slot that it gives.
+fn gives(step: Stepped, place: usize, returned: u64) -> bool {
+    let given = step.given;
     match given {
-        Given::Next(number, slot) => is_shown(number, slot, returned),
-        Given::NoMore => returned == 0,
-        Given::Refused(refusal) => returned == answer::number(refusal) as u64,
+        Given::Next(number, slot) => {
+            if step.place as u64 != std::num::wrapping_add_u64(place as u64, 1) {
+                return false;
+            }
+            is_shown(number, slot, returned)
+        }
+        Given::NoMore => {
+            if step.place != place {
+                return false;
+            }
+            returned == 0
+        }
+        Given::Refused(refusal) => {
+            if step.place != place {
+                return false;
+            }
+            returned == answer::number(refusal) as u64
+        }
     }
 }
 
