@@ -1,16 +1,11 @@
 -- Calls that meet a contract of `capi` return the same number and leave the same memory.
-use mathlib.Core.Path.{_≡_, sym, ap, _∙_}
+use mathlib.Core.Path.{_≡_, sym, _∙_}
 use mathlib.Core.Bool.{Bool}
 use mathlib.Core.List.{List}
 use Prim.Native.Nat.{ℕ}
 use Rattle.page.specs.Paper.{Heading}
-use Rattle.capi.specs.Paper.{Left, writeCall, readCall, scheduleCall, descriptionCall, contentCall, blocksCall, planCall, writeScheduleCall, checkScheduleCall, decideCall}
-
--- two calls that leave the same
-both : (r s : ℕ) (x y : List ℕ) (l : Left) → record { returned = r; memory = x } ≡ l → record { returned = s; memory = y } ≡ l → (r ≡ s) × (x ≡ y)
-both r s x y l a b =
-    let e = a ∙ sym b in
-    (ap (λ (z : Left). z .returned) e, ap (λ (z : Left). z .memory) e)
+use Rattle.schedule_calls.proofs.Determined.{both}
+use Rattle.capi.specs.Paper.{writeCall, readCall, scheduleCall, descriptionCall, contentCall, blocksCall, planCall, writeScheduleCall, checkScheduleCall, decideCall}
 
 pub determined-cb-write-text : (h : Heading) (t p : List ℕ) (r s : ℕ) (x y : List ℕ)
     → record { returned = r; memory = x } ≡ writeCall h t p → record { returned = s; memory = y } ≡ writeCall h t p → (r ≡ s) × (x ≡ y)

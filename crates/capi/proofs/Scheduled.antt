@@ -2,7 +2,7 @@
 use mathlib.Core.Path.{_≡_, refl, ap, _∙_}
 use mathlib.Core.Bool.{Bool, true, false}
 use mathlib.Core.List.{List}
-use Prim.Native.Nat.{ℕ, _+_, _*_, _≤_, _<_}
+use Prim.Native.Nat.{ℕ, _+_, _*_, _<_}
 use native.Mathlib.Omega.{arith}
 use lib.Dec.{ltb}
 use mir.Val.{boolByte}
@@ -15,19 +15,11 @@ use Rattle.schedule.specs.declared.Reading.{Reading}
 use Rattle.schedule.specs.declared.Reading.the-variants as readings
 use Rattle.schedule.specs.declared.Given.{Given as GivenCode}
 use Rattle.schedule.specs.declared.Given.the-variants as givens
-use Rattle.schedule.specs.Paper.{end, faults, Read, unread, good, read, Given, next, noMore, refusal, givenAt, given}
+use Rattle.schedule.specs.Paper.{end, faults, Read, read, Given, next, noMore, refusal, givenAt, given}
 use Rattle.schedule.specs.Coded.{toldOf, readOf, givenOf}
 use Rattle.order.proofs.Ranks.{order-below}
-use Rattle.capi.specs.Paper.{bitOf, codeOf, packedRead, scheduleCall, packedGiven, descriptionCall}
-
--- a bool as a number
-pub bit-byte : (b : Bool) → boolByte b ≡ bitOf b
-bit-byte true = refl
-bit-byte false = refl
-
-pub bit-small : (b : Bool) → boolByte b ≤ 1
-bit-small true = omega arith
-bit-small false = omega arith
+pub use Rattle.schedule_calls.proofs.Packed.{bit-byte, bit-small, ends-small}
+use Rattle.capi.specs.Paper.{codeOf, packedRead, scheduleCall, packedGiven, descriptionCall}
 
 -- the slot that is given; 0 for none
 abbrev pub slotNumber : Given → ℕ
@@ -36,15 +28,6 @@ slotNumber noMore = 0
 slotNumber (refusal n) = 0
 
 module _ (m : List ℕ) (received : ℕ) where
-  -- Begin and End have six bits
-  pub ends-small : (read m received .begin < 64) × (read m received .end < 64)
-  unfolding read
-  ends-small = go (ruling unread (faults m received) (good m))
-    where
-      go : {r : Read} → Ruling unread (faults m received) (good m) r → (r .begin < 64) × (r .end < 64)
-      go (refuses n a e) = rw e (omega arith, omega arith)
-      go (passes h e) = rw e (omega arith, omega arith)
-
   -- a slot that is given is not past End, which has six bits
   slot-at-small : (k : ℕ) (b : Bool) → ltb k (end m) ≡ b → slotNumber (givenAt m k) < 64
   slot-at-small k true e = rw e (omega (arith, order-below m k (ltb-true k (end m) e)))

@@ -8,16 +8,12 @@ use Rattle.laws.specs.Ruled.{ruled, unless0}
 use Rattle.block.specs.Paper.{Kind, page, schedule, written as writtenBlocks}
 use Rattle.page.specs.Paper.{Heading, handedNumber}
 use Rattle.plan.specs.Paper.{readPlan}
-use Rattle.schedule.specs.Paper.{Told, first, again, optional, advised, Read, read, Given, next, noMore, refusal, given}
+use Rattle.schedule.specs.Paper.{read, Given, next, noMore, refusal, given}
 use Rattle.text.specs.Paper.{written, reading}
 use Rattle.sender.specs.Paper.{Writing, unwritten, write}
 use Rattle.checker.specs.Paper.{Checked, unchecked, check}
 use Rattle.board.specs.Paper.{Decided, decide}
-
--- what a call leaves: the number returned, and the memory that it was lent to write
-pub record Left : Type 0 where
-  pub returned : ℕ
-  pub memory : List ℕ
+pub use Rattle.schedule_calls.specs.Paper.{Left, packedRead, codeOf, bitOf}
 
 -- two numbers in one, and the memory
 abbrev pub packed : ℕ → ℕ → List ℕ → Left
@@ -31,24 +27,9 @@ writeCall h t p = packed (written h t p .number) (written h t p .used) (written 
 abbrev pub readCall : List ℕ → ℕ → List ℕ → Left
 readCall p n t = packed (reading p n t .number) (reading p n t .characters) (reading p n t .text)
 
--- 01 Schedule message: reading a schedule gives Begin and End: number + 2^8 × Begin + 2^16 × End
-abbrev pub packedRead : Read → ℕ
-packedRead r = r .number + 0x100 * r .begin + 0x10000 * r .end
-
--- 01 Schedule message: the schedule reader for C
+-- 01 Schedule message: the schedule reader for C: number + 2^8 × Begin + 2^16 × End
 abbrev pub scheduleCall : List ℕ → ℕ → ℕ
 scheduleCall m received = packedRead (read m received)
-
--- 01 Schedule message, 000 3.5.5: a description as one number: 8000 hex + the 15 bits of a first transmission, the slot that is repeated, 40 or 41 hex
-abbrev pub codeOf : Told → ℕ
-codeOf (first x) = 0x8000 + x
-codeOf (again n) = n
-codeOf optional = 0x40
-codeOf advised = 0x41
-
--- 01 Schedule message: a new bit as a number
-abbrev pub bitOf : Bool → ℕ
-bitOf new = cond new 1 0
 
 -- 01 Schedule message, Order: number + 2^8 × slot + 2^16 × new bit + 2^32 × code; all are 0 for no more, and all but the number with a refusal
 abbrev pub packedGiven : Given → ℕ

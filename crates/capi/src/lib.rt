@@ -1,13 +1,12 @@
 // Entries for C beside those of `firmware`: numbers come back packed, and slices go in as a pointer and a length.
 ghost use mathlib.Core.Path.{_≡_};
 ghost use Rattle.block.specs.Coded.{kindOf};
-ghost use Rattle.schedule.specs.Coded.{toldOf};
 ghost use Rattle.plan.specs.Paper.{readPlan};
 ghost use Rattle.plan.specs.Coded.{planOf, verdictOf};
 ghost use Rattle.board.specs.Coded.{idsOf};
 ghost use Prim.Native.Nat.{_≤_};
 ghost use lib.ListN.{length, take};
-ghost use Rattle.capi.specs.Paper.{writeCall, readCall, codeOf, scheduleCall, descriptionCall, contentCall, kindIf, blocksCall, planCall, filesNumber, writeScheduleCall, checkScheduleCall, decideCall};
+ghost use Rattle.capi.specs.Paper.{writeCall, readCall, scheduleCall, descriptionCall, contentCall, kindIf, blocksCall, planCall, filesNumber, writeScheduleCall, checkScheduleCall, decideCall};
 use answer::Refusal;
 use block::Kind;
 use block::Sent;
@@ -20,9 +19,9 @@ use page::MessageId;
 use page::Serial;
 use plan::Plan;
 use plan::Verdict;
-use schedule::Description;
 use schedule::Given;
 use schedule::Reading;
+use schedule_calls::code;
 use sender::Writing;
 use text::Got;
 use text::Written;
@@ -80,18 +79,6 @@ pub extern "C" fn cb_read_schedule(message: &[u8], received: usize) -> u32
     match answer {
         Reading::Read(begin, end) => 0x100 * begin as u32 + 0x10000 * end as u32,
         Reading::Refused(refusal) => answer::number(refusal) as u32,
-    }
-}
-
-// A description as one number.
-fn code(description: Description) -> u32
-    ensures { λ r. ⌜ r ≡ codeOf (toldOf description) ⌝ }
-{
-    match description {
-        Description::First(bits) => 0x8000 + bits as u32,
-        Description::Repeat(slot) => slot as u32,
-        Description::Optional => 0x40,
-        Description::Advised => 0x41,
     }
 }
 

@@ -10,6 +10,9 @@ pub(crate) const UNREAD: usize = usize::MAX;
 // What memory holds that is lent for output.
 pub(crate) const LENT: u8 = 0xA5;
 
+// The same for a number of 32 bits.
+pub(crate) const LENT_NUMBER: u32 = 0xA5A5_A5A5;
+
 // The most elements of a list, and of memory lent for output.
 const ROOM: usize = 1024;
 
@@ -43,6 +46,13 @@ pub(crate) fn word_room() -> [u16; ROOM / 2]
     ensures { λ r. ⌜ 512 ≤ length r ⌝ }
 {
     [0xA5A5; ROOM / 2]
+}
+
+// The same for numbers of 32 bits.
+pub(crate) fn number_room() -> [u32; ROOM / 2]
+    ensures { λ r. ⌜ 512 ≤ length r ⌝ }
+{
+    [LENT_NUMBER; ROOM / 2]
 }
 
 // Where the characters of the field at a place start.
@@ -132,6 +142,16 @@ pub(crate) fn take_length(line: &[u8], at: usize, room: &[u8]) -> List
 }
 
 pub(crate) fn take_word_length(line: &[u8], at: usize, room: &[u16]) -> List
+    ensures { λ r. ⌜ Within (r .count) (now (room .entry)) ⌝ }
+{
+    let given = take_number(line, at, room.len() as u64);
+    List {
+        count: given.value as usize,
+        next: given.next,
+    }
+}
+
+pub(crate) fn take_number_length(line: &[u8], at: usize, room: &[u32]) -> List
     ensures { λ r. ⌜ Within (r .count) (now (room .entry)) ⌝ }
 {
     let given = take_number(line, at, room.len() as u64);

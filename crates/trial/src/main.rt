@@ -19,12 +19,12 @@ use libc::STDOUT_FILENO;
 const FILE: usize = 262144;
 
 // The rows of the table: one for each letter, and one for lines and files that cannot be read.
-const ROWS: usize = 17;
+const ROWS: usize = 20;
 
-const UNREAD_ROW: usize = 16;
+const UNREAD_ROW: usize = 19;
 
 // The results tried in each row, and after them those that differ.
-const COUNTS: usize = 34;
+const COUNTS: usize = 40;
 
 fn main() {
     let mut counts = [0u64; COUNTS];
@@ -36,7 +36,7 @@ fn main() {
     }
     print(b"what tried differ\n");
     print_rows(
-        b"starts pieces sequences pages blocks texts-written texts-read contents packings alphabet schedules descriptions plans messages checks decisions unread ",
+        b"starts pieces sequences pages blocks texts-written texts-read contents headers packings alphabet schedules descriptions slots plans messages checks decisions entries unread ",
         &counts,
     );
 }
@@ -151,9 +151,9 @@ fn try_line(line: &[u8], counts: &mut [u64; COUNTS]) -> bool {
 
 // The row of a letter.
 fn row_of(letter: u8) -> usize
-    ensures { λ r. ⌜ r ≤ 16 ⌝ }
+    ensures { λ r. ⌜ r ≤ 19 ⌝ }
 {
-    bytes::scan::find(b"NIQVBTRCXASGPWKD", 0, 16, letter)
+    bytes::scan::find(b"NIQVBTRCHXASGLPWKDE", 0, 19, letter)
 }
 
 // How far a line is told by the call of its letter.
@@ -167,21 +167,24 @@ fn told_by(letter: u8, line: &[u8]) -> usize {
         b'T' => pages::writing(line),
         b'R' => pages::reading(line),
         b'C' => pages::content(line),
+        b'H' => pages::header(line),
         b'X' => pages::packing(line),
         b'A' => pages::septet(line),
         b'S' => tellings::schedule(line),
         b'G' => tellings::description(line),
+        b'L' => tellings::slots(line),
         b'P' => tellings::file(line),
         b'W' => tellings::message(line),
         b'K' => tellings::check(line),
         b'D' => tellings::decision(line),
+        b'E' => tellings::entry(line),
         _ => UNREAD,
     }
 }
 
 // Counts a result in its row of the table, and answers whether it is right.
 fn count_in(row: usize, right: bool, counts: &mut [u64; COUNTS]) -> bool
-    requires { ⌜ row ≤ 16 ⌝ }
+    requires { ⌜ row ≤ 19 ⌝ }
 {
     count(row, counts);
     if right {
@@ -192,7 +195,7 @@ fn count_in(row: usize, right: bool, counts: &mut [u64; COUNTS]) -> bool
 }
 
 fn count(at: usize, counts: &mut [u64; COUNTS])
-    requires { ⌜ at < 34 ⌝ }
+    requires { ⌜ at < 40 ⌝ }
 {
     counts[at] = std::num::wrapping_add_u64(counts[at], 1);
 }

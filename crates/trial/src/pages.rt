@@ -157,6 +157,19 @@ fn content_of(line: &[u8], at: usize, page: &[u8], received: usize) -> usize {
     told::octets(line, next, page::content(page, received))
 }
 
+// H: page; number, scheme, serial, identifier, parameter.
+pub(crate) fn header(line: &[u8]) -> usize {
+    let mut room = fields::room();
+    let page = fields::take_octets(line, 1, &mut room);
+    let count = page.count;
+    let returned = page_calls::cb_read_header(&room[..count]);
+    let number = told::number(line, page.next, returned % 0x100);
+    let scheme = told::number(line, number, returned / 0x100 % 0x100);
+    let serial = told::number(line, scheme, returned / 0x1_0000 % 0x1_0000);
+    let identifier = told::number(line, serial, returned / 0x1_0000_0000 % 0x1_0000);
+    told::number(line, identifier, returned / 0x1_0000_0000_0000)
+}
+
 // A: a septet, and the code point that it stands for.
 pub(crate) fn septet(line: &[u8]) -> usize {
     let mut octets = [0u8; 1];

@@ -9,7 +9,10 @@ use board::Decision;
 use board::Held;
 use board::Schedule;
 use board::Wanted;
+use descriptions::Stepped;
 use page::MessageId;
+use schedule::Given;
+use schedule::Slot;
 
 // Octets of a message.
 const MESSAGE: usize = 88;
@@ -28,19 +31,18 @@ pub(crate) fn schedule(line: &[u8]) -> usize {
 
 fn schedule_of(line: &[u8], at: usize, message: &[u8], received: usize) -> usize {
     let returned = capi::cb_read_schedule(message, received);
-    let number = (returned % 256) as u64;
-    let begin = told::number(line, at, number);
-    let end = told::number(line, begin, (returned / 256 % 256) as u64);
-    let next = told::number(line, end, (returned / 65536) as u64);
-    descriptions(line, next, message, received, number)
+    let next = told::ends(line, at, returned);
+    descriptions(line, next, message, received, (returned % 256) as u64)
 }
 
 // The descriptions of a message to its last: there no more is given, or the refusal that the message was read with.
 fn descriptions(line: &[u8], at: usize, message: &[u8], received: usize, number: u64) -> usize {
     let mut next = at;
     let mut place = 0;
-    while place < line.len() {
-        let returned = capi::cb_description(message, received, place);
+    let mut given = 0;
+    while given < line.len() {
+        let both = describe_both(message, received, place);
+        let returned = both.returned;
         if returned == number {
             return next;
         }
@@ -48,9 +50,71 @@ fn descriptions(line: &[u8], at: usize, message: &[u8], received: usize, number:
             return DIFFERS;
         }
         next = described(line, next, returned);
-        place += 1;
+        place = both.place;
+        given += 1;
     }
     DIFFERS
+}
+
+// A description as cb_description returns it, and the place that the reader of descriptions leaves.
+struct Step {
+    returned: u64,
+    place: usize,
+}
+
+// What cb_description returns at a place, where the reader of descriptions gives the same.
+fn describe_both(message: &[u8], received: usize, place: usize) -> Step {
+    let returned = capi::cb_description(message, received, place);
+    let step = descriptions::given_at(message, received, place);
+    if gives(step, place, returned) {
+        return Step {
+            returned,
+            place: step.place,
+        };
+    }
+    Step {
+        returned: NO_ANSWER as u64,
+        place,
+    }
+}
+
+// Whether a step from a place gives what is returned so, and passes the slot that it gives.
+fn gives(step: Stepped, place: usize, returned: u64) -> bool {
+    let given = step.given;
+    match given {
+        Given::Next(number, slot) => {
+            if step.place as u64 != std::num::wrapping_add_u64(place as u64, 1) {
+                return false;
+            }
+            is_shown(number, slot, returned)
+        }
+        Given::NoMore => {
+            if step.place != place {
+                return false;
+            }
+            returned == 0
+        }
+        Given::Refused(refusal) => {
+            if step.place != place {
+                return false;
+            }
+            returned == answer::number(refusal) as u64
+        }
+    }
+}
+
+fn is_shown(number: usize, slot: Slot, returned: u64) -> bool {
+    if returned % 0x100 != 0 {
+        return false;
+    }
+    if returned / 0x100 % 0x100 != number as u64 {
+        return false;
+    }
+    if returned / 0x1_0000 % 0x1_0000 != slot.new as u64 {
+        return false;
+    }
+    let description = slot.description;
+    returned / 0x1_0000_0000 == schedule_calls::code(description) as u64
 }
 
 // A description: slot, new bit, code.
@@ -67,13 +131,37 @@ pub(crate) fn description(line: &[u8]) -> usize {
     let received = fields::take_number(line, message.next, u64::MAX);
     let place = fields::take_number(line, received.next, u64::MAX);
     let count = message.count;
-    let returned = capi::cb_description(
+    let both = describe_both(
         &room[..count],
         received.value as usize,
         place.value as usize,
     );
-    let next = told::number(line, place.next, returned % 0x100);
-    described(line, next, returned)
+    let next = told::number(line, place.next, both.returned % 0x100);
+    described(line, next, both.returned)
+}
+
+// L: message, received, length of the slots' memory; number, Begin, End, slots.
+pub(crate) fn slots(line: &[u8]) -> usize {
+    let mut room = fields::room();
+    let message = fields::take_octets(line, 1, &mut room);
+    let received = fields::take_number(line, message.next, u64::MAX);
+    let mut numbers = fields::number_room();
+    let length = fields::take_number_length(line, received.next, &numbers);
+    let count = message.count;
+    let slots = length.count;
+    slots_of(
+        line,
+        length.next,
+        &room[..count],
+        received.value as usize,
+        &mut numbers[..slots],
+    )
+}
+
+fn slots_of(line: &[u8], at: usize, message: &[u8], received: usize, slots: &mut [u32]) -> usize {
+    let returned = schedule_calls::cb_slots(message, received, slots);
+    let next = told::ends(line, at, returned);
+    told::output_numbers(line, next, slots)
 }
 
 // P: plan file; number, count.
@@ -184,6 +272,47 @@ fn decide_both(
         return returned;
     }
     NO_ANSWER
+}
+
+// E: known (0 or 1), message, received, slot, held; held after.
+pub(crate) fn entry(line: &[u8]) -> usize {
+    let known = fields::take_number(line, 1, 1);
+    let mut room = fields::room();
+    let message = fields::take_octets(line, known.next, &mut room);
+    let received = fields::take_number(line, message.next, u64::MAX);
+    let slot = fields::take_number(line, received.next, u64::MAX);
+    let held = fields::take_number(line, slot.next, u64::MAX);
+    let count = message.count;
+    enter_both(
+        line,
+        held.next,
+        known.value == 1,
+        &room[..count],
+        received.value as usize,
+        slot.value as usize,
+        held.value,
+    )
+}
+
+// What cb_enter returns, where entering by value gives the same. A message of another length is none by value.
+fn enter_both(
+    line: &[u8],
+    at: usize,
+    known: bool,
+    message: &[u8],
+    received: usize,
+    slot: usize,
+    held: u64,
+) -> usize {
+    let after = board_calls::cb_enter(known, message, received, slot, held);
+    if message.len() == MESSAGE {
+        let given = given_of(known, message, received);
+        let under = board::entered_under(given, slot);
+        if Held(held).with(under).0 != after {
+            return DIFFERS;
+        }
+    }
+    told::number(line, at, after)
 }
 
 // A schedule message by value.

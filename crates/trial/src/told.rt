@@ -2,6 +2,7 @@
 ghost use Rattle.trial.specs.Within.{Within};
 use crate::fields;
 use crate::fields::LENT;
+use crate::fields::LENT_NUMBER;
 
 // The place after a result that a line tells otherwise: past every line.
 pub(crate) const DIFFERS: usize = usize::MAX - 1;
@@ -54,6 +55,13 @@ pub(crate) fn number(line: &[u8], at: usize, number: u64) -> usize {
 pub(crate) fn returned(line: &[u8], at: usize, returned: u32) -> usize {
     let next = number(line, at, (returned % 256) as u64);
     number(line, next, (returned / 256) as u64)
+}
+
+// What a schedule message is read as: number + 2^8 × Begin + 2^16 × End.
+pub(crate) fn ends(line: &[u8], at: usize, returned: u32) -> usize {
+    let begin = number(line, at, (returned % 256) as u64);
+    let end = number(line, begin, (returned / 256 % 256) as u64);
+    number(line, end, (returned / 65536) as u64)
 }
 
 // Octets.
@@ -116,6 +124,36 @@ pub(crate) fn output_words(line: &[u8], at: usize, words: &[u16]) -> usize {
     let mut room = fields::room();
     let count = octets_of(words, &mut room);
     output(line, at, &room[..count])
+}
+
+// Numbers of 32 bits that were lent for output: eight digits each.
+pub(crate) fn output_numbers(line: &[u8], at: usize, numbers: &[u32]) -> usize {
+    let next = mark(line, at, b' ');
+    if are_lent(numbers) {
+        return mark(line, next, b'=');
+    }
+    all_digits(line, next, numbers)
+}
+
+fn are_lent(numbers: &[u32]) -> bool {
+    let mut i = 0;
+    while i < numbers.len() {
+        if numbers[i] != LENT_NUMBER {
+            return false;
+        }
+        i += 1;
+    }
+    true
+}
+
+fn all_digits(line: &[u8], at: usize, numbers: &[u32]) -> usize {
+    let mut next = at;
+    let mut i = 0;
+    while i < numbers.len() {
+        next = digits(line, next, numbers[i] as u64, 8);
+        i += 1;
+    }
+    next
 }
 
 // Puts words into a room as two octets each, and answers how many there are.

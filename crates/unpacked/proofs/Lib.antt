@@ -1,3 +1,4 @@
 -- What `unpacked` proves.
 pub mod Codes
+pub mod Told
 pub mod Unpacked

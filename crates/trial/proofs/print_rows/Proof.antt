@@ -9,7 +9,7 @@ abbrev Inv-loop : tie.InvT-loop
 Inv-loop names counts at₀ row₀ t6 at row = at ≤ length names
 
 abbrev μ-loop : tie.MeasureT-loop
-μ-loop names counts at₀ row₀ t6 at row = 17 - row
+μ-loop names counts at₀ row₀ t6 at row = 20 - row
 
 loop-holds : tie.Need-loop-holds Inv-loop μ-loop
 loop-holds c = search needs

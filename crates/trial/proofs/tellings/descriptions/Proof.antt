@@ -6,16 +6,16 @@ use Rattle.trial.proofs.tellings.descriptions.Statement.{statement}
 use Rattle.trial.proofs.tellings.descriptions.Tie as tie
 
 abbrev Inv-loop : tie.InvT-loop
-Inv-loop line at message received number next₀ place₀ next place = Unit {0}
+Inv-loop line at message received number next₀ place₀ given₀ next place given = Unit {0}
 
 abbrev μ-loop : tie.MeasureT-loop
-μ-loop line at message received number next₀ place₀ next place = length line - place
+μ-loop line at message received number next₀ place₀ given₀ next place given = length line - given
 
 loop-holds : tie.Need-loop-holds Inv-loop μ-loop
 loop-holds c = search needs
 
-cb-description-requires : tie.Need-cb-description-requires Inv-loop μ-loop
-cb-description-requires c κs = search needs
+describe-both-requires : tie.Need-describe-both-requires Inv-loop μ-loop
+describe-both-requires c κs = search needs
 
 returns : tie.Need-returns Inv-loop μ-loop
 returns c = search needs
@@ -26,8 +26,8 @@ returns-2 c = search needs
 described-requires : tie.Need-described-requires Inv-loop μ-loop
 described-requires c κs = search needs
 
-add-place : tie.Need-add-place Inv-loop μ-loop
-add-place c = search needs
+add-given : tie.Need-add-given Inv-loop μ-loop
+add-given c = search needs
 
 loop-less : tie.Need-loop-less Inv-loop μ-loop
 loop-less c = search needs
@@ -45,11 +45,11 @@ descriptions-spec =
     Inv-loop
     μ-loop
     loop-holds
-    cb-description-requires
+    describe-both-requires
     returns
     returns-2
     described-requires
-    add-place
+    add-given
     loop-less
     loop-again
     returns-3)

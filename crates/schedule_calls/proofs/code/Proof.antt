@@ -1,11 +1,11 @@
--- `capi::code` meets its contract: each kind of description by its number.
+-- `schedule_calls::code` meets its contract: each kind of description by its number.
 use mathlib.Core.Path.{sym, ap}
 use borrow.Author.Needs.{needs}
 use Rattle.schedule.specs.declared.Description.{Description}
 use Rattle.schedule.specs.Coded.{toldOf}
-use Rattle.capi.specs.Paper.{codeOf}
-use Rattle.capi.proofs.code.Statement.{statement}
-use Rattle.capi.proofs.code.Tie as tie
+use Rattle.schedule_calls.specs.Paper.{codeOf}
+use Rattle.schedule_calls.proofs.code.Statement.{statement}
+use Rattle.schedule_calls.proofs.code.Tie as tie
 
 enum-known-description : tie.Need-enum-known-description
 enum-known-description c = search needs

@@ -1,0 +1,3 @@
+-- What `board_calls` proves.
+pub mod Determined
+pub mod Nothing

@@ -1,0 +1,47 @@
+-- A number that is no slot's enters nothing.
+use mathlib.Core.Path.{_≡_, refl, ap, _∙_}
+use mathlib.Core.Bool.{Bool, true, false, _&&_}
+use mathlib.Core.List.{List}
+use mathlib.Core.Logic.{_⊎_, ⊎-elim}
+use Prim.Native.Nat.{ℕ, _≤_, _<_}
+use native.Mathlib.Omega.{arith}
+use lib.Dec.{eqb, leb}
+use borrow.Author.Tests.{eqb-true, le-leb, lt-leb}
+use Rattle.schedule.specs.Paper.{end, read}
+use Rattle.board.specs.Paper.{enter, tellsOf}
+use Rattle.board.specs.Coded.{lentSchedule}
+use Rattle.board.proofs.Cases.{entered-untold}
+use Rattle.board.proofs.Sets.{enter-low, enter-high}
+use Rattle.board.proofs.Telling.{is-read}
+use Rattle.board_calls.specs.Paper.{enterCall}
+
+module _ (known : Bool) (m : List ℕ) (received slot : ℕ) where
+  -- no schedule tells of it
+  untold-low : slot < 1 → tellsOf (lentSchedule known m received) slot ≡ false
+  unfolding tellsOf
+  untold-low l = go known (eqb (read m received .number) 0)
+    where
+      go : (k g : Bool) → (k && (g && (leb 1 slot && leb slot (end m)))) ≡ false
+      go false g = refl
+      go true false = refl
+      go true true = rw (lt-leb 1 slot l)
+
+  untold-high : 48 < slot → tellsOf (lentSchedule known m received) slot ≡ false
+  unfolding tellsOf
+  untold-high l = go known (eqb (read m received .number) 0) refl
+    where
+      go : (k g : Bool) → eqb (read m received .number) 0 ≡ g → (k && (g && (leb 1 slot && leb slot (end m)))) ≡ false
+      go false g e = refl
+      go true false e = refl
+      go true true e =
+          let past : end m < slot = omega (arith, is-read m received (eqb-true (read m received .number) 0 e) .last) in
+          let some : 1 ≤ slot = omega arith in
+          rw (le-leb 1 slot some, lt-leb slot (end m) past)
+
+  pub enters-nothing : (held : ℕ) → (slot < 1) ⊎ (48 < slot) → enterCall known m received slot held ≡ held
+  enters-nothing held o =
+      let s = lentSchedule known m received in
+      ⊎-elim
+      (λ l. ap (enter held) (entered-untold s slot (untold-low l)) ∙ enter-low held slot l)
+      (λ l. ap (enter held) (entered-untold s slot (untold-high l)) ∙ enter-high held slot l)
+      o

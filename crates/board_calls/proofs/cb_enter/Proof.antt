@@ -1,0 +1,12 @@
+-- `board_calls::cb_enter` meets its contract: the set with the slot entered that the board gives.
+use mathlib.Core.Path.{ap, _∙_}
+use borrow.Author.Needs.{needs}
+use Rattle.board.specs.Paper.{enter}
+use Rattle.board_calls.proofs.cb_enter.Statement.{statement}
+use Rattle.board_calls.proofs.cb_enter.Tie as tie
+
+returns : tie.Need-returns
+returns c = c .with .ensures ∙ ap (enter (c .before .before .before .args .held)) (c .before .entered-under-on .ensures)
+
+pub cb-enter-spec : {M : Type 1} → statement M
+cb-enter-spec = tie.close (tie.spec (λ c κs. search needs) (λ c κs. search needs) returns)

@@ -1,0 +1,2 @@
+-- What `board_calls` defines.
+pub mod Paper

@@ -1,0 +1,3 @@
+-- What `page_calls` proves.
+pub mod Determined
+pub mod Headed

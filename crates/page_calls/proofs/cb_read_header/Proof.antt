@@ -1,0 +1,42 @@
+-- `page_calls::cb_read_header` meets its contract: the header's numbers, packed.
+use native.Mathlib.Omega.{arith}
+use borrow.Author.Needs.{needs}
+use Rattle.page_calls.proofs.Headed.{refuses-header, reads-header}
+use Rattle.page_calls.proofs.cb_read_header.Statement.{statement}
+use Rattle.page_calls.proofs.cb_read_header.Tie as tie
+
+returns : tie.Need-returns
+returns c = refuses-header (c .before .before .before .args .page .now) (c .number .result) (c .number .ensures) (λ e. omega arith)
+
+returns-2 : tie.Need-returns-2
+returns-2 c =
+    let r = c .before .before .before .before in
+    let b = r .before .before .before .before .before .before .before in
+    reads-header (b .before .before .args .page .now) (r .read-header .result) (r .read-header .ensures) (omega arith)
+
+pub cb-read-header-spec : {M : Type 1} → statement M
+cb-read-header-spec =
+    tie.close
+    (tie.spec
+    (λ c κs. search needs)
+    (λ c. search needs)
+    returns
+    (λ c. search needs)
+    (λ c. search needs)
+    (λ c. search needs)
+    (λ c. search needs)
+    (λ c. search needs)
+    (λ c. search needs)
+    (λ c κs. search needs)
+    (λ c. search needs)
+    (λ c. search needs)
+    (λ c. search needs)
+    (λ c. search needs)
+    (λ c. search needs)
+    (λ c. search needs)
+    (λ c. search needs)
+    (λ c. search needs)
+    (λ c. search needs)
+    (λ c. search needs)
+    (λ c. search needs)
+    returns-2)

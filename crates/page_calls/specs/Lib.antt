@@ -1,0 +1,2 @@
+-- What `page_calls` defines.
+pub mod Paper

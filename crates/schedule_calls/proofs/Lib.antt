@@ -1,0 +1,4 @@
+-- What `schedule_calls` proves.
+pub mod Determined
+pub mod Packed
+pub mod Slots

@@ -1,0 +1,62 @@
+-- What is packed into a slot's number, and that it fits.
+use mathlib.Core.Path.{_≡_, refl, ap}
+use mathlib.Core.Bool.{Bool, true, false, cond}
+use mathlib.Core.List.{List}
+use Prim.Native.Nat.{ℕ, _+_, _*_, _≤_, _<_}
+use native.Mathlib.Omega.{arith}
+use lib.Dec.{eqb, leb}
+use mir.Val.{boolByte}
+use borrow.Author.Tests.{leb-true, lt-ltb, le-ltb}
+use Rattle.laws.specs.Radix.{Below}
+use Rattle.laws.proofs.Ruled.{Ruling, refuses, passes, ruling}
+use Rattle.schedule.specs.declared.Slot.{Slot}
+use Rattle.schedule.specs.Paper.{again, optional, advised, octet, short, told, new, Shown, faults, Read, unread, good, read}
+use Rattle.schedule.specs.Coded.{toldOf, shownOf}
+use Rattle.schedule_calls.specs.Paper.{codeOf, bitOf, packedShown}
+use Rattle.schedule_calls.specs.Parts.{packedBy}
+
+-- a bool as a number
+pub bit-byte : (b : Bool) → boolByte b ≡ bitOf b
+bit-byte true = refl
+bit-byte false = refl
+
+pub bit-small : (b : Bool) → boolByte b ≤ 1
+bit-small true = omega arith
+bit-small false = omega arith
+
+-- Begin and End have six bits
+pub ends-small : (m : List ℕ) (received : ℕ) → (read m received .begin < 64) × (read m received .end < 64)
+unfolding read
+ends-small m received = go (ruling unread (faults m received) (good m))
+  where
+    go : {r : Read} → Ruling unread (faults m received) (good m) r → (r .begin < 64) × (r .end < 64)
+    go (refuses n a e) = rw e (omega arith, omega arith)
+    go (passes h e) = rw e (omega arith, omega arith)
+
+-- a description's code has sixteen bits
+short-small : (x : ℕ) → codeOf (short x) < 65536
+short-small x = go (leb x 63) refl (eqb x 65)
+  where
+    go : (b : Bool) → leb x 63 ≡ b → (a : Bool) → codeOf (cond b (again x) (cond a advised optional)) < 65536
+    go true e a = omega (arith, leb-true x 63 e)
+    go false e true = omega arith
+    go false e false = omega arith
+
+pub code-small : (m : List ℕ) → Below 256 m → (at : ℕ) → codeOf (told m at) < 65536
+code-small m below at = go (leb 128 (octet m at)) refl
+  where
+    go : (b : Bool) → leb 128 (octet m at) ≡ b → codeOf (told m at) < 65536
+    go true e = rw e (omega (arith, below at, below (at + 1)))
+    go false e = rw e (short-small (octet m at))
+
+-- a slot's number by its description's place
+module _ (m : List ℕ) (e i at : ℕ) where
+  pub packed-past : e ≤ i → 0 ≡ packedBy m e i at
+  packed-past l = rw (le-ltb i e l)
+
+  module _ (s : Slot) (q : shownOf s ≡ record { new = new m i; told = told m at }) (c : ℕ) (p : c ≡ codeOf (toldOf (s .description))) where
+    pub packed-inside : i < e → c + 0x10000 * boolByte (s .new) ≡ packedBy m e i at
+    packed-inside l = rw (lt-ltb i e l) (omega (arith, p, bit-byte (s .new), ap packedShown q))
+
+    pub packed-fits : Below 256 m → c < 65536
+    packed-fits below = omega (arith, p, ap (λ (x : Shown). codeOf (x .told)) q, code-small m below at)

@@ -1,0 +1,81 @@
+-- `schedule_calls::cb_slots` meets its contract: all slots told from the places of the message's descriptions.
+use mathlib.Core.Path.{sym, ap, _∙_}
+use Prim.Native.Nat.{ℕ, _<_}
+use native.Mathlib.Omega.{arith}
+use borrow.Author.Needs.{needs}
+use Rattle.schedule_calls.proofs.Slots.{slots-length, refuses-slots, found-shows, found-small, tells-slots}
+use Rattle.schedule_calls.proofs.cb_slots.Statement.{statement}
+use Rattle.schedule_calls.proofs.cb_slots.Tie as tie
+
+returns : tie.Need-returns
+returns c =
+    let a = c .before .before .before .before .args in
+    ap (λ (r : ℕ). record { returned = r; memory = a .slots .now }) (c .number .ensures) ∙ sym (slots-length (a .message .now) (a .received) (a .slots .now) (λ e. omega arith))
+
+tell-requires : tie.Need-tell-requires
+tell-requires c κs =
+    let r = c .before .before .before .before .before in
+    let b = r .before in
+    let a = b .before .before .before .args in
+    (omega arith, found-shows (a .message .now) (a .received) (a .slots .now) (omega arith) (r .read-places .result) (r .read-places .ensures) _ _ (c .before .before .before .answer2 .given .1))
+
+-- Begin and End are small
+few : (c : tie.After-slice-known2)
+    → (c .before .before .before .before .before .before .answer2 .given .0 .0 < 64) × (c .before .before .before .before .before .before .answer2 .given .0 .1 .0 < 64)
+few c =
+    let r = c .before .before .before .before .before .before .before .before in
+    let b = r .before in
+    let a = b .before .before .before .args in
+    found-small (a .message .now) (a .received) (a .slots .now) (omega arith) (r .read-places .result) (r .read-places .ensures) _ _ (c .before .before .before .before .before .before .answer2 .given .1)
+
+cast-result-3 : tie.Need-cast-result-3
+cast-result-3 c = omega (arith, few c .0, few c .1)
+
+mul-result : tie.Need-mul-result
+mul-result c = omega (arith, few c .0, few c .1)
+
+cast-result-4 : tie.Need-cast-result-4
+cast-result-4 c = omega (arith, few c .0, few c .1)
+
+mul-result-2 : tie.Need-mul-result-2
+mul-result-2 c = omega (arith, few c .0, few c .1)
+
+add-result : tie.Need-add-result
+add-result c = omega (arith, few c .0, few c .1)
+
+returns-2 : tie.Need-returns-2
+returns-2 c =
+    let r = c .before .before .before .before in
+    let b = r .before in
+    let a = b .before .before .before .args in
+    refuses-slots (a .message .now) (a .received) (a .slots .now) (omega arith) (r .read-places .result) (r .read-places .ensures) _ (c .number2 .result) (c .number2 .ensures) (c .before .before .answer .given .1)
+
+returns-3 : tie.Need-returns-3
+returns-3 c =
+    let r = c .before .before .before .before .before .before .before .before in
+    let b = r .before in
+    let a = b .before .before .before .args in
+    let t = c .before .before .tell in
+    tells-slots (a .message .now) (a .received) (a .slots .now) (omega arith) (r .read-places .result) (r .read-places .ensures) _ _ (c .before .before .before .before .before .before .answer2 .given .1) (t .last .1 .1 .1 .0) (t .ensures)
+
+pub cb-slots-spec : {M : Type 1} → statement M
+cb-slots-spec =
+    tie.close
+    (tie.spec
+    (λ c κs. search needs)
+    (λ c. search needs)
+    returns
+    (λ c κs. search needs)
+    (λ c. search needs)
+    (λ c κs. search needs)
+    (λ c. search needs)
+    (λ c. search needs)
+    tell-requires
+    cast-result-3
+    mul-result
+    cast-result-4
+    mul-result-2
+    add-result
+    returns-2
+    (λ c. search needs)
+    returns-3)
