@@ -1,4 +1,4 @@
--- Demand 2 over C calls: each state in lent memory is the one that the counted pieces leave.
+-- Demand 2 over C calls: each state in lent memory is the one that the counted pieces leave, and nothing from before the start is in it.
 use mathlib.Core.Path.{_≡_, refl, sym, ap, _∙_}
 use mathlib.Core.Bool.{Bool, true, false}
 use mathlib.Core.List.{List, [], _∷_, _++_, append-assoc, append-nil}
@@ -9,7 +9,7 @@ use lib.Dec.{eqb, lit≤}
 use borrow.Author.Tests.{eq-eqb, ne-eqb, eqb-true, eqb-false}
 use Rattle.block.specs.Paper.{Kind, page, schedule, Given, start, step}
 use Rattle.history.specs.History.{completes, refusedBy, after, answered}
-use Rattle.history.proofs.History.{standing, standing-proper, after-append, number-small, complete-exactly, complete-gives, taken-gives, refused-gives}
+use Rattle.history.proofs.History.{standing, standing-proper, after-append, number-small, complete-exactly, complete-gives, taken-gives, goes-on-decided, refused-gives}
 use Rattle.block.proofs.Steps.{proper-facts}
 use Rattle.firmware.specs.Paper.{Left, Started, lent, heldIn, moved, startCall, intakeCall}
 use Rattle.firmware.specs.History.{Call, on, off, afterCalls, counted, called, LentHistory, NeverFinishesLeftovers}
@@ -92,6 +92,7 @@ lent-history =
           called-answered m cs p o long size
           ∙ ap (λ (g : Given). moved g o) (refused-gives (counted cs) p none)
           ∙ sym (refused-over (refusedBy p) (refusedBy p) (lent start) o refl refl);
+      decided = λ cs p. goes-on-decided (counted cs) p;
       uncounted-15 = uncounted-15;
       uncounted-8 = uncounted-8;
     }
@@ -133,14 +134,14 @@ right-lengths m cs p o k e = go (eqb (length o) 88) refl (eqb (length m) 90) ref
         absurd (not-completes k 8 (lit≤ tt) (sym (ap (λ (n : ℕ). n % 256) left) ∙ e))
     go true eo true em = (eqb-true (length m) 90 em, eqb-true (length o) 88 eo)
 
-alike : (m n : List ℕ) (cs : List Call) (p o : List ℕ) → length m ≡ 90 → length n ≡ 90 → called m cs p o ≡ called n cs p o
-alike m n cs p o a b = ap (λ (x : Started). intakeCall (afterCalls (x .state) cs) p o) (started m a ∙ sym (started n b))
+same-start : (m n : List ℕ) → length m ≡ 90 → length n ≡ 90 → startCall m ≡ startCall n
+same-start m n a b = started m a ∙ sym (started n b)
 
 pub never-finishes-leftovers : NeverFinishesLeftovers
 never-finishes-leftovers =
     record {
-      starts-alike = λ m n a b. started m a ∙ sym (started n b);
-      goes-on-alike = alike;
+      starts-alike = same-start;
+      calls-alike = λ m n cs p o a b. ap (λ (x : Started). intakeCall (afterCalls (x .state) cs) p o) (same-start m n a b);
       run-behind = λ m cs p o k e.
           let lengths = right-lengths m cs p o k e in
           let run = lent-history .exactly m cs p o k (lengths .0) (lengths .1) .0 e in

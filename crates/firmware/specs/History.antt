@@ -7,7 +7,7 @@ use Prim.Native.Nat.{ℕ, _+_, _*_, _%_}
 use lib.ListN.{length}
 use lib.Dec.{eqb}
 use Rattle.block.specs.Paper.{Kind, start, filled}
-use Rattle.history.specs.History.{completes, Latest, Run, Unfinished, contents, holding, refusedBy}
+use Rattle.history.specs.History.{completes, Latest, Run, Unfinished, contents, holding, refusedBy, GoesOn}
 use Rattle.firmware.specs.Paper.{Left, lent, startCall, intakeCall}
 
 -- 01 Intake: a call of the intake: on the state as the call before left it, or on memory that is not 90 octets
@@ -31,7 +31,7 @@ counted [] = []
 counted (on p o ∷ cs) = cond (eqb (length o) 88) (p ∷ counted cs) (counted cs)
 counted (off m w p o ∷ cs) = counted cs
 
--- a call after a start call on 90 octets and further calls
+-- a call after a start call on memory m and further calls
 abbrev pub called : List ℕ → List Call → List ℕ → List ℕ → Left
 called m cs p o = intakeCall (afterCalls (startCall m .state) cs) p o
 
@@ -53,8 +53,9 @@ pub record LentHistory : Type 0 where
       → called m cs p o ≡ record { returned = 1; state = lent (holding k u); output = o }
   -- every other piece is refused by 2 to 6, and nothing is held
   pub refuses : (m : List ℕ) (cs : List Call) (p o : List ℕ) → length m ≡ 90 → length o ≡ 88
-      → ((k : Kind) (r : List (List ℕ)) → Latest (counted cs) p r → Run k r ⊎ Unfinished k r → ⊥)
-      → called m cs p o ≡ record { returned = refusedBy p; state = lent start; output = o }
+      → (GoesOn (counted cs) p → ⊥) → called m cs p o ≡ record { returned = refusedBy p; state = lent start; output = o }
+  -- and each piece goes on a message or does not
+  pub decided : (cs : List Call) (p : List ℕ) → GoesOn (counted cs) p ⊎ (GoesOn (counted cs) p → ⊥)
   -- calls that do not count change nothing
   pub uncounted-15 : (s p o : List ℕ) → (length o ≡ 88 → ⊥) → intakeCall s p o ≡ record { returned = 15; state = s; output = o }
   pub uncounted-8 : (s p o : List ℕ) → length o ≡ 88 → (length s ≡ 90 → ⊥) → intakeCall s p o ≡ record { returned = 8; state = s; output = o }
@@ -64,7 +65,7 @@ pub record NeverFinishesLeftovers : Type 0 where
   -- a start answers and leaves the same for any two memories of 90 octets
   pub starts-alike : (m n : List ℕ) → length m ≡ 90 → length n ≡ 90 → startCall m ≡ startCall n
   -- and so does each call after it
-  pub goes-on-alike : (m n : List ℕ) (cs : List Call) (p o : List ℕ) → length m ≡ 90 → length n ≡ 90 → called m cs p o ≡ called n cs p o
+  pub calls-alike : (m n : List ℕ) (cs : List Call) (p o : List ℕ) → length m ≡ 90 → length n ≡ 90 → called m cs p o ≡ called n cs p o
   -- a message complete, on whatever memory, has a run behind it that was given since the start, and is that run's
   pub run-behind : (m : List ℕ) (cs : List Call) (p o : List ℕ) (k : Kind) → called m cs p o .returned % 256 ≡ completes k
       → (r : List (List ℕ)) × Latest (counted cs) p r × Run k r × (called m cs p o ≡ handedOver k r)

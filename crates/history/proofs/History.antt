@@ -16,7 +16,7 @@ use Rattle.laws.proofs.Snoc.{length-snoc, snoc-injective, each-snoc}
 use Rattle.laws.proofs.Tests.{both, neither, either}
 use Rattle.block.specs.Paper.{Kind, page, schedule, kindNumber, codeOf, link, mark, code, last, follows, reserved, faults, filled, Held, Given, start, proper, refusal, made, step}
 use Rattle.block.specs.Coded.{outcome}
-use Rattle.history.specs.History.{completes, IsBlock, Run, Unfinished, Latest, contents, after, answered, holding, refusedBy, CompleteExactly, CompleteGives, TakenGives, RefusedGives}
+use Rattle.history.specs.History.{completes, IsBlock, Run, Unfinished, Latest, contents, after, answered, holding, refusedBy, GoesOn, CompleteExactly, CompleteGives, TakenGives, GoesOnDecided, RefusedGives}
 use Rattle.history.proofs.Joins.{Part, nothing, more, Base, fresh, holds, join, length-part, proper-holding, proper-start}
 
 pub after-append : (h : Held) (ps qs : List (List ℕ)) → after h (ps ++ qs) ≡ after (after h ps) qs
@@ -206,13 +206,13 @@ not-completes : (k : Kind) (n : ℕ) → 1 ≤ n → n ≤ 6 → n ≡ completes
 not-completes page n some few e = omega arith
 not-completes schedule n some few e = omega arith
 
-refused-bounds : (p : List ℕ) → (1 ≤ refusedBy p) × (refusedBy p ≤ 6)
+refused-bounds : (p : List ℕ) → (2 ≤ refusedBy p) × (refusedBy p ≤ 6)
 refused-bounds p = go (ruling (λ (n : ℕ). n) tests 6)
   where
     tests : List (Bool × ℕ)
     tests = (not (eqb (length p) 23), 2) ∷ (not (eqb (link p) 1), 3) ∷ (reserved (code p), 4) ∷ (eqb (code p) 15, 5) ∷ []
 
-    go : Ruling (λ (n : ℕ). n) tests 6 (refusedBy p) → (1 ≤ refusedBy p) × (refusedBy p ≤ 6)
+    go : Ruling (λ (n : ℕ). n) tests 6 (refusedBy p) → (2 ≤ refusedBy p) × (refusedBy p ≤ 6)
     go (refuses n (inl e) q) = omega arith
     go (refuses n (inr (inl e)) q) = omega arith
     go (refuses n (inr (inr (inl e))) q) = omega arith
@@ -231,7 +231,7 @@ complete-run k ps p e = go (view p (standing ps))
     go : View (after start ps) ps p → (r : List (List ℕ)) × Latest ps p r × Run k r
     go (out q) =
         let b = refused-bounds p in
-        absurd (not-completes k (refusedBy p) (b .0) (b .1) (sym (ap (λ (g : Given). g .number) q) ∙ e))
+        absurd (not-completes k (refusedBy p) (omega arith) (b .1) (sym (ap (λ (g : Given). g .number) q) ∙ e))
     go (joins j older u sp part b q) = by (last p (suc (length u))) refl
       where
         by : (l : Bool) → last p (suc (length u)) ≡ l → (r : List (List ℕ)) × Latest ps p r × Run k r
@@ -303,15 +303,32 @@ unfinished-of : {k : Kind} {u : List (List ℕ)} → Part k u → 1 ≤ length u
 unfinished-of part some =
     record { some = some; most = length-part part; each = λ i h. each-part part i h .0; unmarked = λ i h. each-part part i h .1 }
 
+-- the next block of a message goes on it
+goes-on : {ps : List (List ℕ)} (k : Kind) (older u : List (List ℕ)) (p : List ℕ) → ps ≡ older ++ u → Part k u → IsBlock k (length u) p → GoesOn ps p
+goes-on k older u p sp part b = (k, u ++ (p ∷ []), latest-snoc older u p sp, by (last p (suc (length u))) refl)
+  where
+    by : (l : Bool) → last p (suc (length u)) ≡ l → Run k (u ++ (p ∷ [])) ⊎ Unfinished k (u ++ (p ∷ []))
+    by true e = inl (run-of part b e)
+    by false e =
+        let more-to-come = unfinished p (length u) (length-part part) e in
+        inr (unfinished-of (more part (more-to-come .1) b (more-to-come .0)) (rw (length-snoc u p) (omega arith)))
+
+pub goes-on-decided : GoesOnDecided
+goes-on-decided ps p = go (view p (standing ps))
+  where
+    go : View (after start ps) ps p → GoesOn ps p ⊎ (GoesOn ps p → ⊥)
+    go (joins k older u sp part b q) = inl (goes-on k older u p sp part b)
+    go (out q) =
+        let b = refused-bounds p in
+        let number : answered ps p .number ≡ refusedBy p = ap (λ (g : Given). g .number) q in
+        inr (λ x. ⊎-elim
+        (λ run. not-completes (x .0) (refusedBy p) (omega arith) (b .1) (sym number ∙ ap (λ (g : Given). g .number) (complete-gives (x .0) ps p (x .1) (x .2) run)))
+        (λ un. omega (arith, number, ap (λ (g : Given). g .number) (taken-gives (x .0) ps p (x .1) (x .2) un)))
+        (x .3))
+
 pub refused-gives : RefusedGives
 refused-gives ps p none = go (view p (standing ps))
   where
     go : View (after start ps) ps p → answered ps p ≡ refusal (refusedBy p)
     go (out q) = q
-    go (joins k older u sp part b q) = absurd (none k (u ++ (p ∷ [])) (latest-snoc older u p sp) (by (last p (suc (length u))) refl))
-      where
-        by : (l : Bool) → last p (suc (length u)) ≡ l → Run k (u ++ (p ∷ [])) ⊎ Unfinished k (u ++ (p ∷ []))
-        by true e = inl (run-of part b e)
-        by false e =
-            let more-to-come = unfinished p (length u) (length-part part) e in
-            inr (unfinished-of (more part (more-to-come .1) b (more-to-come .0)) (rw (length-snoc u p) (omega arith)))
+    go (joins k older u sp part b q) = absurd (none (goes-on k older u p sp part b))

@@ -83,11 +83,17 @@ refusedBy p =
     ((not (eqb (length p) 23), 2) ∷ (not (eqb (link p) 1), 3) ∷ (reserved (code p), 4) ∷ (eqb (code p) 15, 5) ∷ [])
     6
 
+-- 01 Intake: a piece goes on a message: the latest pieces, up to and with it, are a run or unfinished
+abbrev pub GoesOn : List (List ℕ) → List ℕ → Type 0
+GoesOn ps p = (k : Kind) × (r : List (List ℕ)) × Latest ps p r × (Run k r ⊎ Unfinished k r)
+
+-- each piece does or does not
+abbrev pub GoesOnDecided : Type 0
+GoesOnDecided = (ps : List (List ℕ)) (p : List ℕ) → GoesOn ps p ⊎ (GoesOn ps p → ⊥)
+
 -- 01 Intake: everything else is refused, and the state is as after start
 abbrev pub RefusedGives : Type 0
-RefusedGives =
-    (ps : List (List ℕ)) (p : List ℕ) → ((k : Kind) (r : List (List ℕ)) → Latest ps p r → Run k r ⊎ Unfinished k r → ⊥)
-    → answered ps p ≡ refusal (refusedBy p)
+RefusedGives = (ps : List (List ℕ)) (p : List ℕ) → (GoesOn ps p → ⊥) → answered ps p ≡ refusal (refusedBy p)
 
 -- 01 Blocks: block i of the four that were written, as it is cut from the 92 octets
 abbrev pub piece : Kind → ℕ → List ℕ → ℕ → List ℕ
