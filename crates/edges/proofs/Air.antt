@@ -14,11 +14,12 @@ use Rattle.block.specs.Paper.{Kind, page, schedule, kindNumber, lastUsed, block
 use Rattle.history.specs.History.{after, piece, pieces, expected}
 use Rattle.history.proofs.History.{standing, standing-proper, number-handed}
 use Rattle.history.proofs.Taken.{blocks-taken}
+use Rattle.page.specs.Paper.{Heading}
 use Rattle.text.specs.Paper as text
-use Rattle.readback.proofs.Back.{written-length, used-bounds as text-used, text-back-blocks}
+use Rattle.readback.proofs.Back.{written-length, used-bounds as text-used, text-back-blocks, heading-back}
 use Rattle.sender.specs.Paper.{usedOctets, padded, planned, Writing, write}
 use Rattle.checker.specs.Paper.{check}
-use Rattle.edges.specs.Air.{blockOf, takenAt, StartedProper, Carried, OverTheAir, OursDelivered}
+use Rattle.edges.specs.Air.{blockOf, takenAt, StartedProper, Carried, textHanded, OverTheAir, HeaderOverTheAir, OursDelivered}
 use Rattle.edges.proofs.ReadsBack.{reads-back, used-length}
 use Rattle.edges.proofs.Accepted.{written as ours-written, used-bounds, ours-accepted}
 
@@ -73,21 +74,40 @@ module _ (k : Kind) (m : List ℕ) (used : ℕ) (o : List ℕ) (h : Held) (whole
             ∙ rw (le-ltb (suc i) j (omega arith), ne-eqb (suc i) j (omega arith));
       }
 
+-- a page with text, taken in order
+module _ (heading : Heading) (t p o : List ℕ) (h : Held) (z : text.written heading t p .number ≡ 0) (room : length o ≡ 92) (good : proper h ≡ true) where
+  text-carried : Carried page (text.written heading t p .page) (text.written heading t p .used) o h
+  text-carried =
+      let bounds = text-used heading t p z in
+      carries page (text.written heading t p .page) (text.written heading t p .used) o h (written-length heading t p z) (omega arith) (bounds .1) room good
+
+  text-agrees : take (22 * lastUsed (text.written heading t p .used)) (textHanded heading t p o h .octets)
+      ≡ take (22 * lastUsed (text.written heading t p .used)) (text.written heading t p .page)
+  text-agrees =
+      let w = text.written heading t p in
+      ap (λ (g : Given). take (22 * lastUsed (w .used)) (g .octets)) (text-carried .handed)
+      ∙ handed-agrees (w .page) (w .used) (written-length heading t p z) (text-used heading t p z .1)
+
 pub over-the-air : OverTheAir
 over-the-air heading t p o u h z room size good =
     let w = text.written heading t p in
-    let whole = written-length heading t p z in
-    let bounds = text-used heading t p z in
-    let c : Carried page (w .page) (w .used) o h = carries page (w .page) (w .used) o h whole (omega arith) (bounds .1) room good in
-    let q = filled (take (22 * lastUsed (w .used)) (w .page)) in
+    let c = text-carried heading t p o h z room good in
+    let q = textHanded heading t p o h .octets in
+    let whole : length q ≡ 88 = ap (λ (g : Given). length (g .octets)) (c .handed) ∙ handed-length (w .page) (w .used) (written-length heading t p z) (text-used heading t p z .1) in
     record {
       carried = c;
       reads =
-          ap (λ (g : Given). text.reading (g .octets) (g .received) u) (c .handed)
-          ∙ text-back-blocks heading t p q u z
-          (handed-length (w .page) (w .used) whole (bounds .1)) size
-          (handed-agrees (w .page) (w .used) whole (bounds .1));
+          ap (λ (g : Given). text.reading q (g .received) u) (c .handed)
+          ∙ text-back-blocks heading t p q u z whole size (text-agrees heading t p o h z room good);
     }
+
+pub header-over-the-air : HeaderOverTheAir
+header-over-the-air heading t p o h z room good =
+    let w = text.written heading t p in
+    let used = text-used heading t p z in (
+      ap (λ (g : Given). g .number) (text-carried heading t p o h z room good .handed),
+      heading-back heading t p (textHanded heading t p o h .octets) (22 * lastUsed (w .used)) z (omega arith) (text-agrees heading t p o h z room good),
+    )
 
 -- 2B that is cut off a padded message is put back
 filled-padded : (x : List ℕ) (n : ℕ) → length x ≤ n → n ≤ 88 → filled (take n (padded x)) ≡ padded x

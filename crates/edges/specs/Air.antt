@@ -5,7 +5,7 @@ use mathlib.Core.List.{List, _++_}
 use Prim.Native.Nat.{ℕ, suc, _*_, _-_, _≤_, _<_}
 use lib.ListN.{length, take, drop, replicate}
 use Rattle.laws.specs.Upto.{each}
-use Rattle.page.specs.Paper.{Heading}
+use Rattle.page.specs.Paper.{Heading, header}
 use Rattle.text.specs.Paper as text
 use Rattle.block.specs.Paper.{Kind, page, schedule, lastUsed, Held, Given, filled, start, proper, step, written}
 use Rattle.history.specs.History.{completes, after}
@@ -57,6 +57,12 @@ abbrev pub OverTheAir : Type 0
 OverTheAir =
     (heading : Heading) (t p o u : List ℕ) (h : Held) → text.written heading t p .number ≡ 0 → length o ≡ 92 → length u ≡ 93 → proper h ≡ true
     → Heard heading t p o u h
+
+-- 01 Page and text: its page is handed out with the serial number, identifier, scheme and parameter that were written, on any such board
+abbrev pub HeaderOverTheAir : Type 0
+HeaderOverTheAir =
+    (heading : Heading) (t p o : List ℕ) (h : Held) → text.written heading t p .number ≡ 0 → length o ≡ 92 → proper h ≡ true
+    → (textHanded heading t p o h .number ≡ completes page) × (header (take 6 (textHanded heading t p o h .octets)) ≡ heading)
 
 -- 01 The plan, our writer: what a board in state h is handed of the schedule message of c and p with Begin b, written to m
 abbrev pub scheduleHanded : Plan → Plan → ℕ → List ℕ → List ℕ → Held → Given

@@ -1,18 +1,19 @@
--- Demand 2 over C calls: each state in lent memory is the one that the counted pieces leave.
+-- Demand 2 over C calls: each state in lent memory is the one that the counted pieces leave, and nothing from before the start is in it.
 use mathlib.Core.Path.{_≡_, refl, sym, ap, _∙_}
 use mathlib.Core.Bool.{Bool, true, false}
 use mathlib.Core.List.{List, [], _∷_, _++_, append-assoc, append-nil}
 use Prim.Native.Nat.{ℕ, _+_, _*_, _%_, _≤_}
 use native.Mathlib.Omega.{arith}
 use lib.ListN.{length}
-use lib.Dec.{eqb}
-use borrow.Author.Tests.{eq-eqb, ne-eqb, eqb-true}
-use Rattle.block.specs.Paper.{Given, start, step}
-use Rattle.history.specs.History.{after, answered}
-use Rattle.history.proofs.History.{standing, standing-proper, after-append, number-small, complete-exactly, complete-gives}
+use lib.Dec.{eqb, lit≤}
+use borrow.Author.Tests.{eq-eqb, ne-eqb, eqb-true, eqb-false}
+use Rattle.block.specs.Paper.{Kind, page, schedule, Given, start, step}
+use Rattle.history.specs.History.{completes, refusedBy, after, answered}
+use Rattle.history.proofs.History.{standing, standing-proper, after-append, number-small, complete-exactly, complete-gives, taken-gives, goes-on-decided, refused-gives}
 use Rattle.block.proofs.Steps.{proper-facts}
-use Rattle.firmware.specs.Paper.{Left, lent, heldIn, moved, startCall, intakeCall}
-use Rattle.firmware.specs.History.{Call, on, off, afterCalls, counted, called, LentHistory}
+use Rattle.firmware.specs.Paper.{Left, Started, lent, heldIn, moved, startCall, intakeCall}
+use Rattle.firmware.specs.History.{Call, on, off, afterCalls, counted, called, LentHistory, NeverFinishesLeftovers}
+use Rattle.firmware.proofs.Lent.{refused-over}
 
 -- memory that holds what pieces leave is 90 octets long
 length-lent : (ps : List (List ℕ)) → length (lent (after start ps)) ≡ 90
@@ -23,10 +24,14 @@ pub right : (s p o : List ℕ) → length s ≡ 90 → length o ≡ 88 → intak
 unfolding intakeCall
 right s p o long size = simp (eq-eqb _ _ size, eq-eqb _ _ long)
 
--- a call with an output of another length leaves the state
-wrong : (s p o : List ℕ) → eqb (length o) 88 ≡ false → intakeCall s p o .state ≡ s
+-- calls that do not count change nothing
+uncounted-15 : (s p o : List ℕ) → (length o ≡ 88 → ⊥) → intakeCall s p o ≡ record { returned = 15; state = s; output = o }
 unfolding intakeCall
-wrong s p o e = rw e
+uncounted-15 s p o w = rw (ne-eqb (length o) 88 w)
+
+uncounted-8 : (s p o : List ℕ) → length o ≡ 88 → (length s ≡ 90 → ⊥) → intakeCall s p o ≡ record { returned = 8; state = s; output = o }
+unfolding intakeCall
+uncounted-8 s p o size w = rw (eq-eqb (length o) 88 size, ne-eqb (length s) 90 w)
 
 after-one : (ps : List (List ℕ)) (p : List ℕ) → after start (ps ++ (p ∷ [])) ≡ step (after start ps) p .next
 unfolding after
@@ -41,14 +46,16 @@ lent-after ps (on p o ∷ cs) = go (λ qs. lent-after qs cs) (eqb (length o) 88)
   where
     go : ((qs : List (List ℕ)) → afterCalls (lent (after start qs)) cs ≡ lent (after start (qs ++ counted cs))) → (b : Bool) → eqb (length o) 88 ≡ b
         → afterCalls (intakeCall (lent (after start ps)) p o .state) cs ≡ lent (after start (ps ++ counted (on p o ∷ cs)))
-    go rest false e = rw (wrong (lent (after start ps)) p o e, e) (rest ps)
+    go rest false e =
+        let state = ap (λ (x : Left). x .state) (uncounted-15 (lent (after start ps)) p o (eqb-false (length o) 88 e)) in
+        rw (state, e) (rest ps)
     go rest true e =
         let one = after-one ps p in
         let state = ap (λ (x : Left). x .state) (right (lent (after start ps)) p o (length-lent ps) (eqb-true (length o) 88 e)) in
         rw (state, e, ← one, ← append-assoc ps (p ∷ []) (counted cs)) (rest (ps ++ (p ∷ [])))
 
 -- a start call on 90 octets leaves a started state
-started : (m : List ℕ) → length m ≡ 90 → startCall m .state ≡ lent start
+started : (m : List ℕ) → length m ≡ 90 → startCall m ≡ record { number = 0; state = lent start }
 unfolding startCall
 started m long = rw (eq-eqb (length m) 90 long)
 
@@ -56,7 +63,7 @@ started m long = rw (eq-eqb (length m) 90 long)
 called-answered : (m : List ℕ) (cs : List Call) (p o : List ℕ) → length m ≡ 90 → length o ≡ 88 → called m cs p o ≡ moved (answered (counted cs) p) o
 unfolding after
 called-answered m cs p o long size =
-    rw (started m long, lent-after [] cs) (right (lent (after start (counted cs))) p o (length-lent (counted cs)) size)
+    rw (ap (λ (x : Started). x .state) (started m long), lent-after [] cs) (right (lent (after start (counted cs))) p o (length-lent (counted cs)) size)
 
 -- the answer can be read off the returned number
 pub answer-of : (n r : ℕ) → n ≤ 8 → (n + 256 * r) % 256 ≡ n
@@ -65,12 +72,6 @@ answer-of n r h = omega arith
 -- some blocks are some octets
 some : (n : ℕ) → 1 ≤ n → 22 * n ≡ 0 → ⊥
 some n h e = omega arith
-
--- a call on memory that is not 90 octets leaves it
-other : (m p o : List ℕ) → (length m ≡ 90 → ⊥) → (b : Bool) → eqb (length o) 88 ≡ b → intakeCall m p o .state ≡ m
-unfolding intakeCall
-other m p o w false e = rw e
-other m p o w true e = rw (e, ne-eqb (length m) 90 w)
 
 pub lent-history : LentHistory
 lent-history =
@@ -85,5 +86,64 @@ lent-history =
           called-answered m cs p o long size
           ∙ ap (λ (g : Given). moved g o) (complete-gives k (counted cs) p r l run)
           ∙ rw (ne-eqb (22 * length r) 0 (some (length r) (run .some)));
-      uncounted = λ m w p o. other m p o w (eqb (length o) 88) refl;
+      takes = λ m cs p o k u long size l un.
+          called-answered m cs p o long size ∙ ap (λ (g : Given). moved g o) (taken-gives k (counted cs) p u l un);
+      refuses = λ m cs p o long size none.
+          called-answered m cs p o long size
+          ∙ ap (λ (g : Given). moved g o) (refused-gives (counted cs) p none)
+          ∙ sym (refused-over (refusedBy p) (refusedBy p) (lent start) o refl refl);
+      decided = λ cs p. goes-on-decided (counted cs) p;
+      uncounted-15 = uncounted-15;
+      uncounted-8 = uncounted-8;
+    }
+
+-- memory that is not 90 octets is never started, and no call changes it
+module _ (m : List ℕ) (short : length m ≡ 90 → ⊥) where
+  not-started : startCall m .state ≡ m
+  unfolding startCall
+  not-started = rw (ne-eqb (length m) 90 short)
+
+  call-leaves : (p o : List ℕ) (b : Bool) → eqb (length o) 88 ≡ b → intakeCall m p o .state ≡ m
+  call-leaves p o false e = ap (λ (x : Left). x .state) (uncounted-15 m p o (eqb-false (length o) 88 e))
+  call-leaves p o true e = ap (λ (x : Left). x .state) (uncounted-8 m p o (eqb-true (length o) 88 e) short)
+
+  calls-leave : (cs : List Call) → afterCalls m cs ≡ m
+  unfolding afterCalls
+  calls-leave [] = refl
+  calls-leave (off n w p o ∷ cs) = calls-leave cs
+  calls-leave (on p o ∷ cs) = rw (call-leaves p o _ refl) (calls-leave cs)
+
+-- a message complete is answered by less than 8
+not-completes : (k : Kind) (n : ℕ) → 8 ≤ n → n ≡ completes k → ⊥
+not-completes page n h e = omega arith
+not-completes schedule n h e = omega arith
+
+-- a call that completes a message has lengths that count
+right-lengths : (m : List ℕ) (cs : List Call) (p o : List ℕ) (k : Kind) → called m cs p o .returned % 256 ≡ completes k → (length m ≡ 90) × (length o ≡ 88)
+right-lengths m cs p o k e = go (eqb (length o) 88) refl (eqb (length m) 90) refl
+  where
+    go : (b : Bool) → eqb (length o) 88 ≡ b → (c : Bool) → eqb (length m) 90 ≡ c → (length m ≡ 90) × (length o ≡ 88)
+    go false eo c em =
+        absurd (not-completes k 15 (lit≤ tt) (sym (ap (λ (x : Left). x .returned % 256) (uncounted-15 (afterCalls (startCall m .state) cs) p o (eqb-false (length o) 88 eo))) ∙ e))
+    go true eo false em =
+        let short = eqb-false (length m) 90 em in
+        let state : afterCalls (startCall m .state) cs ≡ m = ap (λ (s : List ℕ). afterCalls s cs) (not-started m short) ∙ calls-leave m short cs in
+        let left : called m cs p o .returned ≡ 8 =
+        ap (λ (s : List ℕ). intakeCall s p o .returned) state
+        ∙ ap (λ (x : Left). x .returned) (uncounted-8 m p o (eqb-true (length o) 88 eo) short) in
+        absurd (not-completes k 8 (lit≤ tt) (sym (ap (λ (n : ℕ). n % 256) left) ∙ e))
+    go true eo true em = (eqb-true (length m) 90 em, eqb-true (length o) 88 eo)
+
+same-start : (m n : List ℕ) → length m ≡ 90 → length n ≡ 90 → startCall m ≡ startCall n
+same-start m n a b = started m a ∙ sym (started n b)
+
+pub never-finishes-leftovers : NeverFinishesLeftovers
+never-finishes-leftovers =
+    record {
+      starts-alike = same-start;
+      calls-alike = λ m n cs p o a b. ap (λ (x : Started). intakeCall (afterCalls (x .state) cs) p o) (same-start m n a b);
+      run-behind = λ m cs p o k e.
+          let lengths = right-lengths m cs p o k e in
+          let run = lent-history .exactly m cs p o k (lengths .0) (lengths .1) .0 e in
+          (run .0, run .1, run .2, lent-history .gives m cs p o k (run .0) (lengths .0) (lengths .1) (run .1) (run .2));
     }

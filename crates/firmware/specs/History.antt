@@ -1,13 +1,13 @@
--- Calls given one after the other to the same state: the statement of demand 2 for C.
+-- Calls given one after the other to the same state: the statements of demand 2 for C.
 use mathlib.Core.Path.{_≡_}
 use mathlib.Core.Bool.{cond}
 use mathlib.Core.List.{List, [], _∷_}
-use mathlib.Core.Logic.{_↔_}
+use mathlib.Core.Logic.{_↔_, _⊎_}
 use Prim.Native.Nat.{ℕ, _+_, _*_, _%_}
 use lib.ListN.{length}
 use lib.Dec.{eqb}
 use Rattle.block.specs.Paper.{Kind, start, filled}
-use Rattle.history.specs.History.{completes, Latest, Run, contents}
+use Rattle.history.specs.History.{completes, Latest, Run, Unfinished, contents, holding, refusedBy, GoesOn}
 use Rattle.firmware.specs.Paper.{Left, lent, startCall, intakeCall}
 
 -- 01 Intake: a call of the intake: on the state as the call before left it, or on memory that is not 90 octets
@@ -31,15 +31,41 @@ counted [] = []
 counted (on p o ∷ cs) = cond (eqb (length o) 88) (p ∷ counted cs) (counted cs)
 counted (off m w p o ∷ cs) = counted cs
 
--- a call after a start call on 90 octets and further calls
+-- a call after a start call on memory m and further calls
 abbrev pub called : List ℕ → List Call → List ℕ → List ℕ → Left
 called m cs p o = intakeCall (afterCalls (startCall m .state) cs) p o
 
--- 00 demand 2, for C: a message is complete at a call exactly when the latest pieces that count are a run of it, and then the output is the run's
+-- what a call leaves that completes a message of kind k with the run r
+abbrev pub handedOver : Kind → List (List ℕ) → Left
+handedOver k r = record { returned = completes k + 256 * (22 * length r); state = lent start; output = filled (contents r) }
+
+-- 00 demand 2, for C: what every call after a start on 90 octets returns and leaves, by the pieces that count
 pub record LentHistory : Type 0 where
+  -- a message is complete exactly when the latest pieces are a run of it
   pub exactly : (m : List ℕ) (cs : List Call) (p o : List ℕ) (k : Kind) → length m ≡ 90 → length o ≡ 88
       → (called m cs p o .returned % 256 ≡ completes k) ↔ ((r : List (List ℕ)) × Latest (counted cs) p r × Run k r)
+  -- and then it is the run's
   pub gives : (m : List ℕ) (cs : List Call) (p o : List ℕ) (k : Kind) (r : List (List ℕ)) → length m ≡ 90 → length o ≡ 88
-      → Latest (counted cs) p r → Run k r
-      → called m cs p o ≡ record { returned = completes k + 256 * (22 * length r); state = lent start; output = filled (contents r) }
-  pub uncounted : (m : List ℕ) → (length m ≡ 90 → ⊥) → (p o : List ℕ) → intakeCall m p o .state ≡ m
+      → Latest (counted cs) p r → Run k r → called m cs p o ≡ handedOver k r
+  -- blocks that the next one may follow are held
+  pub takes : (m : List ℕ) (cs : List Call) (p o : List ℕ) (k : Kind) (u : List (List ℕ)) → length m ≡ 90 → length o ≡ 88
+      → Latest (counted cs) p u → Unfinished k u
+      → called m cs p o ≡ record { returned = 1; state = lent (holding k u); output = o }
+  -- every other piece is refused by 2 to 6, and nothing is held
+  pub refuses : (m : List ℕ) (cs : List Call) (p o : List ℕ) → length m ≡ 90 → length o ≡ 88
+      → (GoesOn (counted cs) p → ⊥) → called m cs p o ≡ record { returned = refusedBy p; state = lent start; output = o }
+  -- and each piece goes on a message or does not
+  pub decided : (cs : List Call) (p : List ℕ) → GoesOn (counted cs) p ⊎ (GoesOn (counted cs) p → ⊥)
+  -- calls that do not count change nothing
+  pub uncounted-15 : (s p o : List ℕ) → (length o ≡ 88 → ⊥) → intakeCall s p o ≡ record { returned = 15; state = s; output = o }
+  pub uncounted-8 : (s p o : List ℕ) → length o ≡ 88 → (length s ≡ 90 → ⊥) → intakeCall s p o ≡ record { returned = 8; state = s; output = o }
+
+-- 00, the first version's fault: what lies in memory before a start has no say in what comes after it
+pub record NeverFinishesLeftovers : Type 0 where
+  -- a start answers and leaves the same for any two memories of 90 octets
+  pub starts-alike : (m n : List ℕ) → length m ≡ 90 → length n ≡ 90 → startCall m ≡ startCall n
+  -- and so does each call after it
+  pub calls-alike : (m n : List ℕ) (cs : List Call) (p o : List ℕ) → length m ≡ 90 → length n ≡ 90 → called m cs p o ≡ called n cs p o
+  -- a message complete, on whatever memory, has a run behind it that was given since the start, and is that run's
+  pub run-behind : (m : List ℕ) (cs : List Call) (p o : List ℕ) (k : Kind) → called m cs p o .returned % 256 ≡ completes k
+      → (r : List (List ℕ)) × Latest (counted cs) p r × Run k r × (called m cs p o ≡ handedOver k r)

@@ -11,18 +11,14 @@ use borrow.Author.Tests.{eq-eqb, ne-eqb, le-leb}
 use Rattle.laws.proofs.Snoc.{length-snoc}
 use Rattle.block.specs.Paper.{Kind, page, schedule, kindNumber, mark, code, last, filled, Held, start, proper, allBlank, refusal, added, step}
 use Rattle.block.specs.Place.{none, first, next, placeOf}
-use Rattle.block.specs.Coded.{held, outcome}
+use Rattle.block.specs.Coded.{outcome}
 use Rattle.block.proofs.Steps.{step-met, met}
-use Rattle.history.specs.History.{IsBlock, contents}
+use Rattle.history.specs.History.{IsBlock, contents, holding}
 
 -- unmarked blocks of a message of kind k, in order from the first, none or up to three
 pub data Part (k : Kind) : List (List ℕ) → Type 0 where
   nothing : Part k []
   more : {u : List (List ℕ)} {p : List ℕ} → Part k u → length u ≤ 2 → IsBlock k (length u) p → mark p ≡ 0 → Part k (u ++ (p ∷ []))
-
--- the state that holds them
-abbrev pub holding : Kind → List (List ℕ) → Held
-holding k u = held (kindNumber k) (length u) (filled (contents u))
 
 pub contents-snoc : (u : List (List ℕ)) (p : List ℕ) → contents (u ++ (p ∷ [])) ≡ contents u ++ drop 1 p
 unfolding contents

@@ -1,12 +1,13 @@
 -- Pieces given one after the other from a started state: the statements of demand 2.
 use mathlib.Core.Path.{_≡_}
-use mathlib.Core.Bool.{cond, true}
+use mathlib.Core.Bool.{cond, not, true}
 use mathlib.Core.List.{List, [], _∷_, _++_}
 use mathlib.Core.Logic.{_⊎_, _↔_}
 use Prim.Native.Nat.{ℕ, zero, suc, _*_, _-_, _≤_, _<_}
 use lib.ListN.{length, take, drop, getD}
 use lib.Dec.{eqb, ltb}
-use Rattle.block.specs.Paper.{Kind, page, schedule, link, mark, code, codeOf, kindNumber, lastUsed, blocks, Held, Given, filled, start, proper, refusal, handed, kept, step}
+use Rattle.laws.specs.Ruled.{ruled}
+use Rattle.block.specs.Paper.{Kind, page, schedule, link, mark, code, reserved, codeOf, kindNumber, lastUsed, blocks, Held, Given, filled, start, proper, refusal, handed, kept, step}
 
 -- 01 Numbers given: the answer to the piece that completes a message
 abbrev pub completes : Kind → ℕ
@@ -36,6 +37,13 @@ pub record Run (k : Kind) (r : List (List ℕ)) : Type 0 where
   pub unmarked : (i : ℕ) → suc i < length r → mark (getD r i []) ≡ 0
   pub ended : (mark (getD r (length r - 1) []) ≡ 1) ⊎ (length r ≡ 4)
 
+-- 01 Intake: a first block and its consecutive followers, up to three and none marked, which the next block may follow
+pub record Unfinished (k : Kind) (u : List (List ℕ)) : Type 0 where
+  pub some : 1 ≤ length u
+  pub most : length u ≤ 3
+  pub each : (i : ℕ) → i < length u → IsBlock k i (getD u i [])
+  pub unmarked : (i : ℕ) → i < length u → mark (getD u i []) ≡ 0
+
 -- 00 demand 2: the latest pieces, up to and with p, are r
 pub record Latest (ps : List (List ℕ)) (p : List ℕ) (r : List (List ℕ)) : Type 0 where
   pub older : List (List ℕ)
@@ -58,11 +66,34 @@ CompleteGives =
     (k : Kind) (ps : List (List ℕ)) (p : List ℕ) (r : List (List ℕ)) → Latest ps p r → Run k r
     → answered ps p ≡ record { number = completes k; received = 22 * length r; octets = filled (contents r); next = start }
 
--- 00, the first version's fault: what came before a run has no say in what is handed out
-abbrev pub NeverFinishesLeftovers : Type 0
-NeverFinishesLeftovers =
-    (k : Kind) (ps qs : List (List ℕ)) (p : List ℕ) (r : List (List ℕ)) → Latest ps p r → Latest qs p r → Run k r
-    → answered ps p ≡ answered qs p
+-- 01 Intake: the blocks held of an unfinished message, in a state
+abbrev pub holding : Kind → List (List ℕ) → Held
+holding k u = record { kind = kindNumber k; taken = length u; octets = filled (contents u) }
+
+-- 01 Intake: at a piece with which the latest ones are unfinished, it is only taken, and they are held
+abbrev pub TakenGives : Type 0
+TakenGives =
+    (k : Kind) (ps : List (List ℕ)) (p : List ℕ) (u : List (List ℕ)) → Latest ps p u → Unfinished k u
+    → answered ps p ≡ kept (holding k u)
+
+-- 01 Intake, Order: what refuses a piece that goes on no message: 2 to 5 by itself, and 6 for a block that is not next
+abbrev pub refusedBy : List ℕ → ℕ
+refusedBy p =
+    ruled (λ n. n)
+    ((not (eqb (length p) 23), 2) ∷ (not (eqb (link p) 1), 3) ∷ (reserved (code p), 4) ∷ (eqb (code p) 15, 5) ∷ [])
+    6
+
+-- 01 Intake: a piece goes on a message: the latest pieces, up to and with it, are a run or unfinished
+abbrev pub GoesOn : List (List ℕ) → List ℕ → Type 0
+GoesOn ps p = (k : Kind) × (r : List (List ℕ)) × Latest ps p r × (Run k r ⊎ Unfinished k r)
+
+-- each piece does or does not
+abbrev pub GoesOnDecided : Type 0
+GoesOnDecided = (ps : List (List ℕ)) (p : List ℕ) → GoesOn ps p ⊎ (GoesOn ps p → ⊥)
+
+-- 01 Intake: everything else is refused, and the state is as after start
+abbrev pub RefusedGives : Type 0
+RefusedGives = (ps : List (List ℕ)) (p : List ℕ) → (GoesOn ps p → ⊥) → answered ps p ≡ refusal (refusedBy p)
 
 -- 01 Blocks: block i of the four that were written, as it is cut from the 92 octets
 abbrev pub piece : Kind → ℕ → List ℕ → ℕ → List ℕ

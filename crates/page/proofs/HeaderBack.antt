@@ -1,11 +1,11 @@
 -- The header's octets and what they say determine each other.
 use mathlib.Core.Path.{_≡_, refl}
-use mathlib.Core.List.{List, [], _∷_, _++_}
+use mathlib.Core.List.{[], _∷_}
 use Prim.Native.Nat.{ℕ, _+_, _*_, _/_, _%_, _<_}
 use native.Mathlib.Nat.{div-add-mod'}
 use native.Mathlib.Omega.{arith}
 use lib.ListN.{length}
-use Rattle.page.specs.Paper.{Heading, octet, header, headerOctets}
+use Rattle.page.specs.Paper.{Heading, header, headerOctets}
 
 -- what was written is read back
 pub header-back : (h : Heading) → header (headerOctets h) ≡ h
@@ -25,8 +25,3 @@ octets-back a b c d e f hb hd =
 pub header-length : (h : Heading) → length (headerOctets h) ≡ 6
 unfolding headerOctets
 header-length h = refl
-
--- the coding scheme stands at octet 5 of a page
-pub header-scheme : (h : Heading) (content : List ℕ) → octet (headerOctets h ++ content) 5 ≡ h .scheme
-unfolding headerOctets
-header-scheme h content = refl

@@ -8,7 +8,7 @@ use native.Mathlib.Omega.{arith}
 use lib.Dec.{eqb, lit<}
 use lib.ListN.{length, getD, take, drop, replicate, length-append, length-map}
 use lib.Pow.{pow-add}
-use lib.Seq.{take-length, drop-at, take-append-add, getD-take}
+use lib.Seq.{take-length, take-at, take-take, drop-at, take-append-add, getD-take}
 use borrow.Author.Tests.{eqb-false}
 use Rattle.laws.specs.Radix.{value, Below}
 use Rattle.laws.specs.Received.{wholeBlocks}
@@ -18,8 +18,8 @@ use Rattle.laws.proofs.Received.{whole-times, whole-bounds}
 use Rattle.laws.proofs.Tests.{neither}
 use Rattle.alphabet.specs.Paper.{codePoint, septetOf, noSeptet}
 use Rattle.alphabet.proofs.Laws.{Writes, reads-cr}
-use Rattle.page.specs.Paper.{Heading, headerOctets, octet}
-use Rattle.page.proofs.HeaderBack.{header-length, header-scheme}
+use Rattle.page.specs.Paper.{Heading, header, headerOctets, octet}
+use Rattle.page.proofs.HeaderBack.{header-back, header-length}
 use Rattle.text.specs.Paper.{Writing, cr, septets, packed, pageOf, usedOctets, foreign, endsInCr, written, wholeOf, received, trimmed, shown, reading}
 use Rattle.text.proofs.Cases.{reading-0}
 use Rattle.text.proofs.Septets.{known, septets-count, septets-below}
@@ -41,7 +41,7 @@ front-back s m e h low =
     ∙ digits-front 128 (8 * m / 7) s low (omega arith))
 
 -- CRs after some septets are dropped
-trim-padding : (j : ℕ) (s : List ℕ) → trimmed (s ++ replicate j cr) ≡ trimmed s
+pub trim-padding : (j : ℕ) (s : List ℕ) → trimmed (s ++ replicate j cr) ≡ trimmed s
 trim-padding zero s = rw (append-nil s)
 trim-padding (suc j) s =
     ap trimmed (sym (append-assoc s (cr ∷ []) (replicate j cr))) ∙ trim-padding j (s ++ (cr ∷ [])) ∙ trim-cr s
@@ -111,11 +111,18 @@ written-length h t p z =
     ∙ length-append (headerOctets h) (packed (septets t))
     ∙ rw (header-length h, length-digits 256 82 (value 128 (septets t)))
 
-scheme-back : (h : Heading) (t q : List ℕ) (n : ℕ) → 6 ≤ n → take n q ≡ take n (pageOf h t) → octet q 5 ≡ h .scheme
+-- what agrees with a written page on its header octets has the header that was written
+heading-agrees : (h : Heading) (t q : List ℕ) (n : ℕ) → 6 ≤ n → take n q ≡ take n (pageOf h t) → header (take 6 q) ≡ h
 unfolding pageOf
-scheme-back h t q n l e =
-    sym (getD-take n q 4 0 (omega arith)) ∙ ap (λ (x : List ℕ). getD x 4 0) e ∙ getD-take n (pageOf h t) 4 0 (omega arith)
-    ∙ header-scheme h (packed (septets t))
+heading-agrees h t q n l e =
+    let front : take 6 q ≡ headerOctets h =
+    sym (take-take 6 n q l) ∙ ap (λ (x : List ℕ). take 6 x) e ∙ take-take 6 n (pageOf h t) l
+    ∙ take-at (headerOctets h) (packed (septets t)) 6 (header-length h) in
+    ap header front ∙ header-back h
+
+scheme-back : (h : Heading) (t q : List ℕ) (n : ℕ) → 6 ≤ n → take n q ≡ take n (pageOf h t) → octet q 5 ≡ h .scheme
+unfolding header
+scheme-back h t q n l e = sym (getD-take 6 q 4 0 (lit< tt)) ∙ ap (λ (x : Heading). x .scheme) (heading-agrees h t q n l e)
 
 shown-back : (t : List ℕ) → foreign t ≡ false → shown (map septetOf t) ≡ record { number = 0; characters = length t; text = t ++ replicate (93 - length t) 0 }
 unfolding shown
@@ -145,6 +152,11 @@ text-back h t p z q u n w used lq lu agree =
     ∙ ap (λ (l : List ℕ). shown (trimmed l)) got
     ∙ ap shown (trim-front-back t (8 * (n - 6) / 7) (omega arith) (a .known) (a .open-ended))
     ∙ shown-back t (a .known)
+
+-- the header of any page that agrees with the written one on the octets received is the one that was written
+pub heading-back : (h : Heading) (t p q : List ℕ) (n : ℕ) → written h t p .number ≡ 0 → 6 ≤ n → take n q ≡ take n (written h t p .page) → header (take 6 q) ≡ h
+heading-back h t p q n z l agree =
+    heading-agrees h t q n l (agree ∙ ap (λ (x : Writing). take n (x .page)) (writer-accepts h t p z .result))
 
 -- the written page itself, received whole
 pub text-back-whole : (h : Heading) (t p u : List ℕ) → written h t p .number ≡ 0 → length u ≡ 93

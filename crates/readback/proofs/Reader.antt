@@ -1,16 +1,18 @@
 -- What the reader says of its characters: how many there are at most, and what was dropped.
 use mathlib.Core.Path.{_≡_, refl, sym, ap, _∙_}
 use mathlib.Core.List.{List, _++_}
-use Prim.Native.Nat.{ℕ, _-_, _≤_}
+use Prim.Native.Nat.{ℕ, _-_, _≤_, _<_}
 use native.Mathlib.Nat.{min-le-left}
 use native.Mathlib.Omega.{arith}
 use lib.Dec.{lit≤}
-use lib.ListN.{length, take, drop, replicate, length-take}
+use lib.ListN.{length, getD, take, drop, replicate, length-take}
+use lib.Seq.{length-take-le}
 use Rattle.laws.proofs.Radix.{length-digits}
 use Rattle.laws.proofs.Received.{whole-bounds}
 use Rattle.text.specs.Paper.{Reading, cr, wholeOf, received, trimmed, shown, reading}
-use Rattle.text.proofs.Trim.{trim-rest, trim-length, trim-front}
+use Rattle.text.proofs.Trim.{trim-back, trim-rest, trim-length, trim-front}
 use Rattle.readback.proofs.Accepted.{Reads, refused, read, reads}
+use Rattle.readback.proofs.Back.{trim-padding}
 
 -- the number of characters is that of the septets left
 count-shown : (s : List ℕ) → shown s .characters ≡ length s
@@ -33,13 +35,34 @@ characters-bounded p n t = go (reads p n t)
         let c : reading p n t .characters ≡ length (trimmed (received p n)) = ap (λ (r : Reading). r .characters) e ∙ count-shown (trimmed (received p n)) in
         omega (arith, c, trim-length (received p n), received-bound p n (whole-bounds n w .1))
 
--- the septets received are those shown and then CRs only
-pub drops-crs-only : (p : List ℕ) (n : ℕ) (t : List ℕ) → reading p n t .number ≡ 0
-    → received p n ≡ take (reading p n t .characters) (received p n) ++ replicate (length (received p n) - reading p n t .characters) cr
+-- what is left of some septets doesn't end in CR, since that would be dropped too
+trim-ends : (s : List ℕ) → 0 < length (trimmed s) → getD s (length (trimmed s) - 1) 0 ≡ cr → ⊥
+trim-ends s some e =
+    let k = length (trimmed s) in
+    let within = trim-length s in
+    let fewer : trimmed s ≡ trimmed (take (k - 1) s) =
+    ap trimmed (trim-rest s) ∙ trim-padding (length s - k) (trimmed s)
+    ∙ ap trimmed (sym (trim-front s)) ∙ trim-back s k some within e in
+    omega (arith, ap length fewer, trim-length (take (k - 1) s), length-take-le (k - 1) s (omega arith))
+
+-- what the reader drops of the septets received
+pub record DropsCrsOnly (p : List ℕ) (n : ℕ) (t : List ℕ) : Type 0 where
+  -- those shown are among them
+  pub shown : reading p n t .characters ≤ length (received p n)
+  -- behind those stand CRs only
+  pub dropped : received p n ≡ take (reading p n t .characters) (received p n) ++ replicate (length (received p n) - reading p n t .characters) cr
+  -- and the last that is shown is no CR
+  pub stops : 0 < reading p n t .characters → getD (received p n) (reading p n t .characters - 1) 0 ≡ cr → ⊥
+
+pub drops-crs-only : (p : List ℕ) (n : ℕ) (t : List ℕ) → reading p n t .number ≡ 0 → DropsCrsOnly p n t
 drops-crs-only p n t z = go (reads p n t)
   where
-    go : Reads p n t → received p n ≡ take (reading p n t .characters) (received p n) ++ replicate (length (received p n) - reading p n t .characters) cr
+    go : Reads p n t → DropsCrsOnly p n t
     go (refused m ne e) = absurd (ne (sym (ap (λ (r : Reading). r .number) e) ∙ z))
     go (read w e) =
         let c : reading p n t .characters ≡ length (trimmed (received p n)) = ap (λ (r : Reading). r .characters) e ∙ count-shown (trimmed (received p n)) in
-        rw (c, trim-front (received p n)) (trim-rest (received p n))
+        record {
+          shown = rw c (trim-length (received p n));
+          dropped = rw (c, trim-front (received p n)) (trim-rest (received p n));
+          stops = rw c (trim-ends (received p n));
+        }
