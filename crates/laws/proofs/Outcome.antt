@@ -26,6 +26,15 @@ pub ruled-append : {A : Type 0} (by : ℕ → A) (ts us : List (Bool × ℕ)) (x
 ruled-append by [] us x = refl
 ruled-append by (t ∷ ts) us x = rw (ruled-append by ts us x)
 
+-- a number that none of the first tests has answers only where none of them holds
+pub ruled-past : (ts us : List (Bool × ℕ)) (x n : ℕ) → (Among n ts → ⊥) → ruled (λ (k : ℕ). k) (ts ++ us) x ≡ n → NoneHolds ts × (ruled (λ (k : ℕ). k) us x ≡ n)
+ruled-past [] us x n h e = (tt, e)
+ruled-past (t ∷ ts) us x n h e = go (t .0) refl (λ q. ruled-past ts us x n (λ a. h (inr a)) q)
+  where
+    go : (b : Bool) → t .0 ≡ b → (ruled (λ (k : ℕ). k) (ts ++ us) x ≡ n → NoneHolds ts × (ruled (λ (k : ℕ). k) us x ≡ n)) → NoneHolds (t ∷ ts) × (ruled (λ (k : ℕ). k) us x ≡ n)
+    go true q f = absurd (h (inl (sym (rw q at e))))
+    go false q f = let w = f (rw q at e) in ((q, w .0), w .1)
+
 -- n is the number of one of the tests, and that test holds
 abbrev pub Because : ℕ → List (Bool × ℕ) → Type 0
 Because n [] = ⊥

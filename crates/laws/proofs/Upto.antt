@@ -34,6 +34,13 @@ module _ (p : ℕ → Bool) where
   some-at zero i l e = absurd (not-suc-le-zero l)
   some-at (suc n) i l e = ⊎-elim (λ q. rw (← q, e) (or-true (some p i))) (λ b. rw (some-at n i b e)) (below-suc l)
 
+  pub some-false : (n i : ℕ) → some p n ≡ false → i < n → p i ≡ false
+  some-false n i e l = go (p i) refl
+    where
+      go : (b : Bool) → p i ≡ b → p i ≡ false
+      go true q = absurd (false≢true (sym e ∙ some-at n i l q))
+      go false q = q
+
   -- tests that agree below n have the same verdict
   pub some-agree : (q : ℕ → Bool) (n : ℕ) → ((i : ℕ) → i < n → p i ≡ q i) → some p n ≡ some q n
   unfolding some

@@ -1,4 +1,7 @@
 -- What `order` proves.
+pub mod Alike
 pub mod Once
 pub mod Ranks
+pub mod Refused
 pub mod Slides
+pub mod Tail

@@ -1,20 +1,15 @@
--- Every slot up to End of a message that is read is given exactly once, and a message refused by 24 has a slot that shows why.
+-- Every slot up to End of a message that is read is given exactly once.
 use mathlib.Core.Path.{_≡_, refl, sym, ap, _∙_}
-use mathlib.Core.Bool.{Bool, true, false, not, _||_, false≢true}
+use mathlib.Core.Bool.{Bool, true, false}
 use mathlib.Core.List.{List}
-use mathlib.Core.Logic.{inl, inr, ⊎-elim}
-use Prim.Native.Nat.{ℕ, suc, _-_, _<_}
+use Prim.Native.Nat.{ℕ, suc, _<_}
 use native.Mathlib.Omega.{arith}
-use lib.Dec.{eqb, leb, ltb}
-use borrow.Author.Tests.{lt-ltb, ltb-true, eqb-true, leb-true, not-true}
-use Rattle.laws.specs.Upto.{some}
-use Rattle.laws.proofs.Upto.{some-passing}
-use Rattle.laws.proofs.Outcome.{Outcome, refuses, passes, outcome, Because, ruled-because}
-use Rattle.laws.proofs.Ruled.{ruled-map}
-use Rattle.laws.proofs.Tests.{either}
-use Rattle.schedule.specs.Paper.{end, rank, slotOf, tells, Told, first, again, optional, advised, isFirst, falseIn, falseRepeat, faults, Shown, shown, Read, unread, good, read, Given, next, noMore, refusal, givenAt, given}
+use lib.Dec.{ltb}
+use borrow.Author.Tests.{lt-ltb, ltb-true}
+use Rattle.laws.proofs.Outcome.{Outcome, refuses, passes, outcome}
+use Rattle.schedule.specs.Paper.{end, rank, slotOf, faults, Shown, shown, Read, unread, good, read, Given, next, noMore, refusal, givenAt, given}
 use Rattle.schedule.proofs.Givens.{faults-some}
-use Rattle.order.specs.Claims.{Once, FalseRepeat}
+use Rattle.order.specs.Claims.{Once}
 use Rattle.order.proofs.Ranks.{order-rank, rank-below, rank-order}
 
 module _ (m : List ℕ) where
@@ -44,40 +39,3 @@ module _ (m : List ℕ) where
           let none : noMore ≡ next (suc i) s = rw h at q in
           let z : _≡_ {A = ℕ} 0 1 = cc in
           absurd (omega arith)
-
-  -- a false repeat by what it is
-  false-because : (i : ℕ) → i < end m → (d : Told) → tells m i ≡ d → falseIn (tells m) i d ≡ true → FalseRepeat m
-  false-because i l (first x) e h = absurd (false≢true h)
-  false-because i l (again n) e h =
-      record {
-        slot = i;
-        below = l;
-        number = n;
-        repeats = e;
-        why =
-            ⊎-elim (λ a. inl (eqb-true n 0 a))
-            (λ w. inr (⊎-elim (λ a. inl (leb-true (suc i) n a)) (λ a. inr (not-true (isFirst (tells m (n - 1))) a)) (either (leb (suc i) n) (not (isFirst (tells m (n - 1)))) w)))
-            (either (eqb n 0) (leb (suc i) n || not (isFirst (tells m (n - 1)))) h);
-      }
-  false-because i l optional e h = absurd (false≢true h)
-  false-because i l advised e h = absurd (false≢true h)
-
-  -- where 24 is the reason, some slot has a false repeat
-  the-last : (received : ℕ) → Because 24 (faults m received) → some (falseRepeat (tells m)) (end m) ≡ true
-  the-last received (inl e) = absurd (omega (arith, e .0))
-  the-last received (inr (inl e)) = absurd (omega (arith, e .0))
-  the-last received (inr (inr (inl e))) = absurd (omega (arith, e .0))
-  the-last received (inr (inr (inr (inl e)))) = absurd (omega (arith, e .0))
-  the-last received (inr (inr (inr (inr (inl e))))) = absurd (omega (arith, e .0))
-  the-last received (inr (inr (inr (inr (inr (inl e)))))) = absurd (omega (arith, e .0))
-  the-last received (inr (inr (inr (inr (inr (inr (inl e))))))) = e .1
-  the-last received (inr (inr (inr (inr (inr (inr (inr e))))))) = absurd e
-
-  pub refused-by-24 : (received : ℕ) → read m received .number ≡ 24 → FalseRepeat m
-  unfolding read
-  refused-by-24 received e =
-      let number = sym (ruled-map (λ (r : Read). r .number) unread (faults m received) (good m)) ∙ e in
-      ⊎-elim (λ h. absurd (omega (arith, h))) (λ h. found (the-last received h)) (ruled-because (faults m received) 0 24 number)
-    where
-      found : some (falseRepeat (tells m)) (end m) ≡ true → FalseRepeat m
-      found h = let w = some-passing (falseRepeat (tells m)) (end m) h in false-because (w .at) (w .below) (tells m (w .at)) refl (w .passes)
