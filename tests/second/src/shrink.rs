@@ -150,11 +150,11 @@ fn zeroed_words(case: &Case) -> impl Iterator<Item = Case> + '_ {
     })
 }
 
-/// A number made 0, half as large, one less, or without one of its bits.
+/// A number made 0, half as large, without one of its bits, or one less, which is last since it can go on for long.
 fn less(case: &Case, number: usize) -> impl Iterator<Item = Case> + '_ {
     let now = case.numbers[number];
     let fewer_bits = (0..64).rev().map(move |bit| now & !(1 << bit));
-    let smaller = [0, now / 2, now.saturating_sub(1)].into_iter().chain(fewer_bits);
+    let smaller = [0, now / 2].into_iter().chain(fewer_bits).chain([now.saturating_sub(1)]);
     smaller.filter(move |&to| to < now).map(move |to| {
         let mut case = case.clone();
         case.numbers[number] = to;
