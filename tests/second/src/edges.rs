@@ -350,9 +350,9 @@ fn slots() -> Vec<Case> {
         cases.push(slots_case(&far_repeats(), 88, length));
         cases.push(slots_case(&no_first(), 22, length));
     }
-    for (header, new) in [(0x00, 0x00), (0x40, 0xAA), (0xC0, 0xFF)] {
+    for (spare, new) in [(0x00, 0x00), (0x40, 0xAA), (0xC0, 0xFF)] {
         for end in [1, 2, 8, 9, 16, 17, 40, 47, 48, 49] {
-            cases.push(slots_case(&advised(header, end, new), 88, SLOTS));
+            cases.push(slots_case(&advised(spare, end, new), 88, SLOTS));
         }
     }
     for octet in [0x00, 0x01, 0x02, 0x03, 0x2F, 0x30, 0x3F, 0x40, 0x41, 0x42, 0x5F, 0x60, 0x7F, 0x80, 0xBF, 0xFF] {

@@ -261,7 +261,7 @@ fn header_read() {
     assert_eq!(read_header(&written), Ok(HEADER));
     assert_eq!(Ours.read_header(&mut written.to_vec()), 0x11_8001_0010_0000);
     let mut any = filled("123456789abc");
-    assert_eq!(Ours.read_header(&mut any), 0xBC_5678_1234_9A_00);
+    assert_eq!(Ours.read_header(&mut any), 0xBC_5678_1234_9A00);
     for length in (0..=200).filter(|&length| length != 88) {
         assert_eq!(Ours.read_header(&mut vec![0xFF; length]), 16);
     }
