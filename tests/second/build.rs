@@ -4,9 +4,9 @@ use std::path::{Path, PathBuf};
 use std::process::Command;
 use std::{env, fs};
 
-const ARCHIVES: [&str; 2] = ["libfirmware.a", "libcapi.a"];
+const ALL: &str = "libcsobvarit.a"; // the archive with all entries; where it is there, it alone is linked
 
-const ENTRIES: [&str; 12] = [
+const ENTRIES: [&str; 15] = [
     "cb_start",
     "cb_intake",
     "cb_write_blocks",
@@ -19,6 +19,9 @@ const ENTRIES: [&str; 12] = [
     "cb_write_schedule",
     "cb_check_schedule",
     "cb_decide",
+    "cb_enter",
+    "cb_slots",
+    "cb_read_header",
 ];
 
 fn main() {
@@ -30,23 +33,47 @@ fn main() {
     let Some(folder) = env::var_os("CSOBVARIT_LIB") else {
         return;
     };
-    for archive in ARCHIVES {
-        link(&PathBuf::from(&folder).join(archive));
+    let archives = archives(Path::new(&folder));
+    if archives.is_empty() {
+        println!("cargo:warning=there are no archives in {}", folder.to_string_lossy());
     }
+    link(&archives);
 }
 
-fn link(archive: &Path) {
-    println!("cargo:rerun-if-changed={}", archive.display());
-    let Ok(archive) = fs::canonicalize(archive) else {
-        println!("cargo:warning={} isn't there", archive.display());
-        return;
-    };
-    for symbol in symbols(&archive) {
-        if ENTRIES.contains(&symbol.as_str()) {
-            println!("cargo:rustc-cfg={symbol}");
-        }
+/// The archive with all entries, or else all archives that the folder has, in the order of their names.
+fn archives(folder: &Path) -> Vec<PathBuf> {
+    let all = folder.join(ALL);
+    if all.is_file() {
+        println!("cargo:rerun-if-changed={}", all.display());
+        return vec![absolute(&all)];
     }
-    println!("cargo:rustc-link-arg-bins={}", archive.display());
+    println!("cargo:rerun-if-changed={}", folder.display());
+    let files = fs::read_dir(folder).into_iter().flatten().filter_map(|file| Some(file.ok()?.path()));
+    let mut archives: Vec<PathBuf> =
+        files.filter(|file| file.extension().is_some_and(|end| end == "a")).map(|file| absolute(&file)).collect();
+    archives.sort();
+    archives
+}
+
+fn absolute(archive: &Path) -> PathBuf {
+    fs::canonicalize(archive).expect("the archive is there")
+}
+
+/// Links the archives that have entries. An entry in two of them would leave open which one is compared.
+fn link(archives: &[PathBuf]) {
+    let mut found: Vec<String> = Vec::new();
+    for archive in archives {
+        let entries: Vec<String> =
+            symbols(archive).into_iter().filter(|symbol| ENTRIES.contains(&symbol.as_str())).collect();
+        for entry in &entries {
+            assert!(!found.contains(entry), "{entry} is in {} and in another archive", archive.display());
+            println!("cargo:rustc-cfg={entry}");
+        }
+        if !entries.is_empty() {
+            println!("cargo:rustc-link-arg-bins={}", archive.display());
+        }
+        found.extend(entries);
+    }
 }
 
 /// The symbols that an archive defines for others: the third column of nm.

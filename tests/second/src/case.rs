@@ -15,9 +15,12 @@ pub enum Entry {
     WriteSchedule,
     CheckSchedule,
     Decide,
+    Enter,
+    Slots,
+    ReadHeader,
 }
 
-pub const ENTRIES: [Entry; 12] = [
+pub const ENTRIES: [Entry; 15] = [
     Entry::Start,
     Entry::Intake,
     Entry::WriteBlocks,
@@ -30,6 +33,9 @@ pub const ENTRIES: [Entry; 12] = [
     Entry::WriteSchedule,
     Entry::CheckSchedule,
     Entry::Decide,
+    Entry::Enter,
+    Entry::Slots,
+    Entry::ReadHeader,
 ];
 
 impl Entry {
@@ -47,6 +53,9 @@ impl Entry {
             Entry::WriteSchedule => "cb_write_schedule",
             Entry::CheckSchedule => "cb_check_schedule",
             Entry::Decide => "cb_decide",
+            Entry::Enter => "cb_enter",
+            Entry::Slots => "cb_slots",
+            Entry::ReadHeader => "cb_read_header",
         }
     }
 
@@ -65,6 +74,9 @@ impl Entry {
             Entry::WriteSchedule => (&["begin", "output length"], &["current", "previous"], ""),
             Entry::CheckSchedule => (&["received"], &["current", "previous", "message"], ""),
             Entry::Decide => (&["known", "received", "slot", "held"], &["message"], "wanted"),
+            Entry::Enter => (&["known", "received", "slot", "held"], &["message"], ""),
+            Entry::Slots => (&["received", "slots length"], &["message"], ""),
+            Entry::ReadHeader => (&[], &["page"], ""),
         }
     }
 }
@@ -144,6 +156,10 @@ pub fn hex(octets: &[u8]) -> String {
 
 pub fn hex_words(words: &[u16]) -> String {
     words.iter().map(|word| format!("{word:04x}")).collect()
+}
+
+pub fn hex_slots(slots: &[u32]) -> String {
+    slots.iter().map(|slot| format!("{slot:08x}")).collect()
 }
 
 pub fn octets(digits: &str) -> Option<Vec<u8>> {

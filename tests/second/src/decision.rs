@@ -1,4 +1,4 @@
-//! The decision of a board for a slot: read it or skip it.
+//! The decision of a board for a slot, read it or skip it, and the set of slots that it holds.
 
 use crate::refusal::Refusal;
 use crate::schedule::{Description, Schedule, SLOTS};
@@ -41,11 +41,17 @@ fn repeat_read(schedule: &Schedule, first: usize, wanted: &[u16], held: u64) -> 
     }
 }
 
-/// The set after a page was got from a slot: from a repeat it is entered under its first's slot. // 01 The plan
-pub fn entered(schedule: &Schedule, slot: usize, held: u64) -> u64 {
-    match schedule.at(slot).map(|told| told.description) {
-        Some(Description::Repeat(first)) => held | 1 << (first - 1),
-        Some(Description::First(_)) => held | 1 << (slot - 1),
-        _ => held,
+/// The held set with the page got in a slot entered: under its first's slot where the schedule tells a repeat, under
+/// the slot itself otherwise. A slot that isn't 1 to 48 enters nothing. No schedule, or a refused one, is `None`.
+/// // 01 The plan
+pub fn enter(schedule: Option<&Schedule>, slot: usize, held: u64) -> u64 {
+    if slot < 1 || slot > SLOTS {
+        return held;
     }
+    let told = schedule.and_then(|schedule| schedule.at(slot));
+    let under = match told.map(|told| told.description) {
+        Some(Description::Repeat(first)) => first as usize,
+        _ => slot,
+    };
+    held | 1 << (under - 1)
 }

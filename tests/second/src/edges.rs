@@ -8,7 +8,7 @@ use crate::plan::{self, Page, Plan};
 use crate::schedule::{Description, Told, SLOTS};
 use crate::sender::lay;
 use crate::side::LENT;
-use crate::text::{pack, CHARACTERS};
+use crate::text::{pack, CHARACTERS, HEADER};
 
 /// The edge cases of an entry.
 pub fn cases(entry: Entry) -> Vec<Case> {
@@ -25,6 +25,9 @@ pub fn cases(entry: Entry) -> Vec<Case> {
         Entry::WriteSchedule => schedules_written(),
         Entry::CheckSchedule => checks(),
         Entry::Decide => decisions(),
+        Entry::Enter => enterings(),
+        Entry::Slots => slots(),
+        Entry::ReadHeader => headers(),
     }
 }
 
@@ -271,5 +274,127 @@ fn decisions() -> Vec<Case> {
         cases.push(Case::new(Entry::Decide, &[0, 22, slot, 0], &[&message], &[]));
         cases.push(Case::new(Entry::Decide, &[1, 23, slot, 0], &[&message], &[]));
     }
+    cases
+}
+
+const ALL_HELD: u64 = u64::MAX >> 16; // slots 1 to 48
+const PAST_HELD: u64 = !ALL_HELD; // the bits that mean nothing
+
+fn enter_case(known: u64, message: &[u8], received: u64, slot: u64, held: u64) -> Case {
+    Case::new(Entry::Enter, &[known, received, slot, held], &[message], &[])
+}
+
+/// Every kind of description, slots past End and outside 1 to 48, held sets of all bits and of none, schedules that
+/// aren't known or are refused though they would tell a repeat, and repeats at the far ends. // 01 The plan
+fn enterings() -> Vec<Case> {
+    let eight = message(&[1, 8], &[0x80, 0x01, 0xBF, 0xFF, 0x01, 0x02, 0x40, 0x41, 0x42, 0x7F]);
+    let inside = 1..=10;
+    let outside = [0, 49, 50, 64, 65, 67, 256 + 3, (1 << 16) + 3, 1 << 32, (1 << 32) + 3, 1 << 63, u64::MAX];
+    let mut cases = Vec::new();
+    for slot in inside.chain([47, 48]).chain(outside) {
+        cases.extend([0, u64::MAX, PAST_HELD].map(|held| enter_case(1, &eight, 22, slot, held)));
+    }
+    for slot in [0, 1, 3, 4, 9, 48, 49, (1 << 32) + 3, u64::MAX] {
+        cases.push(enter_case(0, &eight, 22, slot, 0));
+    }
+    for held in [0x01, 0x02, 0x04, 0x08, ALL_HELD, ALL_HELD - 0x01, ALL_HELD - 0x04, PAST_HELD | 0x04] {
+        cases.push(enter_case(1, &eight, 22, 3, held));
+        cases.push(enter_case(0, &eight, 22, 3, held));
+    }
+    for (length, received) in [(0, 22), (21, 22), (87, 22), (89, 22), (88, 0), (88, 21), (88, 23), (88, 256 + 22)] {
+        let mut message = eight.clone();
+        message.resize(length, FILL);
+        cases.push(enter_case(1, &message, received, 3, 0));
+        cases.push(enter_case(0, &message, received, 3, 0));
+    }
+    for message in [no_first(), passing(), far_repeats(), new_repeats()] {
+        for slot in [1, 2, 3, 47, 48] {
+            cases.push(enter_case(1, &message, 88, slot, 0));
+        }
+    }
+    cases.extend((1..=9).map(|slot| enter_case(1, &passing(), 22, slot, 0)));
+    cases
+}
+
+/// Slot 2 repeats slot 1, and slot 3 repeats slot 2, which is no first transmission.
+fn no_first() -> Vec<u8> {
+    message(&[1, 3], &[0x80, 0x05, 0x01, 0x02])
+}
+
+/// Eight descriptions that take 15 octets, so that the last passes the first block.
+fn passing() -> Vec<u8> {
+    message(&[1, 8], &[[0x80, 0x05].repeat(7), vec![0x01]].concat())
+}
+
+/// Slot 48 repeats slot 47, and the slots in between repeat slot 1.
+fn far_repeats() -> Vec<u8> {
+    message(&[48, 48], &[vec![0x80, 0x05], vec![0x01; 45], vec![0x80, 0x06, 47]].concat())
+}
+
+/// The repeats in slots 2 and 3 are new and their first isn't, so that they stand before it.
+fn new_repeats() -> Vec<u8> {
+    let mut message = message(&[1, 3], &[0x01, 0x01, 0x80, 0x05]);
+    message[2] = 0b0110_0000;
+    message
+}
+
+fn slots_case(message: &[u8], received: u64, length: usize) -> Case {
+    Case::new(Entry::Slots, &[received, length as u64], &[message], &[])
+}
+
+/// Lengths about 48 numbers and about their octets, Begin and End with each kind of new bits, octets at the edges of
+/// each kind of description, repeats at the far ends, and descriptions that end about the received. // 01 Schedule message
+fn slots() -> Vec<Case> {
+    let mut cases = Vec::new();
+    for length in [0, 1, 6, 12, 24].into_iter().chain(44..=52).chain([88, 96, 192, 256 + SLOTS]) {
+        cases.push(slots_case(&far_repeats(), 88, length));
+        cases.push(slots_case(&no_first(), 22, length));
+    }
+    for (spare, new) in [(0x00, 0x00), (0x40, 0xAA), (0xC0, 0xFF)] {
+        for end in [1, 2, 8, 9, 16, 17, 40, 47, 48, 49] {
+            cases.push(slots_case(&advised(spare, end, new), 88, SLOTS));
+        }
+    }
+    for octet in [0x00, 0x01, 0x02, 0x03, 0x2F, 0x30, 0x3F, 0x40, 0x41, 0x42, 0x5F, 0x60, 0x7F, 0x80, 0xBF, 0xFF] {
+        cases.push(slots_case(&message(&[2, 3], &[0x80, 0x05, octet, 0x01, 0x40]), 22, SLOTS));
+    }
+    for message in [new_repeats(), passing(), firsts(32, 16), firsts(40, 0)] {
+        cases.extend([22, 66, 88].map(|received| slots_case(&message, received, SLOTS)));
+    }
+    for received in [22, 44, 66, 88] {
+        cases.extend(about(received).iter().map(|case| slots_case(&case.lists[0], case.numbers[0], SLOTS)));
+    }
+    cases
+}
+
+/// A message with End octet `spare` and `end`, Begin at End, and new bits of this pattern up to End.
+fn advised(spare: u8, end: u8, new: u8) -> Vec<u8> {
+    let mut message = message(&[end, spare | end], &[0x41; SLOTS + 1]);
+    for at in (0..end.min(SLOTS as u8) as usize).filter(|at| new << (at % 8) & 0x80 != 0) {
+        message[2 + at / 8] |= 0x80 >> (at % 8);
+    }
+    message
+}
+
+/// This many first transmissions, with all of the 15 bits in turn, and then repeats of the first of them.
+fn firsts(firsts: usize, repeats: usize) -> Vec<u8> {
+    let identifiers = (0..firsts).flat_map(|at| (0x8000 | 1u16 << (at % 15)).to_be_bytes());
+    message(&[1, (firsts + repeats) as u8], &identifiers.chain(vec![0x01; repeats]).collect::<Vec<u8>>())
+}
+
+/// Each bit of the header alone, octets that are all different, and lengths about the right one. // 002 9.3.2
+fn headers() -> Vec<Case> {
+    let case = |page: &[u8]| Case::new(Entry::ReadHeader, &[], &[page], &[]);
+    let mut cases = vec![case(&[0; MESSAGE]), case(&[0xFF; MESSAGE])];
+    for bit in 0..8 * HEADER {
+        let mut page = [0; MESSAGE];
+        page[bit / 8] = 0x80 >> (bit % 8);
+        cases.push(case(&page));
+    }
+    let mut content = [0xFF; MESSAGE];
+    content[..HEADER].fill(0);
+    cases.push(case(&content));
+    let lengths = (0..=12).chain([21, 22, 23, 44, 66]).chain(80..=96).chain([110, 2 * MESSAGE, 256 + MESSAGE]);
+    cases.extend(lengths.map(|length| case(&counted(length))));
     cases
 }

@@ -5,7 +5,7 @@ use crate::case::{Case, Entry};
 use crate::intake::STATE;
 use crate::plan::{self, Page, Plan};
 use crate::random::Random;
-use crate::schedule::{Description, Told, DESCRIPTIONS, SLOTS};
+use crate::schedule::{read_schedule, Description, Told, DESCRIPTIONS, SLOTS};
 use crate::sender::lay;
 use crate::side::LENT;
 use crate::text::{ALPHABET, CHARACTERS};
@@ -38,6 +38,7 @@ pub enum Fault {
     NewBitPastEnd(usize),
     Passes(usize, usize),
     FalseRepeat(usize),
+    RepeatOfNoFirst(usize),
     PlanShort(usize),
     PlanMark(usize),
     PlanVersion(usize),
@@ -76,7 +77,8 @@ fn plan_faults(list: usize) -> Vec<(u8, Fault)> {
     ]
 }
 
-/// The faults of an entry, each with its number, in the order in which they are refused. // 01 Order
+/// The faults of an entry, each with its number, in the order in which they are refused. Entering refuses nothing:
+/// its numbers are those by which the schedule is refused, and 0 is a slot under which nothing is entered. // 01 Order
 pub fn faults(entry: Entry) -> Vec<(u8, Fault)> {
     match entry {
         Entry::Start => vec![(8, Fault::StateLength)],
@@ -126,6 +128,11 @@ pub fn faults(entry: Entry) -> Vec<(u8, Fault)> {
         ]
         .concat(),
         Entry::Decide => vec![(41, Fault::Slot), (42, Fault::WantedTooMany)],
+        Entry::Enter => [vec![(0, Fault::Slot)], reader_faults(0, 1), vec![(24, Fault::RepeatOfNoFirst(0))]].concat(),
+        Entry::Slots => {
+            [vec![(15, Fault::Length(1, SLOTS))], reader_faults(0, 0), vec![(24, Fault::RepeatOfNoFirst(0))]].concat()
+        }
+        Entry::ReadHeader => vec![(16, Fault::MessageLength(0))],
     }
 }
 
@@ -160,6 +167,7 @@ fn put_one(case: &mut Case, fault: Fault, random: &mut Random) {
         Fault::NewBitPastEnd(list) => put_new_bit(&mut case.lists[list], random),
         Fault::Passes(list, number) => put_passing(case, list, number),
         Fault::FalseRepeat(list) => put_false_repeat(&mut case.lists[list], random.pick(&[0x00, 0x30, 0x3F])),
+        Fault::RepeatOfNoFirst(list) => put_repeat_of_no_first(case, list, random),
         Fault::PlanShort(list) => case.lists[list].truncate(random.below(6)),
         Fault::PlanMark(list) => alter(&mut case.lists[list], random.below(3), random),
         Fault::PlanVersion(list) => alter(&mut case.lists[list], random.within(3, 4), random),
@@ -303,6 +311,21 @@ fn put_false_repeat(message: &mut [u8], octet: u8) {
         message[DESCRIPTIONS + 1] = 0x40;
     }
     message[DESCRIPTIONS] = octet;
+}
+
+/// Slot 3 as a repeat of slot 2, which is told as a repeat itself, or as optional, or as advised; where a slot is
+/// given, it is one of these.
+fn put_repeat_of_no_first(case: &mut Case, list: usize, random: &mut Random) {
+    let named =
+        random.pick(&[Description::Repeat(1), Description::Repeat(1), Description::Optional, Description::Advised]);
+    let descriptions = [Description::First(random.word() & 0x7FFF), named, Description::Repeat(2)];
+    let tell = |(at, &description): (usize, &Description)| Told { slot: at + 1, new: random.once_in(2), description };
+    let told: Vec<Told> = descriptions.iter().enumerate().map(tell).collect();
+    let begin = random.within(1, told.len());
+    case.lists[list] = lay(begin, &told).expect("three slots fit").to_vec();
+    if case.entry == Entry::Enter {
+        case.numbers[2] = random.pick(&[2, 3, 3]);
+    }
 }
 
 fn put_plan_length(file: &mut Vec<u8>, random: &mut Random) {
@@ -678,6 +701,12 @@ pub fn sound(entry: Entry, random: &mut Random, most: usize) -> Case {
         Entry::WriteSchedule => sound_writing(random, most),
         Entry::CheckSchedule => checked(random, most, false),
         Entry::Decide => sound_decision(random, most),
+        Entry::Enter => sound_entering(random, most),
+        Entry::Slots => {
+            let (message, received) = some_message(random, most);
+            Case::new(entry, &[received, SLOTS as u64], &[&message], &[])
+        }
+        Entry::ReadHeader => Case::new(entry, &[], &[&random.octets(MESSAGE)], &[]),
     }
 }
 
@@ -717,7 +746,7 @@ fn sound_decision(random: &mut Random, most: usize) -> Case {
     let (message, received) = some_message(random, most);
     let known = !random.once_in(8) as u64;
     let slot = random.within(1, (most + 1).min(SLOTS)) as u64;
-    let held = random.pick(&[0, u64::MAX, 0xFFFF_0000_0000_0000]) ^ random.pick(&[0, 1, 2, 3]) ^ random.next() >> 16;
+    let held = some_held(random);
     let wanted: Vec<u16> = (0..random.pick(&[0, 1, 2, 3, 63, 64])).map(|_| some_wanted(random, &message)).collect();
     let wanted = if most < SLOTS { wanted[..wanted.len().min(3)].to_vec() } else { wanted };
     let mut case = Case::new(Entry::Decide, &[known, received, slot, held], &[&message], &wanted);
@@ -726,6 +755,55 @@ fn sound_decision(random: &mut Random, most: usize) -> Case {
         put_one(&mut case, refused, random);
     }
     case
+}
+
+/// A held set, with all of the bits that mean nothing, or with none of them.
+fn some_held(random: &mut Random) -> u64 {
+    random.pick(&[0, u64::MAX, 0xFFFF_0000_0000_0000]) ^ random.pick(&[0, 1, 2, 3]) ^ random.next() >> 16
+}
+
+/// A page got in a slot, mostly one that the schedule tells as a repeat; now and then the schedule isn't known, though
+/// its message would tell one.
+fn sound_entering(random: &mut Random, most: usize) -> Case {
+    let (message, received) = some_repeating(random, most);
+    let known = !random.once_in(8) as u64;
+    let slot = some_slot(random, &message, received);
+    let (many, few) = (some_held(random), random.next() & random.next());
+    let held = random.pick(&[0, 0, 0xFFFF_0000_0000_0000, u64::MAX, many, few, few, few]);
+    Case::new(Entry::Enter, &[known, received, slot, held], &[&message], &[])
+}
+
+/// A message that a reader takes, and that tells a repeat if such a one is found soon; and octets received.
+fn some_repeating(random: &mut Random, most: usize) -> (Vec<u8>, u64) {
+    let (mut message, mut received) = some_message(random, most);
+    for _ in 0..4 {
+        if repeats(&told_in(&message, received)).is_empty() {
+            (message, received) = some_message(random, most);
+        }
+    }
+    (message, received)
+}
+
+fn told_in(message: &[u8], received: u64) -> Vec<Told> {
+    read_schedule(message, received as usize).map_or(vec![], |schedule| schedule.told)
+}
+
+/// The slots that are told as repeats.
+fn repeats(told: &[Told]) -> Vec<usize> {
+    let repeats = told.iter().filter(|told| matches!(told.description, Description::Repeat(_)));
+    repeats.map(|told| told.slot).collect()
+}
+
+/// A slot told as a repeat, or any slot told, past End, or at an end of the numbers.
+fn some_slot(random: &mut Random, message: &[u8], received: u64) -> u64 {
+    let told = told_in(message, received);
+    let repeats = repeats(&told);
+    if !repeats.is_empty() && !random.once_in(4) {
+        return random.pick(&repeats) as u64;
+    }
+    let (within, past) = (random.within(1, told.len().max(1)), SLOTS.min(told.len() + 1));
+    let any = random.within(1, SLOTS);
+    random.pick(&[1, SLOTS - 1, SLOTS, within, within, within, past, any]) as u64
 }
 
 /// An identifier that stands somewhere in a message, with bit 16 either way, or a frequent one, or any.
@@ -843,7 +921,8 @@ pub fn clip(case: &mut Case) {
         Entry::ReadText => &[u64::MAX, 511],
         Entry::Description => &[u64::MAX, u64::MAX, 63],
         Entry::WriteSchedule => &[u64::MAX, 511],
-        Entry::Decide => &[1, u64::MAX, u64::MAX, u64::MAX],
+        Entry::Decide | Entry::Enter => &[1, u64::MAX, u64::MAX, u64::MAX],
+        Entry::Slots => &[u64::MAX, 511],
         _ => &[],
     };
     for (number, &most) in case.numbers.iter_mut().zip(widths.iter().cycle()) {

@@ -7,7 +7,7 @@ use std::path::Path;
 use std::process::ExitCode;
 use std::time::{Duration, SystemTime, UNIX_EPOCH};
 
-use second::case::{hex, hex_words, Case, Entry, ENTRIES};
+use second::case::{hex, hex_slots, hex_words, Case, Entry, ENTRIES};
 use second::compare::compare;
 use second::invent::clip;
 use second::side::{run, Ours, Outcome, Side};
@@ -114,9 +114,10 @@ fn show(case: &Case) {
 }
 
 fn show_side(name: &str, case: &Case, side: &impl Side) {
-    let Outcome { returned, octets, words } = run(case, side);
+    let Outcome { returned, octets, words, slots } = run(case, side);
     let returned: Vec<String> = returned.iter().map(|number| format!("{number:x}")).collect();
     println!("  {name}: returned {}", returned.join(" "));
     println!("    lent octets after {}", hex(&octets));
     println!("    lent 16-bit numbers after {}", hex_words(&words));
+    println!("    lent 32-bit numbers after {}", hex_slots(&slots));
 }

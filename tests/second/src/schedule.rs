@@ -1,4 +1,4 @@
-//! The reader of schedule messages and of their descriptions.
+//! The reader of schedule messages, of their descriptions one by one, and of all of their slots at once.
 
 use crate::blocks::{is_received, MESSAGE};
 use crate::refusal::Refusal;
@@ -149,4 +149,23 @@ fn false_repeat(schedule: &Schedule, told: Told) -> bool {
 pub fn description_at(message: &[u8], received: usize, place: usize) -> Result<Option<Told>, Refusal> {
     let schedule = read_schedule(message, received)?;
     Ok(schedule.told.get(place).copied())
+}
+
+/// Writes a number for each of the 48 slots, the code and 2^16 where it is new, 0 past End, and gives Begin and End;
+/// refuses by 15, then as the reader. // 01 Schedule message, Order
+pub fn write_slots(message: &[u8], received: usize, slots: &mut [u32]) -> Result<(usize, usize), Refusal> {
+    if slots.len() != SLOTS {
+        return Err(Refusal::OutputLength);
+    }
+    let schedule = read_schedule(message, received)?;
+    for (at, slot) in slots.iter_mut().enumerate() {
+        *slot = schedule.at(at + 1).map_or(0, slot_number);
+    }
+    Ok((schedule.begin, schedule.end))
+}
+
+/// What is told of a slot as one number.
+fn slot_number(told: Told) -> u32 {
+    let new = if told.new { 1 << 16 } else { 0 };
+    new + told.description.code() as u32
 }

@@ -45,7 +45,7 @@ fn without_call(case: &Case) -> impl Iterator<Item = Case> + '_ {
     })
 }
 
-/// A case without one of the slots of a plan file, or without the last slot of its plan and of its message.
+/// A case without one of the slots of a plan file, or without the last slot of its message and of its plan.
 fn without_slot(case: &Case) -> impl Iterator<Item = Case> + '_ {
     let plans = (0..case.lists.len()).filter(|&list| is_plan(&case.lists[list]));
     let alone = plans.flat_map(move |list| {
@@ -67,18 +67,27 @@ fn drop_slot(file: &mut Vec<u8>, slot: usize) {
     file.drain(6 + 6 * slot..12 + 6 * slot);
 }
 
-/// A checker's case with End and the plan's count one less.
+/// A case with the End of its schedule message one less, and a checker's with the plan's count one less too.
 fn without_last_slot(case: &Case) -> Option<Case> {
-    let fits = case.entry == Entry::CheckSchedule && is_plan(&case.lists[0]) && case.lists[2].len() == 88;
-    let end = case.lists.get(2)?.get(1)? & 0x3F;
-    if !fits || end < 2 || end != case.lists[0][5] {
+    let message = match case.entry {
+        Entry::CheckSchedule => 2,
+        Entry::ReadSchedule | Entry::Description | Entry::Decide | Entry::Enter | Entry::Slots => 0,
+        _ => return None,
+    };
+    let end = case.lists[message].get(1)? & 0x3F;
+    if case.lists[message].len() != 88 || !(2..=48).contains(&end) {
         return None;
     }
     let mut case = case.clone();
     let last = end as usize - 1;
-    drop_slot(&mut case.lists[0], last);
-    case.lists[2][1] -= 1;
-    case.lists[2][2 + last / 8] &= !(0x80 >> (last % 8));
+    if case.entry == Entry::CheckSchedule {
+        if !is_plan(&case.lists[0]) || case.lists[0][5] != end {
+            return None;
+        }
+        drop_slot(&mut case.lists[0], last);
+    }
+    case.lists[message][1] -= 1;
+    case.lists[message][2 + last / 8] &= !(0x80 >> (last % 8));
     Some(case)
 }
 
@@ -141,11 +150,11 @@ fn zeroed_words(case: &Case) -> impl Iterator<Item = Case> + '_ {
     })
 }
 
-/// A number made 0, half as large, one less, or without one of its bits.
+/// A number made 0, half as large, without one of its bits, or one less, which is last since it can go on for long.
 fn less(case: &Case, number: usize) -> impl Iterator<Item = Case> + '_ {
     let now = case.numbers[number];
     let fewer_bits = (0..64).rev().map(move |bit| now & !(1 << bit));
-    let smaller = [0, now / 2, now.saturating_sub(1)].into_iter().chain(fewer_bits);
+    let smaller = [0, now / 2].into_iter().chain(fewer_bits).chain([now.saturating_sub(1)]);
     smaller.filter(move |&to| to < now).map(move |to| {
         let mut case = case.clone();
         case.numbers[number] = to;

@@ -3,17 +3,18 @@
 use crate::blocks::{write_blocks, Kind};
 use crate::case::{Case, Entry};
 use crate::checker::{check_schedule, Finding};
-use crate::decision::decide;
+use crate::decision::{decide, enter};
 use crate::intake::{intake, start, Answer};
 use crate::plan::read_plan;
 use crate::refusal::{number_of, Refusal};
-use crate::schedule::{description_at, read_schedule};
+use crate::schedule::{description_at, read_schedule, write_slots};
 use crate::sender::write_schedule;
-use crate::text::{content, read_text, write_text, Header};
+use crate::text::{content, read_header, read_text, write_text, Header};
 
 pub const LENT: u8 = 0xA5; // what lent memory holds before a call
 pub const LENT_WORD: u16 = 0xA5A5;
-const GUARD: usize = 8; // octets after each lent piece of memory, which no call may touch
+pub const LENT_SLOT: u32 = 0xA5A5_A5A5;
+pub const GUARD: usize = 8; // octets or numbers after each lent piece of memory, which no call may touch
 
 /// The entries, with a slice for each pointer and length. Each gives what the entry for C returns.
 pub trait Side {
@@ -37,6 +38,9 @@ pub trait Side {
         wanted: &mut [u16],
         held: u64,
     ) -> u64;
+    fn enter(&self, known: bool, message: &mut [u8], received: usize, slot: usize, held: u64) -> u64;
+    fn slots(&self, message: &mut [u8], received: usize, slots: &mut [u32]) -> u64;
+    fn read_header(&self, page: &mut [u8]) -> u64;
 }
 
 /// This implementation.
@@ -45,6 +49,13 @@ pub struct Ours;
 /// number + 256 × value, the value 0 with a refusal. // 01 Order
 fn packed(result: Result<usize, Refusal>) -> u64 {
     number_of(&result) as u64 + 256 * result.unwrap_or(0) as u64
+}
+
+/// number + 2^8 × Begin + 2^16 × End, both 0 with a refusal. // 01 Order
+fn begin_end(result: Result<(usize, usize), Refusal>) -> u64 {
+    let number = number_of(&result) as u64;
+    let (begin, end) = result.unwrap_or((0, 0));
+    number + ((begin as u64) << 8) + ((end as u64) << 16)
 }
 
 impl Side for Ours {
@@ -79,10 +90,7 @@ impl Side for Ours {
     }
 
     fn read_schedule(&self, message: &mut [u8], received: usize) -> u64 {
-        match read_schedule(message, received) {
-            Ok(schedule) => ((schedule.begin as u64) << 8) + ((schedule.end as u64) << 16),
-            Err(refusal) => refusal.number() as u64,
-        }
+        begin_end(read_schedule(message, received).map(|schedule| (schedule.begin, schedule.end)))
     }
 
     fn description(&self, message: &mut [u8], received: usize, place: usize) -> u64 {
@@ -124,6 +132,25 @@ impl Side for Ours {
         let schedule = if known { read_schedule(message, received).ok() } else { None };
         packed(decide(schedule, slot, wanted, held).map(usize::from))
     }
+
+    fn enter(&self, known: bool, message: &mut [u8], received: usize, slot: usize, held: u64) -> u64 {
+        let schedule = if known { read_schedule(message, received).ok() } else { None };
+        enter(schedule.as_ref(), slot, held)
+    }
+
+    fn slots(&self, message: &mut [u8], received: usize, slots: &mut [u32]) -> u64 {
+        begin_end(write_slots(message, received, slots))
+    }
+
+    fn read_header(&self, page: &mut [u8]) -> u64 {
+        match read_header(page) {
+            Ok(Header { serial, identifier, scheme, parameter }) => {
+                let numbers = ((serial as u64) << 16) + ((identifier as u64) << 32);
+                numbers + ((scheme as u64) << 8) + ((parameter as u64) << 48)
+            }
+            Err(refusal) => refusal.number() as u64,
+        }
+    }
 }
 
 /// What the calls of a case return, and all of the lent memory after them, guards included.
@@ -132,21 +159,30 @@ pub struct Outcome {
     pub returned: Vec<u64>,
     pub octets: Vec<u8>,
     pub words: Vec<u16>,
+    pub slots: Vec<u32>,
 }
 
 /// A list with a guard after it.
-fn guarded(list: &[u8]) -> Vec<u8> {
+fn guarded<T: Copy>(list: &[T], guard: T) -> Vec<T> {
     let mut lent = Vec::with_capacity(list.len() + GUARD);
     lent.extend_from_slice(list);
-    lent.resize(list.len() + GUARD, LENT);
+    lent.resize(list.len() + GUARD, guard);
     lent
 }
 
-fn guarded_words(list: &[u16]) -> Vec<u16> {
-    let mut lent = Vec::with_capacity(list.len() + GUARD);
-    lent.extend_from_slice(list);
-    lent.resize(list.len() + GUARD, LENT_WORD);
-    lent
+/// What is lent of a list with a guard after it.
+fn unguarded<T>(list: &mut [T]) -> &mut [T] {
+    let length = list.len() - GUARD;
+    &mut list[..length]
+}
+
+/// The memory that a case lends, other than intake, each piece with a guard after it.
+struct Lent {
+    lists: Vec<Vec<u8>>,
+    words: Vec<u16>,
+    out: Vec<u8>,
+    text: Vec<u16>,
+    slots: Vec<u32>,
 }
 
 /// Runs a case on a side.
@@ -154,15 +190,18 @@ pub fn run(case: &Case, side: &impl Side) -> Outcome {
     if case.entry == Entry::Intake {
         return run_intake(case, side);
     }
-    let mut lists: Vec<Vec<u8>> = case.lists.iter().map(|list| guarded(list)).collect();
-    let mut words = guarded_words(&case.words);
-    let output = output_length(case);
-    let mut out = vec![LENT; output + GUARD];
-    let mut text = vec![LENT_WORD; if case.entry == Entry::ReadText { case.number(1) + GUARD } else { 0 }];
-    let returned = call(case, side, &mut lists, &mut words, &mut out, &mut text);
+    let mut lent = Lent {
+        lists: case.lists.iter().map(|list| guarded(list, LENT)).collect(),
+        words: guarded(&case.words, LENT_WORD),
+        out: vec![LENT; output_length(case) + GUARD],
+        text: vec![LENT_WORD; text_length(case) + GUARD],
+        slots: vec![LENT_SLOT; slots_length(case) + GUARD],
+    };
+    let returned = call(case, side, &mut lent);
+    let Lent { mut lists, mut words, out, text, slots } = lent;
     lists.push(out);
     words.extend(text);
-    Outcome { returned, octets: lists.concat(), words }
+    Outcome { returned, octets: lists.concat(), words, slots }
 }
 
 /// The octets of output that a case lends.
@@ -175,31 +214,35 @@ pub fn output_length(case: &Case) -> usize {
     }
 }
 
-/// The calls of a case, other than intake, on lent memory that each has a guard behind it.
-fn call(
-    case: &Case,
-    side: &impl Side,
-    lists: &mut [Vec<u8>],
-    words: &mut [u16],
-    out: &mut [u8],
-    text: &mut [u16],
-) -> Vec<u64> {
-    let mut lists = lists.iter_mut().map(|list| {
-        let length = list.len() - GUARD;
-        &mut list[..length]
-    });
+/// The code points that a case lends for text.
+pub fn text_length(case: &Case) -> usize {
+    match case.entry {
+        Entry::ReadText => case.number(1),
+        _ => 0,
+    }
+}
+
+/// The 32-bit numbers that a case lends for slots.
+pub fn slots_length(case: &Case) -> usize {
+    match case.entry {
+        Entry::Slots => case.number(1),
+        _ => 0,
+    }
+}
+
+/// The calls of a case, other than intake.
+fn call(case: &Case, side: &impl Side, lent: &mut Lent) -> Vec<u64> {
+    let mut lists = lent.lists.iter_mut().map(|list| unguarded(list));
     let mut list = || lists.next().expect("a case has all of its lists");
-    let words_length = words.len() - GUARD;
-    let words = &mut words[..words_length];
-    let out_length = out.len() - GUARD;
-    let out = &mut out[..out_length];
+    let (words, out) = (unguarded(&mut lent.words), unguarded(&mut lent.out));
+    let (text, slots) = (unguarded(&mut lent.text), unguarded(&mut lent.slots));
     let n = |at: usize| case.number(at);
     vec![match case.entry {
         Entry::Start => side.start(list()),
         Entry::Intake => unreachable!("intake cases are sequences"),
         Entry::WriteBlocks => side.write_blocks(list(), n(0) != 0, n(1), out),
         Entry::WriteText => side.write_text(header(case), words, out),
-        Entry::ReadText => side.read_text(list(), n(0), &mut text[..n(1)]),
+        Entry::ReadText => side.read_text(list(), n(0), text),
         Entry::Content => side.content(list(), n(0)),
         Entry::ReadSchedule => side.read_schedule(list(), n(0)),
         Entry::Description => {
@@ -211,6 +254,9 @@ fn call(
         Entry::WriteSchedule => side.write_schedule(list(), list(), n(0), out),
         Entry::CheckSchedule => side.check_schedule(list(), list(), list(), n(0)),
         Entry::Decide => side.decide(n(0) != 0, list(), n(1), n(2), words, case.numbers[3]),
+        Entry::Enter => side.enter(n(0) != 0, list(), n(1), n(2), case.numbers[3]),
+        Entry::Slots => side.slots(list(), n(0), slots),
+        Entry::ReadHeader => side.read_header(list()),
     }]
 }
 
@@ -230,14 +276,13 @@ fn run_intake(case: &Case, side: &impl Side) -> Outcome {
     let mut state = case.lists[0].clone();
     let mut output = case.lists[1].clone();
     for (piece, numbers) in case.lists[2..].iter().zip(case.numbers.chunks_exact(3)) {
-        let mut piece = guarded(piece);
-        let length = piece.len() - GUARD;
+        let mut piece = guarded(piece, LENT);
         let lent_state = numbers[1].min(state.len() as u64) as usize;
         let lent_output = numbers[2].min(output.len() as u64) as usize;
         outcome.returned.push(if numbers[0] == 0 {
             side.start(&mut state[..lent_state])
         } else {
-            side.intake(&mut state[..lent_state], &mut piece[..length], &mut output[..lent_output])
+            side.intake(&mut state[..lent_state], unguarded(&mut piece), &mut output[..lent_output])
         });
         outcome.octets.extend(&state);
         outcome.octets.extend(&output);

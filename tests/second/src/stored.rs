@@ -4,12 +4,12 @@ use std::path::Path;
 use std::{fs, io};
 
 use crate::blocks::MESSAGE;
-use crate::case::{hex, hex_words, Case, Entry};
+use crate::case::{hex, hex_slots, hex_words, Case, Entry};
 use crate::edges;
 use crate::invent::{any, faults, put, sequence, sound, Fault};
 use crate::random::Random;
 use crate::schedule::read_schedule;
-use crate::side::{header, output_length, Ours, Side, LENT, LENT_WORD};
+use crate::side::{header, output_length, slots_length, text_length, Ours, Side, LENT, LENT_SLOT, LENT_WORD};
 use crate::text::content;
 
 const SEED: u64 = 0x0C50_B7A4_1700_0001;
@@ -41,6 +41,9 @@ pub fn files() -> Vec<(&'static str, Vec<String>)> {
         ("writer.txt", lines(Entry::WriteSchedule, 120)),
         ("checker.txt", lines(Entry::CheckSchedule, 200)),
         ("decision.txt", lines(Entry::Decide, 120)),
+        ("enter.txt", lines(Entry::Enter, 80)),
+        ("slots.txt", lines(Entry::Slots, 80)),
+        ("header.txt", lines(Entry::ReadHeader, 80)),
     ]
 }
 
@@ -121,6 +124,9 @@ pub fn line(case: &Case) -> String {
         Entry::WriteSchedule => ("W", writer_fields(case)),
         Entry::CheckSchedule => ("K", checker_fields(case)),
         Entry::Decide => ("D", decide_fields(case)),
+        Entry::Enter => ("E", enter_fields(case)),
+        Entry::Slots => ("L", slots_fields(case)),
+        Entry::ReadHeader => ("H", header_fields(case)),
     };
     format!("{letter} {}", fields.join(" "))
 }
@@ -156,7 +162,7 @@ fn writing_fields(case: &Case) -> Vec<String> {
 }
 
 fn reading_fields(case: &Case) -> Vec<String> {
-    let mut text = vec![LENT_WORD; case.number(1)];
+    let mut text = vec![LENT_WORD; text_length(case)];
     let returned = Ours.read_text(&mut given(case, 0), case.number(0), &mut text);
     vec![list(case, 0), number(case, 0), number(case, 1), low(returned), high(returned), left_words(&text)]
 }
@@ -215,6 +221,29 @@ fn decide_fields(case: &Case) -> Vec<String> {
     let schedule = vec![number(case, 0), list(case, 0), number(case, 1)];
     let rest = vec![number(case, 2), words(&case.words), number(case, 3), low(returned), high(returned)];
     [schedule, rest].concat()
+}
+
+fn enter_fields(case: &Case) -> Vec<String> {
+    let (known, received, slot, held) = (case.numbers[0] != 0, case.number(1), case.number(2), case.numbers[3]);
+    let after = Ours.enter(known, &mut given(case, 0), received, slot, held);
+    let schedule = vec![number(case, 0), list(case, 0), number(case, 1)];
+    [schedule, vec![number(case, 2), number(case, 3), format!("{after:x}")]].concat()
+}
+
+fn slots_fields(case: &Case) -> Vec<String> {
+    let mut slots = vec![LENT_SLOT; slots_length(case)];
+    let returned = Ours.slots(&mut given(case, 0), case.number(0), &mut slots);
+    let taken = vec![list(case, 0), number(case, 0), number(case, 1)];
+    let begin_end = [returned >> 8 & 0xFF, returned >> 16].map(|value| format!("{value:x}"));
+    [taken, vec![low(returned)], begin_end.to_vec(), vec![left_slots(&slots)]].concat()
+}
+
+fn header_fields(case: &Case) -> Vec<String> {
+    let returned = Ours.read_header(&mut given(case, 0));
+    let (scheme, serial) = (returned >> 8 & 0xFF, returned >> 16 & 0xFFFF);
+    let (identifier, parameter) = (returned >> 32 & 0xFFFF, returned >> 48);
+    let values = [scheme, serial, identifier, parameter].map(|value| format!("{value:x}"));
+    [vec![list(case, 0), low(returned)], values.to_vec()].concat()
 }
 
 /// A number of a case as a field.
@@ -281,5 +310,13 @@ fn left_words(text: &[u16]) -> String {
         "=".into()
     } else {
         words(text)
+    }
+}
+
+fn left_slots(slots: &[u32]) -> String {
+    if slots.iter().all(|&slot| slot == LENT_SLOT) {
+        "=".into()
+    } else {
+        hex_slots(slots)
     }
 }

@@ -1,4 +1,4 @@
-//! Text in the default alphabet, written to a page of 88 octets and read back.
+//! A page of 88 octets: its header, and text in the default alphabet written to it and read back.
 
 use crate::blocks::{is_received, MESSAGE};
 use crate::refusal::Refusal;
@@ -37,8 +37,8 @@ pub fn septet(point: u16) -> Option<u8> {
     Some(at as u8)
 }
 
-/// A page's header as it is written. // 002 9.3.2
-#[derive(Clone, Copy, Debug)]
+/// A page's header as it is written and read. // 002 9.3.2
+#[derive(Clone, Copy, Debug, PartialEq, Eq)]
 pub struct Header {
     pub serial: u16,
     pub identifier: u16,
@@ -64,6 +64,19 @@ pub fn write_text(header: Header, text: &[u16], page: &mut [u8]) -> Result<usize
     page[5] = header.parameter;
     pack(&septets, &mut page[HEADER..]);
     Ok(HEADER + (7 * text.len()).div_ceil(8))
+}
+
+/// Reads the header, whatever stands in it; refuses by 16. // 002 9.3.2
+pub fn read_header(page: &[u8]) -> Result<Header, Refusal> {
+    if page.len() != MESSAGE {
+        return Err(Refusal::MessageLength);
+    }
+    Ok(Header {
+        serial: u16::from_be_bytes([page[0], page[1]]),
+        identifier: u16::from_be_bytes([page[2], page[3]]),
+        scheme: page[4],
+        parameter: page[5],
+    })
 }
 
 /// Neither half zero, and the page not over the total. // 01 Numbers given, 14

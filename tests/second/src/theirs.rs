@@ -38,6 +38,9 @@ entries! {
     cb_write_schedule(*const u8, usize, *const u8, usize, usize, *mut u8, usize) -> u32;
     cb_check_schedule(*const u8, usize, *const u8, usize, *const u8, usize, usize) -> u32;
     cb_decide(bool, *const u8, usize, usize, usize, *const u16, usize, u64) -> u32;
+    cb_enter(bool, *const u8, usize, usize, usize, u64) -> u64;
+    cb_slots(*const u8, usize, usize, *mut u32, usize) -> u32;
+    cb_read_header(*const u8, usize) -> u64;
 }
 
 /// The archives.
@@ -58,6 +61,9 @@ pub fn has(entry: Entry) -> bool {
         Entry::WriteSchedule => linked::cb_write_schedule::CALL.is_some(),
         Entry::CheckSchedule => linked::cb_check_schedule::CALL.is_some(),
         Entry::Decide => linked::cb_decide::CALL.is_some(),
+        Entry::Enter => linked::cb_enter::CALL.is_some(),
+        Entry::Slots => linked::cb_slots::CALL.is_some(),
+        Entry::ReadHeader => linked::cb_read_header::CALL.is_some(),
     }
 }
 
@@ -129,5 +135,17 @@ impl Side for Theirs {
     ) -> u64 {
         let (m, w) = (message.len(), wanted.len());
         call!(cb_decide(known, message.as_ptr(), m, received, slot, wanted.as_ptr(), w, held))
+    }
+
+    fn enter(&self, known: bool, message: &mut [u8], received: usize, slot: usize, held: u64) -> u64 {
+        call!(cb_enter(known, message.as_ptr(), message.len(), received, slot, held))
+    }
+
+    fn slots(&self, message: &mut [u8], received: usize, slots: &mut [u32]) -> u64 {
+        call!(cb_slots(message.as_ptr(), message.len(), received, slots.as_mut_ptr(), slots.len()))
+    }
+
+    fn read_header(&self, page: &mut [u8]) -> u64 {
+        call!(cb_read_header(page.as_ptr(), page.len()))
     }
 }

@@ -4,12 +4,14 @@
 use std::collections::BTreeSet;
 use std::time::Duration;
 
-use second::case::{Case, Entry, ENTRIES};
+use second::case::{octets, Case, Entry, ENTRIES};
 use second::compare::{compare, differ};
 use second::invent::{faults, put, sound};
 use second::random::Random;
+use second::refusal::number_of;
+use second::schedule::{read_schedule, SLOTS};
 use second::shrink::shrink;
-use second::side::{run, Ours, Side};
+use second::side::{run, Ours, Side, GUARD, LENT_SLOT};
 use second::stored::files;
 use second::text::Header;
 
@@ -25,6 +27,7 @@ fn sound_cases_are_not_refused() {
             let case = sound(entry, &mut random, 48);
             let given = number(&case);
             let fine = match entry {
+                Entry::Enter => read_schedule(&case.lists[0], case.number(1)).is_ok(),
                 Entry::Intake => [0, 1, 7].contains(&given),
                 Entry::WriteSchedule => [0, 34].contains(&given),
                 _ => given == 0,
@@ -45,11 +48,23 @@ fn the_first_fault_refuses() {
                 for _ in 0..20 {
                     let mut case = sound(entry, &mut random, 6);
                     put(&mut case, &set, &mut random);
-                    assert_eq!(number(&case), expected, "{set:?}: {}", case.text());
+                    let given = if entry == Entry::Enter { entering(&case) } else { number(&case) };
+                    assert_eq!(given, expected, "{set:?}: {}", case.text());
                 }
             }
         }
     }
+}
+
+/// The number for which nothing is entered under a first's slot: the schedule's refusal, or 0 for a slot outside.
+fn entering(case: &Case) -> u8 {
+    let (slot, held, after) = (case.number(2), case.numbers[3], run(case, &Ours).returned[0]);
+    if !(1..=SLOTS).contains(&slot) {
+        assert_eq!(after, held);
+        return 0;
+    }
+    assert_eq!(after, held | 1 << (slot - 1));
+    number_of(&read_schedule(&case.lists[0], case.number(1)))
 }
 
 #[test]
@@ -73,14 +88,49 @@ fn stored_results_cover_every_number() {
     assert_eq!(numbers("W ", 5), plan.into_iter().chain([15, 21, 34, 35]).collect());
     assert_eq!(numbers("K ", 5), plan.into_iter().chain(reader).chain([35, 40]).collect());
     assert_eq!(numbers("D ", 7), BTreeSet::from([0, 41, 42]));
+    assert_eq!(numbers("L ", 4), reader.into_iter().chain([15]).collect());
+    assert_eq!(numbers("H ", 2), BTreeSet::from([0, 16]));
+}
+
+/// A stored line of entering: whether the schedule is known, its number, the slot, and the slot that is entered.
+fn entered(line: &str) -> (bool, u8, u64, Option<u64>) {
+    let fields: Vec<&str> = line.split(' ').collect();
+    let number = |at: usize| u64::from_str_radix(fields[at], 16).unwrap();
+    let message = octets(fields[2].trim_matches('-')).unwrap();
+    let refusal = number_of(&read_schedule(&message, number(3) as usize));
+    let (held, after) = (number(5), number(6));
+    let under = (after != held).then(|| u64::from((after ^ held).trailing_zeros()) + 1);
+    (number(1) == 1, refusal, number(4), under)
+}
+
+#[test]
+fn stored_results_enter_in_every_way() {
+    let files = files();
+    let lines = files.iter().flat_map(|(_, lines)| lines).filter(|line| line.starts_with("E "));
+    let all: Vec<_> = lines.map(|line| entered(line)).collect();
+    for refusal in [0, 16, 18, 20, 21, 22, 23, 24] {
+        let itself =
+            all.iter().filter(|&&(known, number, slot, under)| known && number == refusal && under == Some(slot));
+        assert!(itself.count() > 1, "{refusal}");
+    }
+    assert!(
+        all.iter().filter(|&&(known, _, slot, under)| known && under.is_some_and(|under| under < slot)).count() > 20
+    );
+    assert!(all.iter().filter(|&&(known, _, slot, under)| !known && under == Some(slot)).count() > 10);
+    assert!(all
+        .iter()
+        .all(|&(known, number, slot, under)| known && number == 0 || under.is_none_or(|under| under == slot)));
+    assert!(all.iter().filter(|&&(_, _, slot, _)| !(1..=48).contains(&slot)).count() > 20);
 }
 
 #[test]
 fn stored_results_are_the_same_each_time_and_small() {
     let (one, other) = (files(), files());
     assert_eq!(one, other);
-    let octets: usize = one.iter().flat_map(|(_, lines)| lines).map(|line| line.len() + 1).sum();
-    assert!(octets < 1_000_000, "{octets}");
+    for (name, lines) in one {
+        let octets: usize = lines.iter().map(|line| line.len() + 1).sum();
+        assert!(octets <= 200_000, "{name}: {octets}");
+    }
 }
 
 #[test]
@@ -93,7 +143,8 @@ fn a_case_is_read_back_from_its_text() {
     assert_eq!(Case::parse("cb_content n:16 w:"), None);
 }
 
-/// This implementation, but for a decision that compares 16 bits and a writer that touches its guard.
+/// This implementation, but for a decision that compares 16 bits, a reader of text and one of slots that touch memory
+/// with a refusal, a repeat entered under its own slot, and a serial number taken for an identifier.
 struct Wrong;
 
 impl Side for Wrong {
@@ -146,6 +197,21 @@ impl Side for Wrong {
         let mut high: Vec<u16> = wanted.iter().copied().filter(|identifier| identifier >> 15 == 0).collect();
         Ours.decide(known, message, received, slot, if wanted.len() > 64 { wanted } else { &mut high }, held)
     }
+    fn enter(&self, _: bool, message: &mut [u8], received: usize, slot: usize, held: u64) -> u64 {
+        Ours.enter(false, message, received, slot, held)
+    }
+    fn slots(&self, message: &mut [u8], received: usize, slots: &mut [u32]) -> u64 {
+        let returned = Ours.slots(message, received, slots);
+        if returned == 24 {
+            slots[47] = 0;
+        }
+        returned
+    }
+    fn read_header(&self, page: &mut [u8]) -> u64 {
+        let returned = Ours.read_header(page);
+        let (serial, identifier) = (returned >> 16 & 0xFFFF, returned >> 32 & 0xFFFF);
+        returned & !0xFFFF_FFFF_0000 | serial << 32 | identifier << 16
+    }
 }
 
 #[test]
@@ -162,6 +228,36 @@ fn memory_touched_on_a_refusal_is_found() {
     let compared = compare(&[Entry::ReadText], 5, Duration::from_secs(20), &Ours, &Wrong);
     let case = compared.difference.expect("a difference");
     assert_eq!(number(&case), 13);
+    let compared = compare(&[Entry::Slots], 5, Duration::from_secs(20), &Ours, &Wrong);
+    let case = compared.difference.expect("a difference");
+    assert_eq!((number(&case), case.numbers[1], case.lists[0][1]), (24, 48, 1));
+}
+
+#[test]
+fn a_page_entered_under_its_repeat_is_found() {
+    let compared = compare(&[Entry::Enter], 6, Duration::from_secs(20), &Ours, &Wrong);
+    let case = compared.difference.expect("a difference");
+    assert_eq!((case.numbers[0], case.numbers[3]), (1, 0));
+    assert_eq!(case.numbers[2], case.lists[0][1] as u64, "no slot is told past the one got");
+}
+
+#[test]
+fn numbers_in_each_others_place_are_found() {
+    let compared = compare(&[Entry::ReadHeader], 7, Duration::from_secs(20), &Ours, &Wrong);
+    let case = compared.difference.expect("a difference");
+    assert_eq!(case.lists[0].iter().filter(|&&octet| octet != 0).count(), 1);
+}
+
+#[test]
+fn the_memory_behind_is_watched() {
+    let mut random = Random::new(8);
+    for length in [0, 47, 48, 49] {
+        let mut case = sound(Entry::Slots, &mut random, 48);
+        case.numbers[1] = length;
+        let slots = run(&case, &Ours).slots;
+        assert_eq!(slots.len(), length as usize + GUARD);
+        assert_eq!(slots[length as usize..], [LENT_SLOT; GUARD]);
+    }
 }
 
 #[test]

@@ -3,13 +3,15 @@
 use second::blocks::{write_blocks, Kind};
 use second::case::Entry;
 use second::checker::{check_schedule, Finding};
-use second::decision::{decide, entered};
+use second::decision::{decide, enter};
 use second::intake::{intake, start, Answer, STATE};
 use second::invent::sound;
 use second::plan::{self, read_plan, Plan};
 use second::random::Random;
-use second::schedule::read_schedule;
+use second::schedule::{description_at, read_schedule, write_slots, Description, SLOTS};
 use second::sender::write_schedule;
+use second::side::header;
+use second::text::{read_header, write_text};
 
 const TIMES: usize = 2000;
 
@@ -90,7 +92,7 @@ fn the_board_wakes_for_what_is_wanted() {
                 assert_eq!(decide(Some(schedule.clone()), slot, &wanted, any), Ok(true));
             }
             if decide(Some(schedule.clone()), slot, &wanted, held) == Ok(true) {
-                held = entered(&schedule, slot, held);
+                held = enter(Some(&schedule), slot, held);
                 got.push(page);
             }
         }
@@ -98,5 +100,56 @@ fn the_board_wakes_for_what_is_wanted() {
             let plan::Entry::Page(page) = entry else { continue };
             assert!(got.contains(&page) || !wanted.contains(&page.identifier));
         }
+    }
+}
+
+#[test]
+fn slots_are_the_descriptions() {
+    let mut random = Random::new(9);
+    for _ in 0..TIMES {
+        let case = sound(Entry::Slots, &mut random, 48);
+        let (message, received) = (&case.lists[0], case.number(0));
+        let mut slots = [0xA5A5_A5A5; SLOTS];
+        let (_, end) = write_slots(message, received, &mut slots).unwrap();
+        for place in 0..end {
+            let told = description_at(message, received, place).unwrap().unwrap();
+            let slot = slots[told.slot - 1];
+            assert_eq!((slot as u16, slot >> 16), (told.description.code(), told.new as u32));
+        }
+        assert!(slots[..end].iter().all(|&slot| slot & 0xFFFF != 0));
+        assert!(slots[end..].iter().all(|&slot| slot == 0));
+    }
+}
+
+/// Whatever was got and entered is held: neither its repeats nor the slot that it came in, if that is one, are read.
+#[test]
+fn what_is_entered_is_not_read_again() {
+    let mut random = Random::new(10);
+    for _ in 0..TIMES {
+        let case = sound(Entry::Enter, &mut random, 48);
+        let schedule = read_schedule(&case.lists[0], case.number(1)).unwrap();
+        let (slot, held) = (case.number(2), case.numbers[3]);
+        let after = enter(Some(&schedule), slot, held);
+        assert_eq!((after & held, (after ^ held).count_ones() < 2), (held, true));
+        let first = match schedule.at(slot).map(|told| told.description) {
+            Some(Description::Repeat(first)) => first as usize,
+            _ => slot,
+        };
+        let repeats = schedule.told.iter().filter(|told| told.description == Description::Repeat(first as u8));
+        for repeat in repeats {
+            let all: Vec<u16> = schedule.told.iter().map(|told| told.description.code()).take(64).collect();
+            assert_eq!(decide(Some(schedule.clone()), repeat.slot, &all, after), Ok(false));
+        }
+    }
+}
+
+#[test]
+fn a_header_written_is_read() {
+    let mut random = Random::new(11);
+    for _ in 0..TIMES {
+        let case = sound(Entry::WriteText, &mut random, 48);
+        let mut page = [0; 88];
+        write_text(header(&case), &case.words, &mut page).unwrap();
+        assert_eq!(read_header(&page), Ok(header(&case)));
     }
 }

@@ -1,17 +1,17 @@
-//! Document 01's edges: every case marked P, and the listing example.
+//! Document 01's edges: every case marked P, the listing example, and its words on slots, the held set and the header.
 
 use second::blocks::{write_blocks, Kind, FILL};
 use second::case::{hex, octets};
 use second::checker::{check_schedule, Finding};
-use second::decision::decide;
+use second::decision::{decide, enter};
 use second::edges::pages_in;
 use second::intake::STATE;
 use second::plan::{read_plan, Entry, Page, Plan};
 use second::refusal::Refusal;
-use second::schedule::read_schedule;
+use second::schedule::{read_schedule, write_slots, SLOTS};
 use second::sender::write_schedule;
 use second::side::{Ours, Side};
-use second::text::{read_text, septet, write_text, Header, ALPHABET, CHARACTERS};
+use second::text::{read_header, read_text, septet, write_text, Header, ALPHABET, CHARACTERS};
 
 const HEADER: Header = Header { serial: 0x0010, identifier: 0x8001, scheme: 0, parameter: 0x11 };
 
@@ -159,5 +159,110 @@ fn our_message_is_accepted() {
                 assert_eq!(finding, Ok(Finding::True));
             }
         }
+    }
+}
+
+/// All slots of a message, and Begin and End.
+fn slots_of(digits: &str, received: usize) -> Result<((usize, usize), Vec<u32>), Refusal> {
+    let mut slots = [0xA5A5_A5A5; SLOTS];
+    let begin_end = write_slots(&filled(digits), received, &mut slots)?;
+    Ok((begin_end, slots.to_vec()))
+}
+
+/// These numbers for the first slots, and 0 past End.
+fn and_zeros(numbers: &[u32]) -> Vec<u32> {
+    let mut slots = numbers.to_vec();
+    slots.resize(SLOTS, 0);
+    slots
+}
+
+#[test]
+fn slots_of_the_example() {
+    let expected = and_zeros(&[0x1_8001, 0x1_0001]);
+    assert_eq!(slots_of("0102c00000000000800101", 22), Ok(((1, 2), expected)));
+    let expected = and_zeros(&[0x0_8001, 0x0_0001]);
+    assert_eq!(slots_of("0102000000000000800101", 88), Ok(((1, 2), expected)));
+}
+
+#[test]
+fn slots_stand_in_slot_order() {
+    let told = "02c76a00000000000141" /* new: 2, 3 */.to_string() + "018005" /* new: 5, 7 */ + "8006407f" /* 1, 4, 6 */;
+    let expected = and_zeros(&[0x8006, 0x1_0001, 0x1_0041, 0x40, 0x1_0001, 0x40, 0x1_8005]);
+    assert_eq!(slots_of(&told, 22), Ok(((2, 7), expected)));
+}
+
+#[test]
+fn slots_up_to_the_last() {
+    let all = "0130".to_string() + &"00".repeat(6) + "8001" + &"41".repeat(45) + "ffff" + "2f";
+    let mut expected = vec![0x41; SLOTS];
+    (expected[0], expected[46], expected[47]) = (0x8001, 0xFFFF, 0x2F);
+    assert_eq!(slots_of(&all, 66), Ok(((1, 48), expected)));
+    assert_eq!(slots_of(&all, 44), Err(Refusal::DescriptionPassesReceived));
+}
+
+#[test]
+fn slots_refused_leave_memory() {
+    for length in (0..=2 * SLOTS).filter(|&length| length != SLOTS) {
+        let mut slots = vec![0xA5A5_A5A5; length];
+        assert_eq!(write_slots(&[], 0, &mut slots), Err(Refusal::OutputLength));
+        assert!(slots.iter().all(|&slot| slot == 0xA5A5_A5A5));
+    }
+    let repeat_of_repeat = filled("010300000000000080050102");
+    let mut slots = [0xA5A5_A5A5; SLOTS];
+    assert_eq!(write_slots(&repeat_of_repeat, 22, &mut slots), Err(Refusal::FalseRepeat));
+    assert_eq!(write_slots(&repeat_of_repeat, 23, &mut slots), Err(Refusal::Received));
+    assert_eq!(write_slots(&repeat_of_repeat[1..], 23, &mut slots), Err(Refusal::MessageLength));
+    assert_eq!(slots, [0xA5A5_A5A5; SLOTS]);
+}
+
+#[test]
+fn a_page_is_entered_under_its_first() {
+    let schedule = read_schedule(&filled("01070000000000008001ffff0201404142"), 22).unwrap();
+    let entered = |slot: usize| enter(Some(&schedule), slot, 0);
+    let firsts = [1, 2].map(|slot| 1 << (slot - 1));
+    assert_eq!([1, 2].map(entered), firsts);
+    assert_eq!([4, 3].map(entered), firsts);
+    for slot in 5..=SLOTS {
+        assert_eq!(entered(slot), 1 << (slot - 1), "optional, advised, reserved and past End");
+    }
+    for slot in [0, 49, 64, 65, 1 << 32, (1 << 32) + 3, usize::MAX] {
+        assert_eq!((entered(slot), enter(None, slot, 5)), (0, 5));
+    }
+}
+
+#[test]
+fn a_page_is_entered_under_its_slot_without_a_schedule() {
+    for slot in 1..=SLOTS {
+        assert_eq!(enter(None, slot, 0), 1 << (slot - 1));
+    }
+    let mut repeat = filled("0102c00000000000800101");
+    assert_eq!(Ours.enter(true, &mut repeat, 22, 2, 0), 0b01);
+    assert_eq!(Ours.enter(false, &mut repeat, 22, 2, 0), 0b10);
+    assert_eq!(Ours.enter(true, &mut repeat, 23, 2, 0), 0b10);
+    assert_eq!(Ours.enter(true, &mut repeat[1..], 22, 2, 0), 0b10);
+    let mut repeat_of_repeat = filled("010300000000000080050102");
+    assert_eq!(Ours.enter(true, &mut repeat_of_repeat, 22, 2, 0), 0b010);
+    assert_eq!(Ours.enter(true, &mut repeat_of_repeat, 22, 3, 0), 0b100);
+}
+
+#[test]
+fn what_is_entered_stays() {
+    let schedule = read_schedule(&filled("0102c00000000000800101"), 22).unwrap();
+    for held in [u64::MAX, 0xFFFF_0000_0000_0001, 1] {
+        assert_eq!(enter(Some(&schedule), 1, held), held);
+        assert_eq!(enter(Some(&schedule), 2, held), held);
+    }
+    assert_eq!(enter(Some(&schedule), 48, 1 << 48), 0b11 << 47);
+}
+
+#[test]
+fn header_read() {
+    let (_, written) = page(&[0x41]);
+    assert_eq!(read_header(&written), Ok(HEADER));
+    assert_eq!(Ours.read_header(&mut written.to_vec()), 0x11_8001_0010_0000);
+    let mut any = filled("123456789abc");
+    assert_eq!(Ours.read_header(&mut any), 0xBC_5678_1234_9A00);
+    for length in (0..=200).filter(|&length| length != 88) {
+        assert_eq!(Ours.read_header(&mut vec![0xFF; length]), 16);
     }
 }
