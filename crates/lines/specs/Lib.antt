@@ -1,3 +1,5 @@
 -- What `lines` defines.
+pub mod Asked
+pub mod Chunk
 pub mod Inner
 pub mod Paper
