@@ -3,12 +3,14 @@ ghost use mathlib.Core.Path.{_≡_};
 ghost use Prim.Native.Nat.{_+_, _≤_, _<_};
 ghost use lib.ListN.{length, take};
 ghost use Rattle.answer.specs.Number.{numberOf};
+ghost use Rattle.block.specs.Paper.{start};
 ghost use Rattle.history.specs.History.{after};
 ghost use Rattle.firmware.specs.Paper.{lent, heldIn};
 ghost use Rattle.checker.specs.Coded.{checkedOf, plansOf};
 ghost use Rattle.lines.specs.Paper.{cut};
 ghost use Rattle.lines.specs.Inner.{Puts};
-ghost use Rattle.cbcheck.specs.Listing.{numbers, reason, line, lineFor, lines};
+ghost use Rattle.lines.specs.Turns.{GoesOn};
+ghost use Rattle.cbcheck.specs.Listing.{numbers, reason, line, lineOf, lineFor, lines};
 use answer::Refusal;
 use checker::Checking;
 use checker::Plans;
@@ -67,8 +69,14 @@ fn check_log(plans: Plans) {
     let mut name = io::buffer();
     let opened = lines::open_log(b"cbcheck", 3, &mut name);
     if let Opened::File(fd, length) = opened {
-        list_all(plans, b"cbcheck", &name[..length], fd);
+        list_opened(plans, &name[..length], fd);
     }
+}
+
+fn list_opened(plans: Plans, name: &[u8], fd: i32) {
+    let mut state = lines::started();
+    let mut out = lines_buffer();
+    list_all(plans, b"cbcheck", name, fd, &mut state, &mut out);
 }
 
 // Room for the lines of a chunk.
@@ -78,29 +86,32 @@ fn lines_buffer() -> [u8; ROOM]
     [0; ROOM]
 }
 
-// Checks a log to its end, chunk after chunk.
-fn list_all(plans: Plans, program: &[u8], name: &[u8], fd: i32) {
-    let mut state = lines::started();
+// Checks a log to its end, chunk after chunk. The lines and the state are left as after the last chunk; answers the length of its lines.
+fn list_all(
+    plans: Plans,
+    program: &[u8],
+    name: &[u8],
+    fd: i32,
+    state: &mut [u8],
+    out: &mut [u8],
+) -> usize
+    requires { ⌜ (now state ≡ lent start) × (length (now out) ≡ 146432) ⌝ }
+    ensures { λ r. ⌜ GoesOn (lineOf (plansOf plans)) (now (state .exit)) (now (out .exit)) r ⌝ }
+{
     let mut log = [0u8; lines::WHOLE];
-    let mut out = lines_buffer();
     let mut message = [0u8; 88];
     let mut number: u64 = 1;
+    let mut end = 0;
     while number < lines::LAST {
         let chunk = lines::read_chunk(program, name, fd, number, &mut log);
         let octets = chunk.octets;
-        let end = list(
-            plans,
-            &mut state,
-            number,
-            &log[..octets],
-            &mut message,
-            &mut out,
-        );
+        end = list(plans, state, number, &log[..octets], &mut message, out);
         if !lines::write_chunk(program, chunk, &out[..end]) {
-            return;
+            return end;
         }
         number = chunk.next;
     }
+    end
 }
 
 // Checks a log: a shorter tail is a piece too. Answers the length of the lines.

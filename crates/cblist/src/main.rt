@@ -3,10 +3,12 @@ ghost use mathlib.Core.Path.{_≡_};
 ghost use Prim.Native.Nat.{_+_, _/_, _%_, _≤_, _<_};
 ghost use lib.ListN.{length, take};
 ghost use Rattle.firmware.specs.Paper.{lent, heldIn};
+ghost use Rattle.block.specs.Paper.{start};
 ghost use Rattle.history.specs.History.{after};
 ghost use Rattle.lines.specs.Paper.{cut};
 ghost use Rattle.lines.specs.Inner.{Puts};
-ghost use Rattle.cblist.specs.Listing.{line, lines};
+ghost use Rattle.lines.specs.Turns.{GoesOn};
+ghost use Rattle.cblist.specs.Listing.{line, lineOf, lines};
 use libc::STDERR_FILENO;
 use lines::Asked;
 use lines::Opened;
@@ -47,27 +49,32 @@ fn list_named() {
 }
 
 fn list_opened(name: &[u8], fd: i32) {
+    let mut state = lines::started();
+    let mut text = io::large_buffer();
     if lines::write_text(b"cblist", b"block answer octets\n") {
-        list_all(b"cblist", name, fd);
+        list_all(b"cblist", name, fd, &mut state, &mut text);
     }
 }
 
-// Lists a log to its end, chunk after chunk.
-fn list_all(program: &[u8], name: &[u8], fd: i32) {
-    let mut state = lines::started();
+// Lists a log to its end, chunk after chunk. The text and the state are left as after the last chunk; answers the length of its lines.
+fn list_all(program: &[u8], name: &[u8], fd: i32, state: &mut [u8], text: &mut [u8]) -> usize
+    requires { ⌜ (now state ≡ lent start) × (length (now text) ≡ 65536) ⌝ }
+    ensures { λ r. ⌜ GoesOn lineOf (now (state .exit)) (now (text .exit)) r ⌝ }
+{
     let mut log = [0u8; lines::WHOLE];
-    let mut text = io::large_buffer();
     let mut message = [0u8; 88];
     let mut number: u64 = 1;
+    let mut end = 0;
     while number < lines::LAST {
         let chunk = lines::read_chunk(program, name, fd, number, &mut log);
         let octets = chunk.octets;
-        let end = list(&mut state, number, &log[..octets], &mut message, &mut text);
+        end = list(state, number, &log[..octets], &mut message, text);
         if !lines::write_chunk(program, chunk, &text[..end]) {
-            return;
+            return end;
         }
         number = chunk.next;
     }
+    end
 }
 
 // Lists a log: a shorter tail is a piece too. Answers the length of the text.

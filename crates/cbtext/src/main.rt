@@ -4,11 +4,13 @@ ghost use mathlib.Core.Bool.{true};
 ghost use Prim.Native.Nat.{_+_, _*_, _≤_, _<_};
 ghost use lib.ListN.{length, take};
 ghost use Rattle.laws.specs.Received.{wholeBlocks};
+ghost use Rattle.block.specs.Paper.{start};
 ghost use Rattle.history.specs.History.{after};
 ghost use Rattle.firmware.specs.Paper.{lent, heldIn};
 ghost use Rattle.lines.specs.Paper.{hexadecimal, cut};
 ghost use Rattle.lines.specs.Inner.{Puts};
-ghost use Rattle.cbtext.specs.Listing.{utf8, character, joined, textPart, hexPart, names, parts, heading, body, pageLine, pageLines};
+ghost use Rattle.lines.specs.Turns.{GoesOn};
+ghost use Rattle.cbtext.specs.Listing.{utf8, character, joined, textPart, hexPart, names, parts, heading, body, pageLine, lineOf, pageLines};
 ghost use Rattle.cbtext.specs.Inner.{Handed, lineFor};
 use libc::STDERR_FILENO;
 use lines::Asked;
@@ -58,26 +60,35 @@ fn list_named() {
     let mut name = io::buffer();
     let opened = lines::open_log(b"cbtext", 1, &mut name);
     if let Opened::File(fd, length) = opened {
-        list_all(b"cbtext", &name[..length], fd);
+        list_opened(&name[..length], fd);
     }
 }
 
-// Shows a log to its end, chunk after chunk.
-fn list_all(program: &[u8], name: &[u8], fd: i32) {
+fn list_opened(name: &[u8], fd: i32) {
     let mut state = lines::started();
-    let mut log = [0u8; lines::WHOLE];
     let mut out = lines_buffer();
+    list_all(b"cbtext", name, fd, &mut state, &mut out);
+}
+
+// Shows a log to its end, chunk after chunk. The lines and the state are left as after the last chunk; answers the length of its lines.
+fn list_all(program: &[u8], name: &[u8], fd: i32, state: &mut [u8], out: &mut [u8]) -> usize
+    requires { ⌜ (now state ≡ lent start) × (length (now out) ≡ 366592) ⌝ }
+    ensures { λ r. ⌜ GoesOn lineOf (now (state .exit)) (now (out .exit)) r ⌝ }
+{
+    let mut log = [0u8; lines::WHOLE];
     let mut page = [0u8; 88];
     let mut number: u64 = 1;
+    let mut end = 0;
     while number < lines::LAST {
         let chunk = lines::read_chunk(program, name, fd, number, &mut log);
         let octets = chunk.octets;
-        let end = list(&mut state, number, &log[..octets], &mut page, &mut out);
+        end = list(state, number, &log[..octets], &mut page, out);
         if !lines::write_chunk(program, chunk, &out[..end]) {
-            return;
+            return end;
         }
         number = chunk.next;
     }
+    end
 }
 
 // Shows a log: a shorter tail is a piece too. Answers the length of the lines.

@@ -10,3 +10,4 @@ pub mod Pieces
 pub mod Read
 pub mod Same
 pub mod Texts
+pub mod Turns

@@ -60,13 +60,15 @@ module _ (got : Filled) (number : ℕ) (log : List ℕ) (n next : ℕ) where
       λ i. record { octets = n - n % 23; next = e i; ending = endings.Fault } in
       rw told parts
 
--- behind a chunk that goes on the number is higher
-pub goes-on : (number : ℕ) (log : List ℕ) (r : Chunk) → Reads number log r → r .ending ≡ endings.More → number < 1000000000000000000
-    → number < r .next
-unfolding movedOn
-goes-on number log r reads more h =
-    let size = reads .size in
-    let octets = reads .whole more in
-    let long : length (take (r .octets) log) ≡ 23552 = rw octets (length-take-le 23552 log (omega arith)) in
-    let count : length (cut (take (r .octets) log)) ≡ 1024 = length-cut (take (r .octets) log) ∙ omega arith in
-    omega (arith, reads .next)
+module _ (number : ℕ) (log : List ℕ) (r : Chunk) (reads : Reads number log r) (more : r .ending ≡ endings.More) where
+  -- a chunk that goes on fills the memory
+  pub long-chunk : length (take (r .octets) log) ≡ 23552
+  long-chunk = rw (reads .whole more) (length-take-le 23552 log (omega (arith, reads .size)))
+
+  -- and the number behind it is higher
+  pub goes-on : number < 1000000000000000000 → number < r .next
+  unfolding movedOn
+  goes-on h =
+      let long = long-chunk in
+      let count : length (cut (take (r .octets) log)) ≡ 1024 = length-cut (take (r .octets) log) ∙ omega arith in
+      omega (arith, reads .next)

@@ -3,3 +3,4 @@ pub mod Asked
 pub mod Chunk
 pub mod Inner
 pub mod Paper
+pub mod Turns

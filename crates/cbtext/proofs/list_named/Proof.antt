@@ -15,10 +15,10 @@ inside c =
     omega (arith, call .ensures, ap named (c .opened .given .1), call .kept .1 .1 .0)
 
 array-share-prefix-name : tie.Need-array-share-prefix-name
-array-share-prefix-name c = inside (c .before .before)
+array-share-prefix-name c = inside (c .before)
 
-slice-aggregate-list-all-2 : tie.Need-slice-aggregate-list-all-2
-slice-aggregate-list-all-2 c = sym (length-take-le _ _ (inside (c .before .before .before)))
+slice-aggregate-list-opened : tie.Need-slice-aggregate-list-opened
+slice-aggregate-list-opened c = sym (length-take-le _ _ (inside (c .before .before)))
 
 pub list-named-spec : {M : Type 1} → statement M
 list-named-spec =
@@ -29,9 +29,8 @@ list-named-spec =
     (λ c. search needs)
     (λ c κs. search needs)
     (λ c. search needs)
-    (λ c. search needs)
     array-share-prefix-name
-    slice-aggregate-list-all-2
+    slice-aggregate-list-opened
     (λ c κs. search needs)
     (λ c. search needs)
     (λ c. search needs)
