@@ -179,6 +179,9 @@ FILES = {
     "kind3.plan": plan_file([(3, 0, 0, 0)]),
     "set.plan": plan_file([(1, 0, 0, 1)]),
     "log": log(),
+    "log.list": listed(log()),
+    # the log's whole pieces: what is listed where a read fails behind its last octet
+    "log.broken": listed(log()[:len(log()) // 23 * 23]),
     "empty": b"",
     "two.blocks": blocks(*message(1, told(TWO, []))),
     "two-again.blocks": blocks(*message(2, told(TWO, TWO))),

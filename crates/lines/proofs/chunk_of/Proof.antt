@@ -1,8 +1,6 @@
 -- `lines::chunk_of` meets its contract, and what is numbered lies in the memory.
 use mathlib.Core.Path.{sym, ap}
-use Prim.Native.Nat.{_≤_}
 use native.Mathlib.Omega.{arith}
-use lib.ListN.{length}
 use lib.Seq.{length-take-le}
 use borrow.Author.Needs.{needs}
 use Rattle.lines.specs.Chunk.{filled}

@@ -1,5 +1,5 @@
 -- `lines::started` meets its contract: the memory has the length that a start call asks for.
-use mathlib.Core.Path.{ap, _∙_}
+use mathlib.Core.Path.{ap}
 use borrow.Author.Needs.{needs}
 use Rattle.firmware.specs.Paper.{Started, startCall}
 use Rattle.lines.proofs.started.Statement.{statement}
