@@ -3,6 +3,8 @@
 import os
 import sys
 
+from printed import ALPHABET, listed, shown, taken_in
+
 OPTIONAL, ADVISED = (0, 0, 0, 0), (1, 0, 0, 0)
 
 
@@ -91,6 +93,76 @@ def log():
     return b"".join(parts)
 
 
+def packed(text):
+    """A page's content: 93 septets, the text and then CRs."""
+    bits = 0
+    for i, character in enumerate(text.ljust(93, "\r")):
+        # a space is 20, not 1B
+        bits |= ALPHABET.index(character, 0x20 if character == " " else 0) << 7 * i
+    return bits.to_bytes(82, "little")
+
+
+NULL = b"\x2f" + b"\x00" * 22
+RESERVED = b"\x2c" + b"\xff" * 22
+# null, reserved, another discriminator, and a second block with no first
+OTHERS = NULL + RESERVED + b"\x48" + b"\x00" * 22 + b"\x21" + b"\x00" * 22
+SENTENCES = [
+    "Track {} is closed",
+    "Ramp {}: wagons leave by yard B, fee £5 @ gate_2",
+    "Ça va? ¡Mañana!\nΩ-gate {}\r\nover there, ΔΦ ß",
+    "Kapu {}: " + "ÄÖÜ " * 20,
+    "",
+]
+
+
+def pages_log():
+    """Pages in fours of blocks behind two pieces, so that one lies across each border of a chunk of 1,024; then a tail."""
+    parts = [NULL, RESERVED]
+    for i in range(537):
+        text = SENTENCES[i % 5].format(i)
+        scheme = 0x11 if i % 7 == 1 else i % 16
+        octets = (0x4000 + i).to_bytes(2, "big") + (0xF000 ^ 31 * i).to_bytes(2, "big") + bytes([scheme, 0x11 + i % 3]) + packed(text)
+        # the two pages that lie across a border use all four blocks
+        used = 88 if i in (255, 511) else 6 + (7 * len(text) + 7) // 8
+        parts.append(OTHERS if i % 20 == 19 and i not in (255, 511) else blocks(octets, used, first=0))
+    parts.append(b"\x20" + b"\x00" * 8)
+    return b"".join(parts)
+
+
+def schedules():
+    """The messages of a log for FULL with no plan before it, each with what refuses it, the slot, and the words."""
+    good = told(FULL, [])
+    octets, used = message(48, good)
+    true = (blocks(octets, used), 0, 0, "true")
+    kinds = [
+        true,
+        # slot 40 is told as a repeat of slot 2
+        (blocks(*message(1, good[:39] + [(1, b"\x02")] + good[40:])), 40, 40, "slot 40 is not told as planned"),
+        # the new bit of slot 33 is 0: its description, a repeat of slot 1, stands last
+        (blocks(*message(1, good[:32] + [(0, good[32][1])] + good[33:])), 40, 33, "slot 33 is not told as planned"),
+        # a message of 47 slots
+        (blocks(*message(7, good[:47])), 40, 0, "End is not the plan's number of slots"),
+        # type 01
+        (blocks(b"\x41" + octets[1:], used), 20, 0, "the message's type is not 00"),
+        # slot 48 is told as a repeat of itself
+        (blocks(*message(1, good[:47] + [(1, b"\x30")])), 24, 0, "a repeat names no first transmission before it"),
+    ]
+    # one of the messages across a border is true, the other not
+    return [true if i == 255 else kinds[1] if i == 511 else kinds[i % 6] for i in range(537)]
+
+
+def schedules_log():
+    return NULL + RESERVED + b"".join(OTHERS if i in (100, 300) else octets for i, (octets, _, _, _) in enumerate(schedules())) + b"\x28"
+
+
+def checked():
+    """What cbcheck prints for it: the messages are known, and the intake tells the blocks that complete them."""
+    known = [words for i, (_, *words) in enumerate(schedules()) if i not in (100, 300)]
+    complete = [number for number, answer, _, _ in taken_in(schedules_log()) if answer == 7]
+    assert len(known) == len(complete)
+    return "".join(f"{number} {why} {slot} {words}\n" for number, (why, slot, words) in zip(complete, known)).encode()
+
+
 FILES = {
     "two.plan": plan_file(TWO),
     "five.plan": plan_file(FIVE),
@@ -107,11 +179,20 @@ FILES = {
     "kind3.plan": plan_file([(3, 0, 0, 0)]),
     "set.plan": plan_file([(1, 0, 0, 1)]),
     "log": log(),
+    "log.list": listed(log()),
+    # the log's whole pieces: what is listed where a read fails behind its last octet
+    "log.broken": listed(log()[:len(log()) // 23 * 23]),
     "empty": b"",
     "two.blocks": blocks(*message(1, told(TWO, []))),
     "two-again.blocks": blocks(*message(2, told(TWO, TWO))),
     "five.blocks": blocks(*message(3, told(FIVE, BEFORE))),
     "full.blocks": blocks(*message(48, told(FULL, []))),
+    "pages.log": pages_log(),
+    "pages.list": listed(pages_log()),
+    "pages.text": shown(pages_log()),
+    "schedules.log": schedules_log(),
+    "schedules.list": listed(schedules_log()),
+    "schedules.check": checked(),
 }
 
 if __name__ == "__main__":

@@ -1,35 +1,57 @@
-// Checks the schedule messages of a log of blocks from standard input beside two plan files, a line for each: cbcheck CURRENT PREVIOUS.
+// Checks the schedule messages of a log of blocks from a file or standard input beside two plan files, a line for each: cbcheck CURRENT PREVIOUS [FILE].
 ghost use mathlib.Core.Path.{_≡_};
 ghost use Prim.Native.Nat.{_+_, _≤_, _<_};
 ghost use lib.ListN.{length, take};
 ghost use Rattle.answer.specs.Number.{numberOf};
+ghost use Rattle.block.specs.Paper.{start};
 ghost use Rattle.history.specs.History.{after};
 ghost use Rattle.firmware.specs.Paper.{lent, heldIn};
 ghost use Rattle.checker.specs.Coded.{checkedOf, plansOf};
 ghost use Rattle.lines.specs.Paper.{cut};
 ghost use Rattle.lines.specs.Inner.{Puts};
-ghost use Rattle.cbcheck.specs.Listing.{numbers, reason, line, lineFor, lines};
+ghost use Rattle.lines.specs.Turns.{GoesOn};
+ghost use Rattle.cbcheck.specs.Listing.{numbers, reason, line, lineOf, lineFor, lines};
 use answer::Refusal;
 use checker::Checking;
 use checker::Plans;
 use libc::STDERR_FILENO;
-use libc::STDOUT_FILENO;
+use lines::Asked;
+use lines::Opened;
 
-// A read holds this many pieces, and the text has room for the longest line of each.
-const PIECES: u64 = 1024;
-
-const CHUNK: usize = 23552;
-
+// Room for the longest line of each piece of a chunk.
 const ROOM: usize = 146432;
 
-// No log has so many blocks.
-const LAST: u64 = 1000000000000000000;
-
 fn main() {
-    if os::arg_count() != 3 {
-        io::write_all(STDERR_FILENO, b"cbcheck: name two plan files\n");
-        return;
+    let mut word = io::buffer();
+    let length = os::arg(1, &mut word);
+    let asked = lines::asked_for(os::arg_count(), &word[..length], 3, 4);
+    match asked {
+        Asked::Work => check_named(),
+        Asked::Help => say_help(),
+        Asked::Usage => say_usage(),
     }
+}
+
+fn say_help() {
+    lines::write_text(
+        b"cbcheck",
+        b"usage: cbcheck CURRENT PREVIOUS [FILE]\n\
+        Checks the schedule messages of a log of blocks, FILE or standard input, beside two plan files, a line for each message.\n\
+        A line has the number of the message's last block, 0 where the message is true or the number that refuses it,\n\
+        the lowest untrue slot or 0, and the same in words.\n\
+        A previous plan of no slots stands for none.\n",
+    );
+}
+
+fn say_usage() {
+    io::write_all(
+        STDERR_FILENO,
+        b"cbcheck: usage: cbcheck CURRENT PREVIOUS [FILE]\n",
+    );
+}
+
+// Checks the log that the third argument names, or standard input, beside the plan files that the first two name.
+fn check_named() {
     let current = planfile::take(b"cbcheck", b"the current plan: ", 1);
     if !current.good {
         return;
@@ -40,57 +62,56 @@ fn main() {
     }
     let plan = current.plan;
     let older = previous.plan;
-    list_all(checker::beside(plan, older));
+    check_log(checker::beside(plan, older));
 }
 
-// Room for the lines of one read.
+fn check_log(plans: Plans) {
+    let mut name = io::buffer();
+    let opened = lines::open_log(b"cbcheck", 3, &mut name);
+    if let Opened::File(fd, length) = opened {
+        list_opened(plans, &name[..length], fd);
+    }
+}
+
+fn list_opened(plans: Plans, name: &[u8], fd: i32) {
+    let mut state = lines::started();
+    let mut out = lines_buffer();
+    list_all(plans, b"cbcheck", name, fd, &mut state, &mut out);
+}
+
+// Room for the lines of a chunk.
 fn lines_buffer() -> [u8; ROOM]
     ensures { λ r. ⌜ 146432 ≡ length r ⌝ }
 {
     [0; ROOM]
 }
 
-// A state for the intake.
-fn state_buffer() -> [u8; 90]
-    ensures { λ r. ⌜ 90 ≡ length r ⌝ }
+// Checks a log to its end, chunk after chunk. The lines and the state are left as after the last chunk; answers the length of its lines.
+fn list_all(
+    plans: Plans,
+    program: &[u8],
+    name: &[u8],
+    fd: i32,
+    state: &mut [u8],
+    out: &mut [u8],
+) -> usize
+    requires { ⌜ (now state ≡ lent start) × (length (now out) ≡ 146432) ⌝ }
+    ensures { λ r. ⌜ GoesOn (lineOf (plansOf plans)) (now (state .exit)) (now (out .exit)) r ⌝ }
 {
-    [0; 90]
-}
-
-// Checks standard input to its end.
-fn list_all(plans: Plans) {
-    let mut state = state_buffer();
-    firmware::cb_start(&mut state);
-    let mut log = io::large_buffer();
-    let mut out = lines_buffer();
+    let mut log = [0u8; lines::WHOLE];
     let mut message = [0u8; 88];
     let mut number: u64 = 1;
-    while number < LAST {
-        if !list_some(plans, &mut state, number, &mut log, &mut message, &mut out) {
-            return;
+    let mut end = 0;
+    while number < lines::LAST {
+        let chunk = lines::read_chunk(program, name, fd, number, &mut log);
+        let octets = chunk.octets;
+        end = list(plans, state, number, &log[..octets], &mut message, out);
+        if !lines::write_chunk(program, chunk, &out[..end]) {
+            return end;
         }
-        number += PIECES;
+        number = chunk.next;
     }
-}
-
-// Checks what one read gives, and answers whether there may be more.
-fn list_some(
-    plans: Plans,
-    state: &mut [u8],
-    number: u64,
-    log: &mut [u8],
-    message: &mut [u8],
-    out: &mut [u8],
-) -> bool
-    requires { ⌜ (length (now state) ≡ 90) × (length (now message) ≡ 88) × (length (now log) ≡ 65536) × (length (now out) ≡ 146432) × (number < 1000000000000000000) ⌝ }
-{
-    let count = lines::read_whole(&mut log[..CHUNK]);
-    let end = list(plans, state, number, &log[..count], message, out);
-    if !io::write_all(STDOUT_FILENO, &out[..end]) {
-        os::fail(b"standard output");
-        return false;
-    }
-    count == CHUNK
+    end
 }
 
 // Checks a log: a shorter tail is a piece too. Answers the length of the lines.

@@ -1,65 +1,80 @@
-// Lists a log of blocks from standard input: the number of each, the intake's answer, and the octets received.
+// Lists a log of blocks from a file or standard input: the number of each, the intake's answer, and the octets received.
 ghost use mathlib.Core.Path.{_≡_};
 ghost use Prim.Native.Nat.{_+_, _/_, _%_, _≤_, _<_};
 ghost use lib.ListN.{length, take};
 ghost use Rattle.firmware.specs.Paper.{lent, heldIn};
+ghost use Rattle.block.specs.Paper.{start};
 ghost use Rattle.history.specs.History.{after};
 ghost use Rattle.lines.specs.Paper.{cut};
 ghost use Rattle.lines.specs.Inner.{Puts};
-ghost use Rattle.cblist.specs.Listing.{line, lines};
-use libc::STDOUT_FILENO;
-
-// A read holds this many pieces, and the text of each has room for three numbers of twenty digits.
-const PIECES: u64 = 1024;
-
-const CHUNK: usize = 23552;
-
-// No log has so many blocks.
-const LAST: u64 = 1000000000000000000;
+ghost use Rattle.lines.specs.Turns.{GoesOn};
+ghost use Rattle.cblist.specs.Listing.{line, lineOf, lines};
+use libc::STDERR_FILENO;
+use lines::Asked;
+use lines::Opened;
 
 fn main() {
-    if !io::write_all(STDOUT_FILENO, b"block answer octets\n") {
-        os::fail(b"standard output");
-        return;
+    let mut word = io::buffer();
+    let length = os::arg(1, &mut word);
+    let asked = lines::asked_for(os::arg_count(), &word[..length], 1, 2);
+    match asked {
+        Asked::Work => list_named(),
+        Asked::Help => say_help(),
+        Asked::Usage => say_usage(),
     }
-    let mut state = [0u8; 90];
-    firmware::cb_start(&mut state);
-    list_all(&mut state);
 }
 
-// Lists standard input to its end.
-fn list_all(state: &mut [u8])
-    requires { ⌜ length (now state) ≡ 90 ⌝ }
-{
-    let mut log = io::large_buffer();
+fn say_help() {
+    lines::write_text(
+        b"cblist",
+        b"usage: cblist [FILE]\n\
+        Lists a log of blocks, FILE or standard input: 23 octets are a block, and a shorter tail is a piece too.\n\
+        A line has the block's number, the intake's answer, and the octets received where a message is complete, 0 otherwise.\n\
+        Answers: 0 page complete, 1 block taken, 7 schedule message complete; refused: 2 not 23 octets, 3 discriminator not 01,\n\
+        4 reserved code, 5 null block, 6 not the next block of its message.\n",
+    );
+}
+
+fn say_usage() {
+    io::write_all(STDERR_FILENO, b"cblist: usage: cblist [FILE]\n");
+}
+
+// Lists the log that the argument names, or standard input.
+fn list_named() {
+    let mut name = io::buffer();
+    let opened = lines::open_log(b"cblist", 1, &mut name);
+    if let Opened::File(fd, length) = opened {
+        list_opened(&name[..length], fd);
+    }
+}
+
+fn list_opened(name: &[u8], fd: i32) {
+    let mut state = lines::started();
     let mut text = io::large_buffer();
+    if lines::write_text(b"cblist", b"block answer octets\n") {
+        list_all(b"cblist", name, fd, &mut state, &mut text);
+    }
+}
+
+// Lists a log to its end, chunk after chunk. The text and the state are left as after the last chunk; answers the length of its lines.
+fn list_all(program: &[u8], name: &[u8], fd: i32, state: &mut [u8], text: &mut [u8]) -> usize
+    requires { ⌜ (now state ≡ lent start) × (length (now text) ≡ 65536) ⌝ }
+    ensures { λ r. ⌜ GoesOn lineOf (now (state .exit)) (now (text .exit)) r ⌝ }
+{
+    let mut log = [0u8; lines::WHOLE];
     let mut message = [0u8; 88];
     let mut number: u64 = 1;
-    while number < LAST {
-        if !list_some(state, number, &mut log, &mut message, &mut text) {
-            return;
+    let mut end = 0;
+    while number < lines::LAST {
+        let chunk = lines::read_chunk(program, name, fd, number, &mut log);
+        let octets = chunk.octets;
+        end = list(state, number, &log[..octets], &mut message, text);
+        if !lines::write_chunk(program, chunk, &text[..end]) {
+            return end;
         }
-        number += PIECES;
+        number = chunk.next;
     }
-}
-
-// Lists what one read gives, and answers whether there may be more.
-fn list_some(
-    state: &mut [u8],
-    number: u64,
-    log: &mut [u8],
-    message: &mut [u8],
-    text: &mut [u8],
-) -> bool
-    requires { ⌜ (length (now state) ≡ 90) × (length (now message) ≡ 88) × (length (now log) ≡ 65536) × (length (now text) ≡ 65536) × (number < 1000000000000000000) ⌝ }
-{
-    let count = lines::read_whole(&mut log[..CHUNK]);
-    let end = list(state, number, &log[..count], message, text);
-    if !io::write_all(STDOUT_FILENO, &text[..end]) {
-        os::fail(b"standard output");
-        return false;
-    }
-    count == CHUNK
+    end
 }
 
 // Lists a log: a shorter tail is a piece too. Answers the length of the text.

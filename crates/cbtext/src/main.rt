@@ -1,70 +1,94 @@
-// Shows the pages of a log of blocks from standard input: a line for each, with its text, or its content in hex.
+// Shows the pages of a log of blocks from a file or standard input: a line for each, with its text, or its content in hex.
 ghost use mathlib.Core.Path.{_≡_};
 ghost use mathlib.Core.Bool.{true};
 ghost use Prim.Native.Nat.{_+_, _*_, _≤_, _<_};
 ghost use lib.ListN.{length, take};
 ghost use Rattle.laws.specs.Received.{wholeBlocks};
+ghost use Rattle.block.specs.Paper.{start};
 ghost use Rattle.history.specs.History.{after};
 ghost use Rattle.firmware.specs.Paper.{lent, heldIn};
 ghost use Rattle.lines.specs.Paper.{hexadecimal, cut};
 ghost use Rattle.lines.specs.Inner.{Puts};
-ghost use Rattle.cbtext.specs.Listing.{utf8, character, joined, textPart, hexPart, names, parts, heading, body, pageLine, pageLines};
+ghost use Rattle.lines.specs.Turns.{GoesOn};
+ghost use Rattle.cbtext.specs.Listing.{utf8, character, joined, textPart, hexPart, names, parts, heading, body, pageLine, lineOf, pageLines};
 ghost use Rattle.cbtext.specs.Inner.{Handed, lineFor};
-use libc::STDOUT_FILENO;
+use libc::STDERR_FILENO;
+use lines::Asked;
+use lines::Opened;
 use page::MessageId;
 use page::Serial;
 use text::Got;
 
-// A read holds this many pieces, and the text of each has room for the longest line.
-const PIECES: u64 = 1024;
-
-const CHUNK: usize = 23552;
-
+// Room for the longest line of each piece of a chunk.
 const ROOM: usize = 366592;
 
-// No log has so many blocks.
-const LAST: u64 = 1000000000000000000;
-
 fn main() {
-    let mut state = [0u8; 90];
-    firmware::cb_start(&mut state);
-    list_all(&mut state);
+    let mut word = io::buffer();
+    let length = os::arg(1, &mut word);
+    let asked = lines::asked_for(os::arg_count(), &word[..length], 1, 2);
+    match asked {
+        Asked::Work => list_named(),
+        Asked::Help => say_help(),
+        Asked::Usage => say_usage(),
+    }
 }
 
-// Room for the lines of one read.
+fn say_help() {
+    lines::write_text(
+        b"cbtext",
+        b"usage: cbtext [FILE]\n\
+        Shows the pages of a log of blocks, FILE or standard input, a line for each page that is complete.\n\
+        A line has the number of the page's last block, its serial number and identifier in hex, page and total,\n\
+        and then the word text with the text received or, where the coding scheme is over 0F, hex with the content received.\n\
+        \\n and \\r are line ends inside a text.\n",
+    );
+}
+
+fn say_usage() {
+    io::write_all(STDERR_FILENO, b"cbtext: usage: cbtext [FILE]\n");
+}
+
+// Room for the lines of a chunk.
 fn lines_buffer() -> [u8; ROOM]
     ensures { λ r. ⌜ 366592 ≡ length r ⌝ }
 {
     [0; ROOM]
 }
 
-// Shows standard input to its end.
-fn list_all(state: &mut [u8])
-    requires { ⌜ length (now state) ≡ 90 ⌝ }
-{
-    let mut log = io::large_buffer();
-    let mut out = lines_buffer();
-    let mut page = [0u8; 88];
-    let mut number: u64 = 1;
-    while number < LAST {
-        if !list_some(state, number, &mut log, &mut page, &mut out) {
-            return;
-        }
-        number += PIECES;
+// Shows the log that the argument names, or standard input.
+fn list_named() {
+    let mut name = io::buffer();
+    let opened = lines::open_log(b"cbtext", 1, &mut name);
+    if let Opened::File(fd, length) = opened {
+        list_opened(&name[..length], fd);
     }
 }
 
-// Shows what one read gives, and answers whether there may be more.
-fn list_some(state: &mut [u8], number: u64, log: &mut [u8], page: &mut [u8], out: &mut [u8]) -> bool
-    requires { ⌜ (length (now state) ≡ 90) × (length (now page) ≡ 88) × (length (now log) ≡ 65536) × (length (now out) ≡ 366592) × (number < 1000000000000000000) ⌝ }
+fn list_opened(name: &[u8], fd: i32) {
+    let mut state = lines::started();
+    let mut out = lines_buffer();
+    list_all(b"cbtext", name, fd, &mut state, &mut out);
+}
+
+// Shows a log to its end, chunk after chunk. The lines and the state are left as after the last chunk; answers the length of its lines.
+fn list_all(program: &[u8], name: &[u8], fd: i32, state: &mut [u8], out: &mut [u8]) -> usize
+    requires { ⌜ (now state ≡ lent start) × (length (now out) ≡ 366592) ⌝ }
+    ensures { λ r. ⌜ GoesOn lineOf (now (state .exit)) (now (out .exit)) r ⌝ }
 {
-    let count = lines::read_whole(&mut log[..CHUNK]);
-    let end = list(state, number, &log[..count], page, out);
-    if !io::write_all(STDOUT_FILENO, &out[..end]) {
-        os::fail(b"standard output");
-        return false;
+    let mut log = [0u8; lines::WHOLE];
+    let mut page = [0u8; 88];
+    let mut number: u64 = 1;
+    let mut end = 0;
+    while number < lines::LAST {
+        let chunk = lines::read_chunk(program, name, fd, number, &mut log);
+        let octets = chunk.octets;
+        end = list(state, number, &log[..octets], &mut page, out);
+        if !lines::write_chunk(program, chunk, &out[..end]) {
+            return end;
+        }
+        number = chunk.next;
     }
-    count == CHUNK
+    end
 }
 
 // Shows a log: a shorter tail is a piece too. Answers the length of the lines.

@@ -4,10 +4,11 @@ ghost use Prim.Native.Nat.{min};
 ghost use Rattle.block.specs.Coded.{sentOf};
 ghost use Rattle.plan.specs.Coded.{planOf};
 ghost use Rattle.cbwrite.specs.Paper.{composed};
+use answer::Refusal;
 use block::Kind;
 use block::Sent;
 use libc::STDERR_FILENO;
-use libc::STDOUT_FILENO;
+use lines::Asked;
 use plan::Plan;
 use sender::Writing;
 
@@ -21,29 +22,46 @@ enum Begin {
 const MOST: usize = 1000;
 
 fn main() {
-    if os::arg_count() != 4 {
-        say_usage();
-        return;
+    let mut word = io::buffer();
+    let length = os::arg(1, &mut word);
+    let asked = lines::asked_for(os::arg_count(), &word[..length], 4, 4);
+    match asked {
+        Asked::Work => write_named(),
+        Asked::Help => say_help(),
+        Asked::Usage => say_usage(),
     }
-    let begin = begin_argument();
-    match begin {
-        Begin::Number(number) => write_named(number),
-        Begin::NoNumber => say_usage(),
-    }
+}
+
+fn say_help() {
+    lines::write_text(
+        b"cbwrite",
+        b"usage: cbwrite CURRENT PREVIOUS BEGIN\n\
+        Writes the schedule message of a plan file, beside the plan file before it, to standard output.\n\
+        BEGIN is the message's Begin in decimal, one of the slots of the current plan.\n\
+        A previous plan of no slots stands for none. What is written is four blocks of 23 octets, which cblist and cbcheck read.\n",
+    );
 }
 
 fn say_usage() {
-    io::write_all(STDERR_FILENO, b"cbwrite: name two plan files and Begin\n");
+    io::write_all(
+        STDERR_FILENO,
+        b"cbwrite: usage: cbwrite CURRENT PREVIOUS BEGIN\n",
+    );
 }
 
-// Begin as the third argument tells it.
-fn begin_argument() -> Begin {
-    let mut text = io::buffer();
-    let length = os::arg(3, &mut text);
+// Writes the blocks for the three arguments.
+fn write_named() {
+    let mut typed = io::buffer();
+    let length = os::arg(3, &mut typed);
     if os::errno() != 0 {
-        return Begin::NoNumber;
+        say_usage();
+        return;
     }
-    begin_of(&text[..length])
+    let begin = begin_of(&typed[..length]);
+    match begin {
+        Begin::Number(number) => write_plans(number, &typed[..length]),
+        Begin::NoNumber => say_usage(),
+    }
 }
 
 fn capped(number: usize) -> usize
@@ -76,8 +94,8 @@ fn begin_of(digits: &[u8]) -> Begin {
     Begin::Number(number)
 }
 
-// Writes the blocks of the plan files that the arguments name.
-fn write_named(begin: usize) {
+// Writes the blocks of the plan files that the first two arguments name, with Begin as it was typed.
+fn write_plans(begin: usize, typed: &[u8]) {
     let current = planfile::take(b"cbwrite", b"the current plan: ", 1);
     if !current.good {
         return;
@@ -88,22 +106,27 @@ fn write_named(begin: usize) {
     }
     let plan = current.plan;
     let older = previous.plan;
-    write(plan, older, begin);
+    write(plan, older, begin, typed);
 }
 
-fn write(current: Plan, previous: Plan, begin: usize) {
+fn write(current: Plan, previous: Plan, begin: usize, typed: &[u8]) {
     let mut blocks = [0u8; 92];
     let answer = compose(current, previous, begin, &mut blocks);
     match answer {
         Sent::Done => {
-            if !io::write_all(STDOUT_FILENO, &blocks) {
-                os::fail(b"standard output");
-            }
+            lines::write_text(b"cbwrite", &blocks);
         }
-        Sent::Refused(refusal) => {
-            let mut line = [0u8; planfile::LINE];
-            planfile::say_refused(b"cbwrite", b"", refusal, &mut line);
-        }
+        Sent::Refused(refusal) => say_why(refusal, typed, current.count),
+    }
+}
+
+// Says why nothing was written. A wrong Begin is told as it was typed.
+fn say_why(refusal: Refusal, typed: &[u8], count: usize) {
+    let mut line = [0u8; lines::NAMES];
+    if let Refusal::BeginOrEnd = refusal {
+        planfile::say_begin(b"cbwrite", typed, count, &mut line);
+    } else {
+        planfile::say_refused(b"cbwrite", b"", refusal, &mut line);
     }
 }
 

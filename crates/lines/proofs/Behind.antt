@@ -5,7 +5,7 @@ use mathlib.Core.List.{List, [], _∷_, _++_, append-assoc, append-nil}
 use Prim.Native.Nat.{ℕ, _+_, _-_, _≤_, _<_}
 use native.Mathlib.Numerals.{add-one}
 use native.Mathlib.Omega.{arith}
-use lib.ListN.{length, take, drop, set, length-take, length-append}
+use lib.ListN.{length, take, drop, set, length-take, length-drop, length-append}
 use lib.Seq.{take-at, take-suc-set}
 use lib.Dec.{leb}
 use borrow.Author.Tests.{le-leb, lt-leb, leb-true, leb-false}
@@ -59,6 +59,30 @@ module _ (s : List ℕ) (n : ℕ) (t : List ℕ) where
         onward = omega arith;
         room = omega arith;
       }
+
+-- what is put ends within its memory
+pub ends-inside : (s : List ℕ) (n : ℕ) (t : List ℕ) (left : Left) → n ≤ length t → left ≡ behind s n t → left .end ≤ length t
+ends-inside s n t left h q = go (leb (n + length s) (length t)) refl
+  where
+    go : (b : Bool) → leb (n + length s) (length t) ≡ b → left .end ≤ length t
+    go true e =
+        let few = leb-true (n + length s) (length t) e in
+        let end : left .end ≡ n + length s = ap (λ (x : Left). x .end) (q ∙ behind-fits s n t few) in
+        omega arith
+    go false e =
+        let many = leb-false (n + length s) (length t) e in
+        let end : left .end ≡ n = ap (λ (x : Left). x .end) (q ∙ behind-full s n t many) in
+        omega arith
+
+-- and the memory is as long as it was
+pub length-behind : (s : List ℕ) (n : ℕ) (t : List ℕ) → length (behind s n t .text) ≡ length t
+length-behind s n t = go (leb (n + length s) (length t)) refl
+  where
+    go : (b : Bool) → leb (n + length s) (length t) ≡ b → length (behind s n t .text) ≡ length t
+    go true e =
+        let few = leb-true (n + length s) (length t) e in
+        ap (λ (x : Left). length (x .text)) (behind-fits s n t few) ∙ simp (length-append, length-take, length-drop) (omega arith)
+    go false e = ap (λ (x : Left). length (x .text)) (behind-full s n t (leb-false (n + length s) (length t) e))
 
 -- nothing is put
 pub puts-none : (n : ℕ) (t : List ℕ) → Puts [] 0 n t t n

@@ -12,7 +12,7 @@ use Rattle.lines.proofs.Pieces.{length-pieces, cut-append}
 
 module _ (f : ℕ → Given → List ℕ) where
   -- lines of pieces and further pieces
-  listing-append : (h : Held) (n : ℕ) (ps qs : List (List ℕ)) → listing f h n (ps ++ qs) ≡ listing f h n ps ++ listing f (after h ps) (n + length ps) qs
+  pub listing-append : (h : Held) (n : ℕ) (ps qs : List (List ℕ)) → listing f h n (ps ++ qs) ≡ listing f h n ps ++ listing f (after h ps) (n + length ps) qs
   unfolding listing after
   listing-append h n [] qs = rw (add-zero n)
   listing-append h n (p ∷ ps) qs =

@@ -62,6 +62,10 @@ unfolding pieces
 length-pieces zero at log = refl
 length-pieces (suc k) at log = ap suc (length-pieces k (at + 23) log)
 
+-- a log is cut into as many pieces as 23 octets go into it, and one more for a tail
+pub length-cut : (log : List ℕ) → length (cut log) ≡ (length log + 22) / 23
+length-cut log = length-pieces ((length log + 22) / 23) 0 log
+
 -- pieces and those after them
 pieces-append : (k j at : ℕ) (log : List ℕ) → pieces (k + j) at log ≡ pieces k at log ++ pieces j (at + 23 * k) log
 unfolding pieces

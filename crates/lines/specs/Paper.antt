@@ -3,6 +3,8 @@ use mathlib.Core.Path.{_≡_}
 use mathlib.Core.Bool.{cond}
 use mathlib.Core.List.{List, [], _∷_, _++_}
 use Prim.Native.Nat.{ℕ, zero, suc, _+_, _*_, _/_, _%_}
+use Prim.Native.Char.{code}
+use Prim.Native.String.{String, [] as none, _∷_ as _before_}
 use lib.ListN.{length, take, drop}
 use lib.Dec.{leb, ltb}
 use Rattle.block.specs.Paper.{Held, Given, step}
@@ -26,6 +28,11 @@ unfoldable pub hexadecimal : ℕ → ℕ → List ℕ
 hexadecimal zero n = []
 hexadecimal (suc k) n = hexadecimal k (n / 16) ++ (hexDigit (n % 16) ∷ [])
 
+-- the code points of a text's characters
+unfoldable pub ascii : String → List ℕ
+ascii none = []
+ascii (c before s) = code c ∷ ascii s
+
 -- what putting leaves: where the text ends, and its memory
 pub record Left : Type 0 where
   pub end : ℕ
@@ -37,6 +44,15 @@ behind s n t =
     cond (leb (n + length s) (length t))
     (record { end = n + length s; text = take n t ++ (s ++ drop (n + length s) t) })
     (record { end = n; text = t })
+
+-- texts one behind the other; one that does not fit is left out
+unfoldable pub allBehind : List (List ℕ) → ℕ → List ℕ → Left
+allBehind [] n t = record { end = n; text = t }
+allBehind (s ∷ ss) n t = allBehind ss (behind s n t .end) (behind s n t .text)
+
+-- what the system refused, by the program's name and its own
+abbrev pub faulty : List ℕ → List ℕ → List (List ℕ)
+faulty program name = program ∷ ascii ": " ∷ name ∷ []
 
 -- k pieces of 23 octets of a log from a place on
 unfoldable pub pieces : ℕ → ℕ → List ℕ → List (List ℕ)

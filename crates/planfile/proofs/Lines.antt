@@ -1,43 +1,9 @@
--- Laws of texts put one behind the other.
-use mathlib.Core.Path.{_≡_, refl, ap, _∙_}
-use mathlib.Core.List.{List, [], _∷_, _++_}
-use Prim.Native.Nat.{ℕ, _≤_}
-use lib.ListN.{length}
-use Rattle.lines.specs.Paper.{Left, behind}
-use Rattle.planfile.specs.Refused.{allBehind, numbered}
-use Rattle.planfile.proofs.Ends.{ends-inside, length-behind}
+-- A number's other name, in the line of a refusal.
+use mathlib.Core.Path.{_≡_, ap, _∙_}
+use mathlib.Core.List.{List}
+use Prim.Native.Nat.{ℕ}
+use Rattle.lines.specs.Paper.{Left, allBehind}
+use Rattle.planfile.specs.Refused.{numbered}
 
--- one text, and others behind it
-pub and-then : (s : List ℕ) (ss : List (List ℕ)) (n : ℕ) (t : List ℕ) (one left : Left) → one ≡ behind s n t → left ≡ allBehind ss (one .end) (one .text)
-    → left ≡ allBehind (s ∷ ss) n t
-unfolding allBehind
-and-then s ss n t one left e h = h ∙ ap (λ (x : Left). allBehind ss (x .end) (x .text)) e
-
--- one text alone
-pub and-last : (s : List ℕ) (n : ℕ) (t : List ℕ) (left : Left) → left ≡ behind s n t → left ≡ allBehind (s ∷ []) n t
-unfolding allBehind
-and-last s n t left e = e
-
--- some texts, and others behind them
-pub and-others : (rs ss : List (List ℕ)) (n : ℕ) (t : List ℕ) (some left : Left) → some ≡ allBehind rs n t → left ≡ allBehind ss (some .end) (some .text)
-    → left ≡ allBehind (rs ++ ss) n t
-unfolding allBehind
-and-others [] ss n t some left e h = h ∙ ap (λ (x : Left). allBehind ss (x .end) (x .text)) e
-and-others (r ∷ rs) ss n t some left e h = and-others rs ss (behind r n t .end) (behind r n t .text) some left e h
-
--- they end within the memory
-pub all-inside : (ss : List (List ℕ)) (n : ℕ) (t : List ℕ) → n ≤ length t → allBehind ss n t .end ≤ length t
-unfolding allBehind
-all-inside [] n t h = h
-all-inside (s ∷ ss) n t h =
-    let same = length-behind s n t in
-    rw (← same) (all-inside ss (behind s n t .end) (behind s n t .text) (rw same (ends-inside s n t (behind s n t) h refl)))
-
-pub ends-all : (ss : List (List ℕ)) (n : ℕ) (t : List ℕ) (left : Left) → n ≤ length t → left ≡ allBehind ss n t → left .end ≤ length t
-ends-all ss n t left h e =
-    let end : left .end ≡ allBehind ss n t .end = ap (λ (x : Left). x .end) e in
-    rw end (all-inside ss n t h)
-
--- a number by its other name
 pub renumbered : (k m n : ℕ) (t : List ℕ) (left : Left) → k ≡ m → left ≡ allBehind (numbered k) n t → left ≡ allBehind (numbered m) n t
 renumbered k m n t left same e = e ∙ ap (λ (j : ℕ). allBehind (numbered j) n t) same

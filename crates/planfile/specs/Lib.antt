@@ -1,4 +1,3 @@
 -- What `planfile` defines.
-pub mod Filled
 pub mod Refused
 pub mod Taken

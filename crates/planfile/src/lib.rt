@@ -1,50 +1,25 @@
 // Plan files that a program's arguments name. What is wrong with one is said in a line on standard error.
 ghost use mathlib.Core.Path.{_≡_};
-ghost use Prim.Native.Nat.{_≤_};
-ghost use lib.ListN.{length};
 ghost use Rattle.answer.specs.Number.{numberOf};
+ghost use Rattle.lines.specs.Paper.{allBehind};
 ghost use Rattle.plan.specs.Paper.{planNumber};
 ghost use Rattle.plan.specs.Coded.{planOf};
-ghost use Rattle.planfile.specs.Filled.{filled};
-ghost use Rattle.planfile.specs.Refused.{allBehind, numbered, refused};
+ghost use Rattle.planfile.specs.Refused.{numbered, refused, beginRefused};
 ghost use Rattle.planfile.specs.Taken.{takenOf, taken, untaken};
 use answer::Refusal;
 use libc::STDERR_FILENO;
+use lines::Filled;
+use lines::Opened;
 use plan::Plan;
 use plan::Verdict;
 
 // Room for the line of a refusal.
 pub const LINE: usize = 200;
 
-// What reading a file gave: so many octets before its end or that of the memory, or a fault.
-pub enum Filled {
-    Octets(usize),
-    Fault,
-}
-
 // A plan, and whether its file could be read and was not refused; the plan is empty otherwise.
 pub struct Taken {
     pub good: bool,
     pub plan: Plan,
-}
-
-// Fills memory from a file.
-pub fn fill(fd: i32, memory: &mut [u8]) -> Filled
-    ensures { λ r. ⌜ filled r ≤ length (now (memory .entry)) ⌝ }
-{
-    let mut have = 0;
-    while have < memory.len() {
-        let got = libc::read(fd, &mut memory[have..]);
-        if got < 0 {
-            return Filled::Fault;
-        }
-        let more = io::count(got, &memory[have..]);
-        if more == 0 {
-            return Filled::Octets(have);
-        }
-        have += more;
-    }
-    Filled::Octets(have)
 }
 
 // Puts a line on a refusal: a program, the number, what it is about, and the words. Answers where it ends; a part that does not fit is left out.
@@ -71,6 +46,28 @@ pub fn say_refused(program: &[u8], about: &[u8], refusal: Refusal, text: &mut [u
     ensures { λ r. ⌜ record { end = r; text = now (text .exit) } ≡ allBehind (refused (now (program .entry)) (now (about .entry)) (numberOf refusal)) 0 (now (text .entry)) ⌝ }
 {
     let end = put_refused(program, about, refusal, text, 0);
+    io::write_all(STDERR_FILENO, &text[..end]);
+    end
+}
+
+// Puts a line on a Begin that is none of the current plan's slots: a program, the number, Begin as it was given, and how many slots there are.
+fn put_begin(program: &[u8], begin: &[u8], count: usize, text: &mut [u8], at: usize) -> usize
+    ensures { λ r. ⌜ record { end = r; text = now (text .exit) } ≡ allBehind (beginRefused (now (program .entry)) (now (begin .entry)) count) at (now (text .entry)) ⌝ }
+{
+    let named = lines::put(program, text, at);
+    let numbered = put_number(21, text, named);
+    let led = lines::put(b"Begin ", text, numbered);
+    let given = lines::put(begin, text, led);
+    let limited = lines::put(b" is not 1 to ", text, given);
+    let counted = lines::put_number(count as u64, text, limited);
+    lines::put(b", the slots of the current plan\n", text, counted)
+}
+
+// Says on standard error that a Begin is none of the current plan's slots, in a line that is made in lent memory. Answers the line's length.
+pub fn say_begin(program: &[u8], begin: &[u8], count: usize, text: &mut [u8]) -> usize
+    ensures { λ r. ⌜ record { end = r; text = now (text .exit) } ≡ allBehind (beginRefused (now (program .entry)) (now (begin .entry)) count) 0 (now (text .entry)) ⌝ }
+{
+    let end = put_begin(program, begin, count, text, 0);
     io::write_all(STDERR_FILENO, &text[..end]);
     end
 }
@@ -106,11 +103,12 @@ fn take_open(program: &[u8], about: &[u8], fd: i32, path: &[u8]) -> Taken
     ensures { λ r. ⌜ planNumber (planOf (r .plan)) ≡ 0 ⌝ }
 {
     let mut file = [0u8; 295];
-    let got = fill(fd, &mut file);
+    let got = lines::fill(fd, &mut file);
     match got {
         Filled::Octets(count) => take_octets(program, about, &file[..count]),
-        Filled::Fault => {
-            os::fail(path);
+        Filled::Fault(_) => {
+            let mut line = [0u8; lines::NAMES];
+            lines::say_fault(program, path, &mut line);
             none_taken()
         }
     }
@@ -121,17 +119,13 @@ pub fn take(program: &[u8], about: &[u8], i: usize) -> Taken
     ensures { λ r. ⌜ planNumber (planOf (r .plan)) ≡ 0 ⌝ }
 {
     let mut path = io::buffer();
-    let length = os::arg(i, &mut path);
-    if os::errno() != 0 {
-        os::fail(program);
-        return none_taken();
+    let opened = lines::open_named(program, i, &mut path);
+    match opened {
+        Opened::File(fd, length) => {
+            let taken = take_open(program, about, fd, &path[..length]);
+            libc::close(fd);
+            taken
+        }
+        Opened::Nothing => none_taken(),
     }
-    let fd = os::open_read(&path[..length]);
-    if fd < 0 {
-        os::fail(&path[..length]);
-        return none_taken();
-    }
-    let taken = take_open(program, about, fd, &path[..length]);
-    libc::close(fd);
-    taken
 }

@@ -9,7 +9,8 @@ use lib.ListN.{length}
 use lib.Dec.{eqb, leb, ltb}
 use borrow.Author.Tests.{leb-true}
 use Rattle.laws.proofs.Tests.{both}
-use Rattle.words.specs.Words.{ascii, find, words, ofIntake, ofText, ofLength, ofSchedule, ofPlan, ofSlot}
+use Rattle.lines.specs.Paper.{ascii}
+use Rattle.words.specs.Words.{find, words, ofIntake, ofText, ofLength, ofSchedule, ofPlan, ofSlot}
 
 -- every entry of a table is short
 unfoldable short : List (ℕ × String) → Bool

@@ -2,9 +2,9 @@
 use mathlib.Core.Bool.{cond}
 use mathlib.Core.List.{List, [], _∷_}
 use Prim.Native.Nat.{ℕ}
-use Prim.Native.Char.{code}
-use Prim.Native.String.{String, [] as none, _∷_ as _before_}
+use Prim.Native.String.{String}
 use lib.Dec.{eqb, ltb}
+use Rattle.lines.specs.Paper.{ascii}
 
 -- 01 Numbers given, 2 to 8: pieces and the intake's state
 abbrev pub ofIntake : List (ℕ × String)
@@ -64,11 +64,6 @@ ofSlot =
     ∷ (41, "the slot is not 1 to 48")
     ∷ (42, "over 64 identifiers are wanted")
     ∷ []
-
--- the code points of a text's characters
-unfoldable pub ascii : String → List ℕ
-ascii none = []
-ascii (c before s) = code c ∷ ascii s
 
 -- the words of a number in a table; none where it is not there
 unfoldable pub find : List (ℕ × String) → ℕ → List ℕ

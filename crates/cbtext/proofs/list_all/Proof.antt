@@ -1,59 +1,98 @@
--- `cbtext::list_all` is safe and ends. The invariant: the buffers keep their lengths, and the number is that of a chunk's first block.
-use mathlib.Core.Path.{_≡_}
+-- `cbtext::list_all` meets its contract. The invariant: state, number and text are those that the log so far leaves.
+use mathlib.Core.Path.{_≡_, sym, ap, _∙_}
 use Prim.Native.Nat.{_-_}
-use lib.ListN.{length}
+use native.Mathlib.Omega.{arith}
+use lib.ListN.{length, take, length-take}
+use lib.Seq.{length-take-le}
 use borrow.Author.Needs.{needs}
+use borrow.Author.Tests.{not-false}
+use Rattle.lines.proofs.Read.{long-chunk, goes-on}
+use Rattle.lines.proofs.Turns.{Going, going-start, turn-told, turn-going}
+use Rattle.cbtext.specs.Listing.{lineOf}
 use Rattle.cbtext.proofs.list_all.Statement.{statement}
 use Rattle.cbtext.proofs.list_all.Tie as tie
 
 abbrev Inv-loop : tie.InvT-loop
-Inv-loop state₀ log₀ out₀ page₀ number₀ state log out page number =
-    (length state ≡ 90) × (length log ≡ 65536) × (length out ≡ 366592) × (length page ≡ 88)
+Inv-loop program name fd state₀ out₀ log₀ page₀ number₀ end₀ state out log page number end =
+    Going lineOf state out number end × (length state ≡ 90) × (length log ≡ 23552) × (length out ≡ 366592) × (length page ≡ 88)
 
 abbrev μ-loop : tie.MeasureT-loop
-μ-loop state₀ log₀ out₀ page₀ number₀ state log out page number = 1000000000000000000 - number
-
-large-buffer-requires : tie.Need-large-buffer-requires Inv-loop μ-loop
-large-buffer-requires c κs = search needs
-
-lines-buffer-requires : tie.Need-lines-buffer-requires Inv-loop μ-loop
-lines-buffer-requires c κs = search needs
+μ-loop program name fd state₀ out₀ log₀ page₀ number₀ end₀ state out log page number end = 1000000000000000000 - number
 
 loop-holds : tie.Need-loop-holds Inv-loop μ-loop
-loop-holds c = search needs
+loop-holds c =
+    let s = c .before .before .before .before in
+    let a = s .args in
+    (going-start lineOf (a .state .now) (a .out .now) (s .pre .0), ap length (s .pre .0), search needs, s .pre .1, search needs)
 
-slice-aggregate-list-some : tie.Need-slice-aggregate-list-some Inv-loop μ-loop
-slice-aggregate-list-some c = search needs
+array-share-prefix-log : tie.Need-array-share-prefix-log Inv-loop μ-loop
+array-share-prefix-log c = let r = c .before .read-chunk .ensures in omega (arith, r .few, r .size)
 
-slice-aggregate-list-some-2 : tie.Need-slice-aggregate-list-some-2 Inv-loop μ-loop
-slice-aggregate-list-some-2 c = search needs
+slice-aggregate-list : tie.Need-slice-aggregate-list Inv-loop μ-loop
+slice-aggregate-list c = sym (length-take-le _ _ (array-share-prefix-log (c .before)))
 
-slice-aggregate-list-some-3 : tie.Need-slice-aggregate-list-some-3 Inv-loop μ-loop
-slice-aggregate-list-some-3 c = search needs
+list-requires : tie.Need-list-requires Inv-loop μ-loop
+list-requires c κs =
+    let r = c .before .before .before .before in
+    let l = r .before .before .before .loop in
+    (l .inv .1, l .inv .4, simp length-take (omega (arith, r .read-chunk .ensures .few)), l .inv .3, r .before .before .loop-test .taken)
 
-list-some-requires : tie.Need-list-some-requires Inv-loop μ-loop
-list-some-requires c κs = search needs
+slice-reshare-prefix-write-chunk : tie.Need-slice-reshare-prefix-write-chunk Inv-loop μ-loop
+slice-reshare-prefix-write-chunk c =
+    let k = c .before .before .before .before .before in
+    let l = k .before .before .before .before .before .before .before .before .loop in
+    omega (arith, k .list .ensures .2, k .list .kept .1 .1 .1 .1 .0, l .inv .3)
 
-same-length : tie.Need-same-length Inv-loop μ-loop
-same-length c = search needs
+slice-aggregate-write-chunk : tie.Need-slice-aggregate-write-chunk Inv-loop μ-loop
+slice-aggregate-write-chunk c = sym (length-take-le _ _ (slice-reshare-prefix-write-chunk (c .before)))
 
 returns : tie.Need-returns Inv-loop μ-loop
-returns c = search needs
-
-add-number : tie.Need-add-number Inv-loop μ-loop
-add-number c = search needs
+returns c =
+    let k = c .before .before .before .before .before .before .before .before in
+    let r = k .before .before .before .before .before in
+    let l = r .before .before .before .loop in
+    turn-told lineOf (l .state) (l .out) (l .number) (l .end) (l .inv .0) (r .before .before .loop-test .taken) (take (r .read-chunk .result .octets) (r .read-chunk .last .1 .1 .1 .1 .0)) _ _ _ (k .list .ensures .0) (k .list .ensures .1)
 
 loop-less : tie.Need-loop-less Inv-loop μ-loop
-loop-less c = search needs
+loop-less c =
+    let r = c .before .before .before .before .before .before .before .before .before .before .before .before .before in
+    let l = r .before .before .before .loop in
+    let on = c .before .write-chunk .ensures .0 (not-false _ (c .if1 .left)) in
+    let higher = goes-on (l .number) _ (r .read-chunk .result) (r .read-chunk .ensures) on (r .before .before .loop-test .taken) in
+    omega arith
 
 loop-again : tie.Need-loop-again Inv-loop μ-loop
-loop-again c = search needs
+loop-again c =
+    let k = c .before .before .before .before .before .before .before .before in
+    let r = k .before .before .before .before .before in
+    let l = r .before .before .before .loop in
+    let on = c .before .write-chunk .ensures .0 (not-false _ (c .if1 .left)) in
+    let read = r .read-chunk .ensures in (
+      turn-going lineOf (l .state) (l .out) (l .number) (l .end) (l .inv .0) (r .before .before .loop-test .taken) (take (r .read-chunk .result .octets) (r .read-chunk .last .1 .1 .1 .1 .0)) _ _ _ (k .list .ensures .0) (k .list .ensures .1)
+          (long-chunk (l .number) _ (r .read-chunk .result) read on) _ (read .next),
+      k .list .kept .0 ∙ l .inv .1,
+      read .size,
+      k .list .kept .1 .1 .1 .1 .0 ∙ l .inv .3,
+      k .list .kept .1 .1 .1 .0 ∙ l .inv .4,
+    )
+
+same-length : tie.Need-same-length Inv-loop μ-loop
+same-length c =
+    let k = c .before .before .before .before .before .before .before .before in
+    let l = k .before .before .before .before .before .before .before .before in
+    k .list .kept .0 ∙ l .loop .inv .1 ∙ sym (ap length (l .before .before .before .before .before .pre .0))
 
 same-length-2 : tie.Need-same-length-2 Inv-loop μ-loop
 same-length-2 c = search needs
 
+same-length-3 : tie.Need-same-length-3 Inv-loop μ-loop
+same-length-3 c = c .before .loop .inv .1 ∙ sym (ap length (c .before .before .before .before .before .before .pre .0))
+
+same-length-4 : tie.Need-same-length-4 Inv-loop μ-loop
+same-length-4 c = search needs
+
 returns-2 : tie.Need-returns-2 Inv-loop μ-loop
-returns-2 c = search needs
+returns-2 c = c .before .loop .inv .0 .told
 
 pub list-all-spec : {M : Type 1} → statement M
 list-all-spec =
@@ -61,17 +100,20 @@ list-all-spec =
     (tie.spec
     Inv-loop
     μ-loop
-    large-buffer-requires
-    lines-buffer-requires
     loop-holds
-    slice-aggregate-list-some
-    slice-aggregate-list-some-2
-    slice-aggregate-list-some-3
-    list-some-requires
+    (λ c κs. search needs)
+    array-share-prefix-log
+    slice-aggregate-list
+    (λ c. search needs)
+    list-requires
+    slice-reshare-prefix-write-chunk
+    slice-aggregate-write-chunk
+    (λ c κs. search needs)
     same-length
+    same-length-2
     returns
-    add-number
     loop-less
     loop-again
-    same-length-2
+    same-length-3
+    same-length-4
     returns-2)

@@ -1,7 +1,7 @@
 -- `planfile::put_number` meets its contract: three texts, one behind the other.
 use borrow.Author.Needs.{needs}
-use Rattle.words.specs.Words.{ascii}
-use Rattle.planfile.proofs.Lines.{and-then, and-last}
+use Rattle.lines.specs.Paper.{ascii}
+use Rattle.lines.proofs.Texts.{and-then, and-last}
 use Rattle.planfile.proofs.put_number.Statement.{statement}
 use Rattle.planfile.proofs.put_number.Tie as tie
 

@@ -1,9 +1,10 @@
 -- `planfile::put_refused` meets its contract: the parts of the line, one behind the other.
 use borrow.Author.Needs.{needs}
 use Rattle.answer.specs.Number.{numberOf}
-use Rattle.words.specs.Words.{ascii}
+use Rattle.lines.specs.Paper.{ascii}
 use Rattle.planfile.specs.Refused.{numbered}
-use Rattle.planfile.proofs.Lines.{and-then, and-last, and-others, renumbered}
+use Rattle.lines.proofs.Texts.{and-then, and-last, and-others}
+use Rattle.planfile.proofs.Lines.{renumbered}
 use Rattle.planfile.proofs.put_refused.Statement.{statement}
 use Rattle.planfile.proofs.put_refused.Tie as tie
 

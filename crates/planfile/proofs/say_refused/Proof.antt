@@ -5,7 +5,7 @@ use native.Mathlib.Omega.{arith}
 use lib.ListN.{length}
 use lib.Seq.{length-take-le}
 use borrow.Author.Needs.{needs}
-use Rattle.planfile.proofs.Lines.{ends-all}
+use Rattle.lines.proofs.Texts.{ends-all}
 use Rattle.planfile.proofs.say_refused.Statement.{statement}
 use Rattle.planfile.proofs.say_refused.Tie as tie
 

@@ -5,7 +5,7 @@ use native.Mathlib.Omega.{arith}
 use lib.ListN.{length, replicate, length-replicate}
 use lib.Seq.{length-take-le}
 use borrow.Author.Needs.{needs}
-use Rattle.planfile.specs.Filled.{filled}
+use Rattle.lines.specs.Chunk.{filled}
 use Rattle.planfile.specs.Taken.{takenOf}
 use Rattle.planfile.proofs.Good.{untaken-good, taken-good}
 use Rattle.planfile.proofs.take_open.Statement.{statement}
@@ -37,6 +37,7 @@ take-open-spec =
     array-share-prefix-file
     slice-aggregate-take-octets
     (λ c κs. search needs)
+    (λ c. search needs)
     (λ c. search needs)
     (λ c κs. search needs)
     (λ c κs. search needs)

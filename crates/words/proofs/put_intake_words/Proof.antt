@@ -1,7 +1,8 @@
 -- `words::put_intake_words` meets its contract: each arm knows its number, and `find` computes there.
 use mathlib.Core.Path.{refl}
 use borrow.Author.Needs.{needs}
-use Rattle.words.specs.Words.{ascii, find, ofIntake}
+use Rattle.lines.specs.Paper.{ascii}
+use Rattle.words.specs.Words.{find, ofIntake}
 use Rattle.words.proofs.Table.{says, says-none}
 use Rattle.words.proofs.put_intake_words.Statement.{statement}
 use Rattle.words.proofs.put_intake_words.Tie as tie

@@ -1,7 +1,8 @@
 -- `words::put_length_words` meets its contract: each arm knows its number, and `find` computes there.
 use mathlib.Core.Path.{refl}
 use borrow.Author.Needs.{needs}
-use Rattle.words.specs.Words.{ascii, find, ofLength}
+use Rattle.lines.specs.Paper.{ascii}
+use Rattle.words.specs.Words.{find, ofLength}
 use Rattle.words.proofs.Table.{says, says-none}
 use Rattle.words.proofs.put_length_words.Statement.{statement}
 use Rattle.words.proofs.put_length_words.Tie as tie

@@ -1,7 +1,8 @@
 -- `words::put_slot_words` meets its contract: each arm knows its number, and `find` computes there.
 use mathlib.Core.Path.{refl}
 use borrow.Author.Needs.{needs}
-use Rattle.words.specs.Words.{ascii, find, ofSlot}
+use Rattle.lines.specs.Paper.{ascii}
+use Rattle.words.specs.Words.{find, ofSlot}
 use Rattle.words.proofs.Table.{says, says-none}
 use Rattle.words.proofs.put_slot_words.Statement.{statement}
 use Rattle.words.proofs.put_slot_words.Tie as tie

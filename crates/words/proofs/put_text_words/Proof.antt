@@ -1,7 +1,8 @@
 -- `words::put_text_words` meets its contract: each arm knows its number, and `find` computes there.
 use mathlib.Core.Path.{refl}
 use borrow.Author.Needs.{needs}
-use Rattle.words.specs.Words.{ascii, find, ofText}
+use Rattle.lines.specs.Paper.{ascii}
+use Rattle.words.specs.Words.{find, ofText}
 use Rattle.words.proofs.Table.{says, says-none}
 use Rattle.words.proofs.put_text_words.Statement.{statement}
 use Rattle.words.proofs.put_text_words.Tie as tie

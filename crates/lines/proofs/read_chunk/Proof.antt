@@ -1,0 +1,25 @@
+-- `lines::read_chunk` meets its contract: the chunk is made of what filling gave.
+use mathlib.Core.Path.{_≡_, _∙_}
+use native.Mathlib.Omega.{arith}
+use lib.ListN.{length}
+use borrow.Author.Needs.{needs}
+use Rattle.lines.proofs.Read.{chunk-reads}
+use Rattle.lines.proofs.read_chunk.Statement.{statement}
+use Rattle.lines.proofs.read_chunk.Tie as tie
+
+returns : tie.Need-returns
+returns c =
+    let f = c .before .before .before .before .fill in
+    let size : length (c .before .before .before .before .before .before .before .before .args .log .now) ≡ 23552 = search needs in
+    chunk-reads (f .result) _ _ _ (f .kept .1 .0 ∙ size) (omega (arith, f .ensures)) (c .chunk-of .ensures)
+
+pub read-chunk-spec : {M : Type 1} → statement M
+read-chunk-spec =
+    tie.close
+    (tie.spec
+    (λ c κs. search needs)
+    (λ c. search needs)
+    (λ c κs. search needs)
+    (λ c. search needs)
+    (λ c κs. search needs)
+    returns)

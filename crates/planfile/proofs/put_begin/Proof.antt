@@ -1,0 +1,42 @@
+-- `planfile::put_begin` meets its contract: the parts of the line, one behind the other.
+use borrow.Author.Needs.{needs}
+use Rattle.lines.specs.Paper.{ascii}
+use Rattle.lines.proofs.Texts.{and-then, and-last, and-others}
+use Rattle.planfile.specs.Refused.{numbered}
+use Rattle.planfile.proofs.put_begin.Statement.{statement}
+use Rattle.planfile.proofs.put_begin.Tie as tie
+
+returns : tie.Need-returns
+unfolding ascii
+returns c =
+    let end = c .before .before in
+    let counted = end .before .before .before .before .before in
+    let limited = counted .before .before .before .before in
+    let given = limited .before .before .before .before .before in
+    let led = given .before .before .before .before in
+    let number = led .before .before .before .before .before in
+    let named = number .before .before .before .before in
+    and-then _ _ _ _ _ _ (named .put .ensures)
+    (and-others (numbered 21) _ _ _ _ _ (number .put-number .ensures)
+    (and-then _ _ _ _ _ _ (led .put2 .ensures)
+    (and-then _ _ _ _ _ _ (given .put3 .ensures)
+    (and-then _ _ _ _ _ _ (limited .put4 .ensures)
+    (and-then _ _ _ _ _ _ (counted .put-number2 .ensures)
+    (and-last _ _ _ _ (end .put5 .ensures)))))))
+
+pub put-begin-spec : {M : Type 1} → statement M
+put-begin-spec =
+    tie.close
+    (tie.spec
+    (λ c κs. search needs)
+    (λ c κs. search needs)
+    (λ c. search needs)
+    (λ c κs. search needs)
+    (λ c κs. search needs)
+    (λ c. search needs)
+    (λ c κs. search needs)
+    (λ c κs. search needs)
+    (λ c. search needs)
+    (λ c κs. search needs)
+    (λ c. search needs)
+    returns)
