@@ -1,4 +1,4 @@
-/* Schedules beside plans in C without proofs: what cb_write_schedule, cb_check_schedule and cb_decide are measured
+/* Schedules beside plans in C without proofs: what cb_write_schedule, cb_check_schedule, cb_decide and cb_enter are measured
  * beside. */
 #include "plain_plan.h"
 
@@ -110,7 +110,7 @@ static bool is_true(const uint8_t *page, unsigned slot, unsigned lowest, bool be
 uint32_t plain_check_schedule(const uint8_t *current, size_t current_len, const uint8_t *previous, size_t previous_len,
                               const uint8_t *message, size_t message_len, size_t received)
 {
-    struct plain_slots table;
+    struct plain_table table;
     uint32_t number = read_plans(current, current_len, previous, previous_len);
 
     if (number % 256 != 0)
@@ -134,7 +134,7 @@ uint32_t plain_check_schedule(const uint8_t *current, size_t current_len, const 
 uint32_t plain_decide(bool known, const uint8_t *message, size_t message_len, size_t received, size_t slot,
                       const uint16_t *wanted, size_t wanted_len, uint64_t held)
 {
-    struct plain_slots table;
+    struct plain_table table;
 
     if (slot < 1 || slot > SLOTS)
         return 41;
@@ -156,4 +156,16 @@ uint32_t plain_decide(bool known, const uint8_t *message, size_t message_len, si
         if ((wanted[i] | FIRST) == code)
             return 256;
     return 0;
+}
+
+uint64_t plain_enter(bool known, const uint8_t *message, size_t message_len, size_t received, size_t slot, uint64_t held)
+{
+    struct plain_table table;
+
+    if (slot < 1 || slot > SLOTS)
+        return held;
+    if (known && plain_read_slots(message, message_len, received, &table) == 0 && slot <= table.end &&
+        table.code[slot - 1] < REPEATS)
+        slot = table.code[slot - 1];
+    return held | (uint64_t)1 << (slot - 1);
 }

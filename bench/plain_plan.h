@@ -1,4 +1,5 @@
-/* The schedule writer, the checker and the decision in plain C, with the interface and the answers of csobvarit.h. */
+/* The schedule writer, the checker, the decision and the held set in plain C, with the interface and the answers of
+ * csobvarit.h. */
 #ifndef PLAIN_PLAN_H
 #define PLAIN_PLAN_H
 
@@ -12,5 +13,6 @@ uint32_t plain_check_schedule(const uint8_t *current, size_t current_len, const 
                               const uint8_t *message, size_t message_len, size_t received);
 uint32_t plain_decide(bool known, const uint8_t *message, size_t message_len, size_t received, size_t slot,
                       const uint16_t *wanted, size_t wanted_len, uint64_t held);
+uint64_t plain_enter(bool known, const uint8_t *message, size_t message_len, size_t received, size_t slot, uint64_t held);
 
 #endif

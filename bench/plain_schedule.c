@@ -1,4 +1,5 @@
-/* A schedule message as it is read in C without proofs: what cb_read_schedule and cb_description are measured beside. */
+/* A schedule message as it is read in C without proofs: what cb_read_schedule, cb_slots and cb_description are measured
+ * beside. */
 #include "plain_schedule.h"
 
 enum { MESSAGE = 88, SLOTS = 48, HEADER = 8, FIRST = 0x8000, REPEATS = 0x40, OPTIONAL = 0x40, ADVISED = 0x41 };
@@ -9,7 +10,7 @@ static bool is_new(const uint8_t *message, unsigned slot)
 }
 
 /* Reads the descriptions of one group of slots, and moves the place and the number of descriptions on. */
-static bool read_group(const uint8_t *message, size_t received, bool new, struct plain_slots *table,
+static bool read_group(const uint8_t *message, size_t received, bool new, struct plain_table *table,
                        size_t *at, unsigned *given)
 {
     for (unsigned slot = 0; slot < table->end; slot++) {
@@ -32,7 +33,7 @@ static bool read_group(const uint8_t *message, size_t received, bool new, struct
     return true;
 }
 
-static bool has_false_repeat(const struct plain_slots *table)
+static bool has_false_repeat(const struct plain_table *table)
 {
     for (unsigned slot = 0; slot < table->end; slot++) {
         unsigned code = table->code[slot];
@@ -42,7 +43,7 @@ static bool has_false_repeat(const struct plain_slots *table)
     return false;
 }
 
-unsigned plain_read_slots(const uint8_t *message, size_t message_len, size_t received, struct plain_slots *table)
+unsigned plain_read_slots(const uint8_t *message, size_t message_len, size_t received, struct plain_table *table)
 {
     size_t at = HEADER;
     unsigned given = 0;
@@ -69,7 +70,7 @@ unsigned plain_read_slots(const uint8_t *message, size_t message_len, size_t rec
 
 uint32_t plain_read_schedule(const uint8_t *message, size_t message_len, size_t received)
 {
-    struct plain_slots table;
+    struct plain_table table;
     unsigned number = plain_read_slots(message, message_len, received, &table);
 
     if (number != 0)
@@ -77,9 +78,23 @@ uint32_t plain_read_schedule(const uint8_t *message, size_t message_len, size_t 
     return table.begin << 8 | table.end << 16;
 }
 
+uint32_t plain_slots(const uint8_t *message, size_t message_len, size_t received, uint32_t *slots, size_t slots_len)
+{
+    struct plain_table table;
+
+    if (slots_len != SLOTS)
+        return 15;
+    unsigned number = plain_read_slots(message, message_len, received, &table);
+    if (number != 0)
+        return number;
+    for (unsigned slot = 0; slot < SLOTS; slot++)
+        slots[slot] = slot < table.end ? table.code[slot] | (uint32_t)table.new[slot] << 16 : 0;
+    return table.begin << 8 | table.end << 16;
+}
+
 uint64_t plain_description(const uint8_t *message, size_t message_len, size_t received, size_t place)
 {
-    struct plain_slots table;
+    struct plain_table table;
     unsigned number = plain_read_slots(message, message_len, received, &table);
 
     if (number != 0)

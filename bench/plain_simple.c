@@ -1,5 +1,5 @@
-/* Blocks written and plan files read in C without proofs: what cb_write_blocks, cb_read_plan and cb_content are measured
- * beside. */
+/* Blocks written, plan files and headers read in C without proofs: what cb_write_blocks, cb_read_plan, cb_content and
+ * cb_read_header are measured beside. */
 #include "plain_simple.h"
 
 #include <string.h>
@@ -14,6 +14,14 @@ uint32_t plain_content(const uint8_t *page, size_t page_len, size_t received)
     if (received != 22 && received != 44 && received != 66 && received != 88)
         return 18;
     return 0;
+}
+
+uint64_t plain_read_header(const uint8_t *page, size_t page_len)
+{
+    if (page_len != MESSAGE)
+        return 16;
+    uint64_t serial = (uint64_t)page[0] << 8 | page[1], identifier = (uint64_t)page[2] << 8 | page[3];
+    return (uint64_t)page[4] << 8 | serial << 16 | identifier << 32 | (uint64_t)page[5] << 48;
 }
 
 uint32_t plain_write_blocks(const uint8_t *message, size_t message_len, bool schedule, size_t used,

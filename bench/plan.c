@@ -1,8 +1,9 @@
 /*
- * cb_write_schedule, cb_check_schedule and cb_decide beside plain C: a program of measure.h. Lengths are slots of a plan.
+ * cb_write_schedule, cb_check_schedule, cb_decide and cb_enter beside plain C: a program of measure.h. Lengths are slots of
+ * a plan.
  *
  * What is timed are the plans of plans.h, the messages that are written from these, and decisions for a slot with a repeat
- * that isn't held, of a page that is the last of 64 wanted ones.
+ * that isn't held, of a page that is the last of 64 wanted ones, and the entering of that page.
  */
 #include <string.h>
 
@@ -14,7 +15,7 @@
 
 enum { CALLS = 200000, INPUTS = 512, WANTED = 64 };
 enum { PLAN_ROOM = CB_PLAN + 18, ROOM = 112, WANTED_ROOM = WANTED + 4 };
-enum call { WRITE_SCHEDULE, CHECK_SCHEDULE, DECIDE };
+enum call { WRITE_SCHEDULE, CHECK_SCHEDULE, DECIDE, ENTER };
 
 static unsigned slots;
 static uint8_t currents[INPUTS][CB_PLAN], previous[INPUTS][CB_PLAN], messages[INPUTS][CB_OUTPUT];
@@ -80,6 +81,8 @@ static void check_decision(uint64_t *row, int at, const uint8_t *message, size_t
     if (a != plain_decide(known, message, length, received, slot, list, count, held))
         differ("plan", "decision", at);
     seen[CB_NUMBER(a)]++;
+    if (cb_enter(known, message, length, received, slot, held) != plain_enter(known, message, length, received, slot, held))
+        differ("plan", "entering", at);
 }
 
 static void check_call(uint64_t *row, int at, unsigned long *seen)
@@ -121,7 +124,7 @@ static long check(unsigned long *seen)
 
     for (int i = 0; i < CALLS; i++)
         check_call(&row, i, seen);
-    return 3 * CALLS;
+    return 4 * CALLS;
 }
 
 static void prepare(size_t length, bool by_rattle)
@@ -138,6 +141,15 @@ static void prepare(size_t length, bool by_rattle)
         const uint8_t *last = currents[i] + file_length(slots - 1);
         wanted[i][WANTED - 1] = (uint16_t)(last[3] << 8 | last[4]);
     }
+}
+
+/* The page of the same slot entered. */
+static void run_enter(bool rattle, int i)
+{
+    uint64_t held = (rattle ? cb_enter : plain_enter)(true, messages[i], CB_OUTPUT, CB_OUTPUT, slots, 0);
+
+    if (held == 0)
+        differ("plan", "timed input", i);
 }
 
 static uint32_t run_call(enum call call, bool rattle, int i)
@@ -157,6 +169,10 @@ static uint32_t run_call(enum call call, bool rattle, int i)
 static void pass(int call, bool rattle)
 {
     for (int i = 0; i < INPUTS; i++) {
+        if (call == ENTER) {
+            run_enter(rattle, i);
+            continue;
+        }
         uint32_t returned = run_call(call, rattle, i);
         if (CB_NUMBER(returned) != 0 || (call == DECIDE && CB_COUNT(returned) != 1))
             differ("plan", "timed input", i);
@@ -166,7 +182,7 @@ static void pass(int call, bool rattle)
 int main(int argc, char **argv)
 {
     static const char *const calls[] = {
-        [WRITE_SCHEDULE] = "write_schedule", [CHECK_SCHEDULE] = "check_schedule", [DECIDE] = "decide", NULL,
+        [WRITE_SCHEDULE] = "write_schedule", [CHECK_SCHEDULE] = "check_schedule", [DECIDE] = "decide", [ENTER] = "enter", NULL,
     };
     static const uint8_t answers[] = {0, 15, 16, 18, 20, 21, 22, 23, 24, 30, 31, 32, 33, 34, 35, 40, 41, 42};
     static const struct subject subject = {

@@ -1,8 +1,8 @@
 /*
- * cb_read_schedule and cb_description beside plain C: a program of measure.h. Lengths are slots of a message.
+ * cb_read_schedule, cb_slots and cb_description beside plain C: a program of measure.h. Lengths are slots of a message.
  *
- * All 88 octets of a message are received. cb_read_schedule reads every slot of it on its way to Begin and End;
- * cb_description does that too, and then gives one slot.
+ * All 88 octets of a message are received. cb_read_schedule reads every slot of it on its way to Begin and End; cb_slots and
+ * cb_description do that too, and then tell all slots and give one slot.
  */
 #include <stdbool.h>
 #include <string.h>
@@ -13,10 +13,11 @@
 #include "plain_schedule.h"
 
 typedef uint32_t reader(const uint8_t *, size_t, size_t);
+typedef uint32_t teller(const uint8_t *, size_t, size_t, uint32_t *, size_t);
 typedef uint64_t describer(const uint8_t *, size_t, size_t, size_t);
 
-enum { CHECKED = 1000000, MESSAGES = 4096, SLOTS = 48, ROOM = 112 };
-enum call { READ_SCHEDULE, DESCRIPTION };
+enum { CHECKED = 1000000, MESSAGES = 4096, SLOTS = 48, ROOM = 112, SLOTS_ROOM = 50 };
+enum call { READ_SCHEDULE, ALL_SLOTS, DESCRIPTION };
 
 static uint8_t messages[MESSAGES][CB_OUTPUT];
 static size_t slots;
@@ -95,6 +96,20 @@ static long check_descriptions(uint64_t *row, int at, const uint8_t *message, si
     return places;
 }
 
+static void check_slots(uint64_t *row, int at, const uint8_t *message, size_t length, size_t received, unsigned long *seen)
+{
+    uint32_t rattle[SLOTS_ROOM], plain[SLOTS_ROOM];
+    size_t room = one_in(row, 32) ? draw(row) % SLOTS_ROOM : SLOTS;
+
+    for (size_t i = 0; i < SLOTS_ROOM; i++)
+        rattle[i] = plain[i] = (uint32_t)draw(row);
+    uint32_t a = cb_slots(message, length, received, rattle, room);
+    uint32_t b = plain_slots(message, length, received, plain, room);
+    if (a != b || memcmp(rattle, plain, sizeof plain) != 0)
+        differ("schedule", "the slots of message", at);
+    seen[CB_NUMBER(a)]++;
+}
+
 /* The messages that are timed are read whole, and both give every slot of them alike. */
 static void check_timed(void)
 {
@@ -125,7 +140,8 @@ static long check(unsigned long *seen)
         uint32_t a = cb_read_schedule(message, length, received);
         if (a != plain_read_schedule(message, length, received))
             differ("schedule", "message", i);
-        calls += 1 + check_descriptions(&row, i, message, length, received);
+        check_slots(&row, i, message, length, received, seen);
+        calls += 2 + check_descriptions(&row, i, message, length, received);
         seen[CB_NUMBER(a)]++;
     }
     return calls;
@@ -144,11 +160,15 @@ static void prepare(size_t length, bool by_rattle)
 static void pass(int call, bool rattle)
 {
     reader *read = rattle ? cb_read_schedule : plain_read_schedule;
+    teller *tell = rattle ? cb_slots : plain_slots;
     describer *description = rattle ? cb_description : plain_description;
+    static uint32_t told[SLOTS];
 
     for (int i = 0; i < MESSAGES; i++) {
         if (call == READ_SCHEDULE)
             read(messages[i], CB_OUTPUT, CB_OUTPUT);
+        else if (call == ALL_SLOTS)
+            tell(messages[i], CB_OUTPUT, CB_OUTPUT, told, SLOTS);
         else
             description(messages[i], CB_OUTPUT, CB_OUTPUT, (size_t)i % slots);
     }
@@ -156,8 +176,10 @@ static void pass(int call, bool rattle)
 
 int main(int argc, char **argv)
 {
-    static const char *const calls[] = {[READ_SCHEDULE] = "read_schedule", [DESCRIPTION] = "description", NULL};
-    static const uint8_t answers[] = {0, 16, 18, 20, 21, 22, 23, 24};
+    static const char *const calls[] = {
+        [READ_SCHEDULE] = "read_schedule", [ALL_SLOTS] = "slots", [DESCRIPTION] = "description", NULL,
+    };
+    static const uint8_t answers[] = {0, 15, 16, 18, 20, 21, 22, 23, 24};
     static const struct subject subject = {
         .name = "schedule", .calls = calls, .shortest = 1, .longest = SLOTS, .inputs = MESSAGES, .rounds = 51,
         .prepare = prepare, .pass = pass, .check = check, .answers = answers, .answer_count = sizeof answers,

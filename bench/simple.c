@@ -1,5 +1,5 @@
 /*
- * cb_content, cb_write_blocks and cb_read_plan beside plain C: a program of measure.h.
+ * cb_content, cb_read_header, cb_write_blocks and cb_read_plan beside plain C: a program of measure.h.
  *
  * Lengths are slots of a plan file, two in three of them pages. A page and its blocks are always whole.
  */
@@ -12,7 +12,7 @@
 
 enum { CALLS = 1000000, INPUTS = 4096, SLOTS = 48, PLAN = 6 + 6 * SLOTS, ROOM = PLAN + 18 };
 enum { MESSAGE_ROOM = 112 };
-enum call { CONTENT, WRITE_BLOCKS, READ_PLAN };
+enum call { CONTENT, READ_HEADER, WRITE_BLOCKS, READ_PLAN };
 
 static uint8_t messages[INPUTS][CB_OUTPUT];
 static uint8_t plans[INPUTS][PLAN];
@@ -53,6 +53,8 @@ static void check_blocks(uint64_t *row, int at, unsigned long *seen)
     if (a != plain_content(message, length, received))
         differ("simple", "content", at);
     seen[a]++;
+    if (cb_read_header(message, length) != plain_read_header(message, length))
+        differ("simple", "header", at);
 }
 
 static void check_plan(uint64_t *row, int at, unsigned long *seen)
@@ -80,7 +82,7 @@ static long check(unsigned long *seen)
         check_blocks(&row, i, seen);
         check_plan(&row, i, seen);
     }
-    return 3 * CALLS;
+    return 4 * CALLS;
 }
 
 static void prepare(size_t length, bool by_rattle)
@@ -103,6 +105,8 @@ static void pass(int call, bool rattle)
     for (int i = 0; i < INPUTS; i++) {
         if (call == CONTENT)
             (rattle ? cb_content : plain_content)(messages[i], CB_OUTPUT, CB_OUTPUT);
+        else if (call == READ_HEADER)
+            (rattle ? cb_read_header : plain_read_header)(messages[i], CB_OUTPUT);
         else if (call == WRITE_BLOCKS)
             (rattle ? cb_write_blocks : plain_write_blocks)(messages[i], CB_OUTPUT, i % 2 == 0, 1 + (size_t)i % CB_OUTPUT,
                                                             out, sizeof out);
@@ -114,7 +118,8 @@ static void pass(int call, bool rattle)
 int main(int argc, char **argv)
 {
     static const char *const calls[] = {
-        [CONTENT] = "content", [WRITE_BLOCKS] = "write_blocks", [READ_PLAN] = "read_plan", NULL,
+        [CONTENT] = "content", [READ_HEADER] = "read_header", [WRITE_BLOCKS] = "write_blocks", [READ_PLAN] = "read_plan",
+        NULL,
     };
     static const uint8_t answers[] = {0, 15, 16, 17, 18, 30, 31, 32, 33};
     static const struct subject subject = {

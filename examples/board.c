@@ -1,18 +1,28 @@
-/* A board in small: takes pieces of 23 octets from standard input and prints the messages that they make. */
-#include <inttypes.h>
+/*
+ * A board: takes pieces of 23 octets from standard input and shows the pages that it reads: board [IDENTIFIER...] < PIECES
+ *
+ * The identifiers, in hex, are those that it wants. Without a schedule it reads everything; with one it decides for each slot
+ * and sleeps through what it skips. After a complete message it sleeps to the end of the slot.
+ *
+ * What is simplified: a real board knows by the channel's timing where a slot begins. Here every four pieces of the input are
+ * a slot, from the first piece on. The slot after a schedule is its Begin, and after its End there is no schedule. One with
+ * Begin 1, or where there was none, begins a period, in which nothing is held yet.
+ */
 #include <stdio.h>
+#include <stdlib.h>
+#include <string.h>
 
 #include "csobvarit.h"
 
-static void print_message(unsigned long number, uint32_t returned, const uint8_t *message)
-{
-    const char *kind = CB_ANSWER(returned) == CB_SCHEDULE ? "schedule" : "page";
+enum { SLOT_PIECES = 4 };
 
-    printf("%lu %s %" PRIu32 " ", number, kind, CB_RECEIVED(returned));
-    for (uint32_t i = 0; i < CB_RECEIVED(returned); i++)
-        printf("%02X", message[i]);
-    putchar('\n');
-}
+static uint16_t wanted[CB_MOST_WANTED];
+static size_t wanted_count;
+static bool known;                  /* whether there is a schedule */
+static uint8_t schedule[CB_OUTPUT]; /* it, and how much of it was received */
+static size_t schedule_received;
+static size_t slot, end;            /* the slot that goes on, and the last that the schedule tells of */
+static uint64_t held;               /* the slots whose pages are held */
 
 static int fail(const char *what)
 {
@@ -20,30 +30,104 @@ static int fail(const char *what)
     return 1;
 }
 
-int main(void)
+static void show_slot(uint32_t number)
 {
-    uint8_t state[CB_STATE];
-    uint8_t piece[CB_PIECE];
-    uint8_t output[CB_OUTPUT];
-    unsigned long number = 0;
-    size_t length;
+    uint32_t code = CB_SLOT_CODE(number);
+    const char *mark = CB_SLOT_NEW(number) ? " new" : "";
+
+    if (code >= CB_FIRST)
+        printf("%s %04X", mark, code - CB_FIRST);
+    else if (code == CB_ADVISED || code == CB_OPTIONAL)
+        printf("%s %s", mark, code == CB_ADVISED ? "advised" : "optional");
+    else
+        printf("%s again %u", mark, code);
+}
+
+/* Keeps a schedule that can be read, and shows what it tells; another is ignored. */
+static void take_schedule(const uint8_t *message, size_t received)
+{
+    uint32_t slots[CB_SLOTS], read = cb_slots(message, CB_OUTPUT, received, slots, CB_SLOTS);
+
+    if (CB_NUMBER(read) != 0) {
+        printf("schedule refused by %u\n", CB_NUMBER(read));
+        return;
+    }
+    if (!known || CB_BEGIN(read) == 1)
+        held = 0;
+    known = true;
+    memcpy(schedule, message, sizeof schedule);
+    schedule_received = received;
+    slot = CB_BEGIN(read) - 1;
+    end = CB_END(read);
+    printf("schedule from %u to %u:", CB_BEGIN(read), CB_END(read));
+    for (size_t i = 0; i < end; i++)
+        show_slot(slots[i]);
+    putchar('\n');
+}
+
+/* Goes on to the next slot, and decides whether to wake for it. */
+static bool wakes(void)
+{
+    known = known && ++slot <= end;
+    if (!known)
+        return true;
+    uint32_t decided = cb_decide(known, schedule, sizeof schedule, schedule_received, slot, wanted, wanted_count, held);
+    bool reads = CB_NUMBER(decided) != 0 || CB_COUNT(decided) == CB_READ; /* awake where in doubt */
+    printf("slot %zu: %s\n", slot, reads ? "read" : "skip");
+    return reads;
+}
+
+/* Shows a page, with its text or, in another alphabet, its octets, and enters it among those held. */
+static void take_page(const uint8_t *page, size_t received)
+{
+    uint16_t text[CB_TEXT];
+    uint64_t header = cb_read_header(page, CB_OUTPUT);
+    uint8_t parameter = CB_HEADER_PARAMETER(header);
+    uint32_t read = cb_read_text(page, CB_OUTPUT, received, text, CB_TEXT);
+
+    printf("page %04X %04X %u/%u ", CB_HEADER_SERIAL(header), CB_HEADER_IDENTIFIER(header), CB_PAGE_OF(parameter),
+           CB_TOTAL_OF(parameter));
+    for (uint32_t i = 0; i < CB_COUNT(read); i++)
+        printf(text[i] >= 0x20 && text[i] < 0x7F ? "%c" : "<%04X>", text[i]);
+    if (CB_NUMBER(read) == CB_SCHEME && CB_NUMBER(cb_content(page, CB_OUTPUT, received)) == 0)
+        for (size_t i = CB_HEADER; i < received; i++)
+            printf("%02X", page[i]);
+    putchar('\n');
+    if (!known)
+        return;
+    held = cb_enter(known, schedule, sizeof schedule, schedule_received, slot, held);
+    printf("held:");
+    for (unsigned i = 1; i <= CB_SLOTS; i++)
+        if (held >> (i - 1) & 1)
+            printf(" %u", i);
+    putchar('\n');
+}
+
+int main(int count, char **words)
+{
+    uint8_t state[CB_STATE], piece[CB_PIECE], output[CB_OUTPUT];
+    size_t length, pieces = 0;
+    bool awake = true;
+
+    if (count - 1 > CB_MOST_WANTED)
+        return fail("more identifiers than can be wanted");
+    for (int i = 1; i < count; i++)
+        wanted[wanted_count++] = (uint16_t)strtoul(words[i], NULL, 16);
 
     cb_start(state, sizeof state);
-    while ((length = fread(piece, 1, sizeof piece, stdin)) > 0) {
-        if (ferror(stdin))
-            break; /* the input did not end here, so this is no tail */
-        number++;
+    while ((length = fread(piece, 1, sizeof piece, stdin)) > 0 && !ferror(stdin)) {
+        if (pieces++ % SLOT_PIECES == 0)
+            awake = wakes();
+        if (!awake)
+            continue;
         uint32_t returned = cb_intake(state, sizeof state, piece, length, output, sizeof output);
-        switch (CB_ANSWER(returned)) {
-        case CB_PAGE:
-        case CB_SCHEDULE:
-            print_message(number, returned, output);
-            break;
-        case CB_TAKEN:
-            break;
-        default:
-            printf("%lu refused %" PRIu32 "\n", number, CB_ANSWER(returned));
-        }
+        if (CB_ANSWER(returned) == CB_PAGE)
+            take_page(output, CB_RECEIVED(returned));
+        else if (CB_ANSWER(returned) == CB_SCHEDULE)
+            take_schedule(output, CB_RECEIVED(returned));
+        else if (CB_ANSWER(returned) != CB_TAKEN)
+            printf("piece %zu refused by %u\n", pieces, CB_ANSWER(returned));
+        awake = CB_RECEIVED(returned) == 0;
     }
     if (ferror(stdin))
         return fail("standard input can't be read");

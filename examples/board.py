@@ -1,114 +1,95 @@
 #!/usr/bin/env python3
-"""Writes board.in and board.out: each piece below stands beside the answer that document 01 gives it.
+"""Writes board.in and board.out to a folder: the pieces of each slot below stand beside the lines that document 01 gives for
+them.
 
-The answers are written here by hand and no intake is computed, so that board.out owes nothing to the code
-that it is held against. Run it after a change to the list.
+The lines are written here by hand and nothing is taken in or decided by a program, so that board.out owes nothing to the
+code that it is held against. The board wants 0032 and 8ABC.
 """
 import pathlib
+import sys
 
-TAKEN = "taken"
+from octets import blocks, packed, page
+
+CLOSED = "Track 7 is closed from 06:00 to 09:30. Wagons for ramp 3 leave by yard B, fee £5 @ gate_2"
+CLOSED_PAGE = page(0x4A31, 0x0032, 0x11, packed(CLOSED))
+CLOSED_LINE = "page 4A31 0032 1/1 " + CLOSED.replace("£", "<00A3>")
+TIDES_PAGE = page(0x4A32, 0x8ABC, 0x12, packed("High water 10:42"))
+TIDES_LINE = "page 4A32 8ABC 1/2 High water 10:42"
+# another alphabet, in one block
+FOREIGN_PAGE = page(0x4B01, 0xF0E1, 0xFF, bytes([0x00, 0x4B, 0x00, 0xE1, 0x01, 0x51]), scheme=0x48)
+FOREIGN_LINE = "page 4B01 F0E1 15/15 004B00E10151" + 10 * "2B"
+
+# Slots 1, 2 and 4 are new: a first transmission of 0032, a repeat of it, reading advised. The others: first transmissions of
+# 7777 in slot 3 and, in 15 bits, of 8ABC in slot 5, and two repeats of that.
+TOLD = bytes([0xD0, 0, 0, 0, 0, 0, 0x80, 0x32, 0x01, 0x41, 0xF7, 0x77, 0x8A, 0xBC, 0x05, 0x05])
+TOLD_LINE = "new 0032 new again 1 7777 new advised 0ABC again 5 again 5"
 
 
-def refused(answer):
-    return f"refused {answer}"
+def schedule(begin, end):
+    return (bytes([begin, end]) + TOLD).ljust(88, b"\x2B")
 
 
-def page(blocks):
-    return ("page", blocks)
+def null(number=1):
+    return number * blocks(bytes(22), [0x2F])
 
 
-def schedule(blocks):
-    return ("schedule", blocks)
+NOTHING = bytes(88)
 
-
-# The type octet, the length of the piece, and what comes of it; a message is made of its latest blocks.
-PIECES = [
-    # a whole page: the mark on the fourth block alone
-    (0x20, 23, TAKEN),
-    (0x21, 23, TAKEN),
-    (0x22, 23, TAKEN),
-    (0x33, 23, page(4)),
-    # a page of two blocks, sent as four: after the mark the other two are nobody's next
-    (0x20, 23, TAKEN),
-    (0x31, 23, page(2)),
-    (0x32, 23, refused(6)),
-    (0x33, 23, refused(6)),
-    # a schedule of three blocks, then one whole; its followers have the codes of a page's
-    (0x28, 23, TAKEN),
-    (0x21, 23, TAKEN),
-    (0x32, 23, schedule(3)),
-    (0x28, 23, TAKEN),
-    (0x21, 23, TAKEN),
-    (0x22, 23, TAKEN),
-    (0x33, 23, schedule(4)),
-    # a null block in a page drops it, so its second and third blocks come too late
-    (0x20, 23, TAKEN),
-    (0x2F, 23, refused(5)),
-    (0x21, 23, refused(6)),
-    (0x32, 23, refused(6)),
-    # so do another discriminator, each of the three, and a reserved code, at either end of both ranges
-    (0x20, 23, TAKEN),
-    (0x01, 23, refused(3)),
-    (0x21, 23, refused(6)),
-    (0x40, 23, refused(3)),
-    (0x60, 23, refused(3)),
-    (0x20, 23, TAKEN),
-    (0x24, 23, refused(4)),
-    (0x31, 23, refused(6)),
-    (0x37, 23, refused(4)),
-    (0x29, 23, refused(4)),
-    (0x3E, 23, refused(4)),
-    # the discriminator is looked at before the code
-    (0x6F, 23, refused(3)),
-    # a block that isn't the next one, ahead and again; then the right one has nothing to follow
-    (0x20, 23, TAKEN),
-    (0x22, 23, refused(6)),
-    (0x21, 23, refused(6)),
-    (0x20, 23, TAKEN),
-    (0x21, 23, TAKEN),
-    (0x21, 23, refused(6)),
-    # a first block drops what was begun: page by page, page by schedule, schedule by page
-    (0x20, 23, TAKEN),
-    (0x21, 23, TAKEN),
-    (0x20, 23, TAKEN),
-    (0x31, 23, page(2)),
-    (0x20, 23, TAKEN),
-    (0x38, 23, schedule(1)),
-    (0x28, 23, TAKEN),
-    (0x30, 23, page(1)),
+# The four pieces of each slot, and what the board says; P is the number of the slot's first piece.
+SLOTS = [
+    # no schedule is known, so everything is read: a page of four blocks
+    (blocks(CLOSED_PAGE, [0x20, 0x21, 0x22, 0x33]), [CLOSED_LINE]),
+    # a page of one block, and the three after it are slept through
+    (blocks(TIDES_PAGE, [0x30, 0x31, 0x32, 0x33]), ["page 4A32 8ABC 1/2 High water 10:42"]),
+    # a null block drops the page, so its second and third blocks come too late
+    (blocks(CLOSED_PAGE, [0x20]) + null() + blocks(CLOSED_PAGE, [0, 0x21, 0x32])[1:],
+     ["piece P+1 refused by 5", "piece P+2 refused by 6", "piece P+3 refused by 6"]),
+    # so do another discriminator and a reserved code; the discriminator is looked at before the code
+    (blocks(NOTHING, [0x20, 0x01, 0x24, 0x6F]),
+     ["piece P+1 refused by 3", "piece P+2 refused by 4", "piece P+3 refused by 3"]),
+    # a block ahead of the next one, which then has nothing to follow
+    (blocks(CLOSED_PAGE, [0x20, 0x22, 0x21, 0x33]),
+     ["piece P+1 refused by 6", "piece P+2 refused by 6", "piece P+3 refused by 6"]),
+    # a first block drops what was begun
+    (blocks(NOTHING, [0x28, 0x21]) + blocks(FOREIGN_PAGE, [0x30, 0x31]), [FOREIGN_LINE]),
     # bit 8 is ignored, and the fourth block needs no mark
-    (0xA0, 23, TAKEN),
-    (0xA1, 23, TAKEN),
-    (0xA2, 23, TAKEN),
-    (0xA3, 23, page(4)),
+    (blocks(CLOSED_PAGE, [0xA0, 0xA1, 0xA2, 0xA3]), [CLOSED_LINE]),
+    # schedules that aren't read: of type 01, and with Begin over End
+    (blocks(schedule(0x41, 7), [0x38, 0x31, 0x32, 0x33]), ["schedule refused by 20"]),
+    (blocks(schedule(8, 7), [0x38, 0x31, 0x32, 0x33]), ["schedule refused by 21"]),
+    # one that is, in two blocks
+    (blocks(schedule(1, 7), [0x28, 0x31, 0x32, 0x33]), ["schedule from 1 to 7: " + TOLD_LINE]),
+    # slot 1 is wanted
+    (blocks(CLOSED_PAGE, [0x20, 0x21, 0x22, 0x33]), ["slot 1: read", CLOSED_LINE, "held: 1"]),
+    # slot 2 repeats what is held, and slot 3 isn't wanted
+    (blocks(CLOSED_PAGE, [0x20, 0x21, 0x22, 0x33]), ["slot 2: skip"]),
+    (blocks(FOREIGN_PAGE, [0x30, 0x31, 0x32, 0x33]), ["slot 3: skip"]),
+    # reading slot 4 is advised: it is the schedule again, for who missed it, and the same period goes on
+    (blocks(schedule(5, 7), [0x38, 0x31, 0x32, 0x33]), ["slot 4: read", "schedule from 5 to 7: " + TOLD_LINE]),
+    # slot 5 is wanted, by 15 bits of its identifier, but is lost
+    (null(4), ["slot 5: read"] + [f"piece P+{i} refused by 5" for i in range(4)]),
+    # so its repeat in slot 6 is read and entered under slot 5, and that in slot 7 is skipped
+    (blocks(TIDES_PAGE, [0x20, 0x31, 0x32, 0x33]), ["slot 6: read", TIDES_LINE, "held: 1 5"]),
+    (blocks(TIDES_PAGE, [0x20, 0x31, 0x32, 0x33]), ["slot 7: skip"]),
+    # after End no schedule is known
+    (blocks(FOREIGN_PAGE, [0x30, 0x31, 0x32, 0x33]), [FOREIGN_LINE]),
     # a short tail, whatever it says
-    (0x20, 23, TAKEN),
-    (0x31, 9, refused(2)),
+    (blocks(NOTHING, [0x20]) + [bytes([0x31, 0, 0])], ["piece P+1 refused by 2"]),
 ]
-
-
-def content(number):
-    """22 octets that differ from piece to piece and end in 00, 2B and FF, so that these are seen to come through."""
-    octets = bytes((7 * number + 11 * i) % 256 for i in range(19))
-    return octets + bytes([0x00, 0x2B, 0xFF])
 
 
 def main():
     log = b""
     lines = []
-    contents = []
-    for number, (type_octet, length, answer) in enumerate(PIECES, 1):
-        contents.append(content(number))
-        log += (bytes([type_octet]) + contents[-1])[:length]
-        if answer == TAKEN:
-            continue
-        if isinstance(answer, tuple):
-            kind, blocks = answer
-            answer = f"{kind} {22 * blocks} {b''.join(contents[-blocks:]).hex().upper()}"
-        lines.append(f"{number} {answer}\n")
-    here = pathlib.Path(__file__).parent
-    (here / "board.in").write_bytes(log)
-    (here / "board.out").write_text("".join(lines))
+    for i, (pieces, said) in enumerate(SLOTS):
+        log += b"".join(pieces)
+        for line in said:
+            for j in range(4):
+                line = line.replace(f"P+{j} ", f"{4 * i + 1 + j} ")
+            lines.append(line + "\n")
+    folder = pathlib.Path(sys.argv[1])
+    (folder / "board.in").write_bytes(log)
+    (folder / "board.out").write_text("".join(lines))
 
 
 main()

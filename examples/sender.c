@@ -1,16 +1,17 @@
 /*
- * A sender in small: writes the blocks of a schedule and of a text page, eight of 23 octets, to standard output.
+ * A sender: writes the blocks of a schedule, and of the page in the slot that follows it, to standard output.
  *
  *   sender CURRENT PREVIOUS BEGIN < TEXT
  *
- * CURRENT and PREVIOUS are plan files. The text, in Latin 1, is that of the first page in the current plan.
+ * CURRENT and PREVIOUS are plan files. The text, in Latin 1, is that of the page in slot BEGIN of the current plan. All eight
+ * blocks are made before the first is written: what is refused goes out in no part.
  */
 #include <stdio.h>
 #include <stdlib.h>
 
 #include "csobvarit.h"
 
-enum { ROOM = CB_PLAN + 1, ENTRY = 6 };
+enum { ROOM = CB_PLAN + 1, ENTRY = 6, PAGE = 2 };
 
 static int fail(const char *what, uint32_t number)
 {
@@ -25,12 +26,12 @@ static int fail(const char *what, uint32_t number)
 static size_t load(const char *name, uint8_t *file, size_t room)
 {
     FILE *from = fopen(name, "rb");
+    size_t length = from == NULL ? 0 : fread(file, 1, room, from);
 
-    if (from == NULL) {
-        perror(name);
+    if (from == NULL || ferror(from)) {
+        fprintf(stderr, "sender: %s can't be read\n", name);
         exit(1);
     }
-    size_t length = fread(file, 1, room, from);
     fclose(from);
     return length;
 }
@@ -40,29 +41,9 @@ static uint16_t sixteen(const uint8_t *octets)
     return (uint16_t)(octets[0] << 8 | octets[1]);
 }
 
-/* The six octets of the first entry that is a page, or NULL. */
-static const uint8_t *first_page(const uint8_t *plan, size_t length)
-{
-    for (size_t at = ENTRY; at + ENTRY <= length; at += ENTRY)
-        if (plan[at] == 2)
-            return plan + at;
-    return NULL;
-}
-
-/* Cuts a message into its four blocks and writes them. */
-static uint32_t send(const uint8_t *message, bool schedule, size_t used)
-{
-    uint8_t blocks[CB_BLOCKS];
-    uint32_t number = cb_write_blocks(message, CB_OUTPUT, schedule, used, blocks, sizeof blocks);
-
-    if (number == 0)
-        fwrite(blocks, 1, sizeof blocks, stdout);
-    return number;
-}
-
 int main(int count, char **words)
 {
-    uint8_t current[ROOM], previous[ROOM], message[CB_OUTPUT];
+    uint8_t current[ROOM], previous[ROOM], schedule[CB_OUTPUT], page[CB_OUTPUT], blocks[2 * CB_BLOCKS];
     uint16_t text[CB_TEXT + 1];
     size_t length = 0;
     int character;
@@ -71,28 +52,32 @@ int main(int count, char **words)
         return fail("name two plan files and Begin", 0);
     size_t current_len = load(words[1], current, sizeof current);
     size_t previous_len = load(words[2], previous, sizeof previous);
+    size_t begin = strtoul(words[3], NULL, 10);
 
-    uint32_t written = cb_write_schedule(current, current_len, previous, previous_len, strtoul(words[3], NULL, 10),
-                                         message, sizeof message);
-    if (CB_NUMBER(written) != 0)
-        return fail("the schedule", CB_NUMBER(written));
-    uint32_t number = send(message, true, CB_COUNT(written));
-    if (number != 0)
-        return fail("the schedule's blocks", number);
+    uint32_t told =
+        cb_write_schedule(current, current_len, previous, previous_len, begin, schedule, sizeof schedule);
+    if (CB_NUMBER(told) != 0)
+        return fail("the schedule", CB_NUMBER(told));
 
-    const uint8_t *page = first_page(current, current_len);
-    if (page == NULL)
-        return fail("the current plan has no page", 0);
+    const uint8_t *entry = current + ENTRY * begin; /* the schedule is written, so Begin is a slot of the plan */
+    if (entry[0] != PAGE)
+        return fail("slot BEGIN of the current plan has no page", 0);
     while (length < CB_TEXT + 1 && (character = getchar()) != EOF)
         text[length++] = (uint16_t)character;
-    written = cb_write_text(sixteen(page + 1), sixteen(page + 3), 0x00, page[5], text, length, message, sizeof message);
+    if (ferror(stdin))
+        return fail("standard input can't be read", 0);
+    uint32_t written =
+        cb_write_text(sixteen(entry + 1), sixteen(entry + 3), 0x00, entry[5], text, length, page, sizeof page);
     if (CB_NUMBER(written) != 0)
         return fail("the text", CB_NUMBER(written));
-    number = send(message, false, CB_COUNT(written));
-    if (number != 0)
-        return fail("the text's blocks", number);
 
-    if (fflush(stdout) != 0 || ferror(stdout))
+    uint32_t number = cb_write_blocks(schedule, sizeof schedule, true, CB_COUNT(told), blocks, CB_BLOCKS);
+    if (number == 0)
+        number = cb_write_blocks(page, sizeof page, false, CB_COUNT(written), blocks + CB_BLOCKS, CB_BLOCKS);
+    if (number != 0)
+        return fail("the blocks", number);
+
+    if (fwrite(blocks, 1, sizeof blocks, stdout) != sizeof blocks || fflush(stdout) != 0)
         return fail("standard output can't be written", 0);
     return 0;
 }

@@ -1,23 +1,21 @@
 #!/usr/bin/env python3
-"""Writes the sender example: current.plan, previous.plan and text, what the sender sends for them, and what a board hears.
+"""Writes the sender's and the office's example to a folder: current.plan, previous.plan and text, what the sender sends for
+them, what a board that wants 0032 hears of it, and what the office says.
 
-The octets of the schedule message and of the page are written here by hand from document 01, so that sender.out owes
-nothing to the code that it is held against. Run it after a change to them.
+The octets of the schedule message, and every line, are written here by hand from document 01, so that they owe nothing to
+the code that they are held against.
 """
 import pathlib
+import sys
+
+from octets import blocks, entry, packed, page, plan
 
 OPTIONAL = bytes(6)
 ADVISED = bytes([1, 0, 0, 0, 0, 0])
-
-
-def page(serial, identifier, parameter):
-    return bytes([2, serial >> 8, serial & 0xFF, identifier >> 8, identifier & 0xFF, parameter])
-
-
-FERRY = page(0x0010, 0x8001, 0x11)
-CRANE = page(0x1234, 0x0032, 0x12)
-TIDES = page(0x0020, 0x0ABC, 0x11)
-GATES = page(0x0031, 0x0100, 0x11)
+FERRY = entry(0x0010, 0x8001, 0x11)
+CRANE = entry(0x1234, 0x0032, 0x12)
+TIDES = entry(0x0020, 0x0ABC, 0x11)
+GATES = entry(0x0031, 0x0100, 0x11)
 
 CURRENT = [FERRY, CRANE, OPTIONAL, FERRY, ADVISED, TIDES, CRANE, TIDES, OPTIONAL, FERRY, GATES]
 PREVIOUS = [CRANE, TIDES]
@@ -36,41 +34,37 @@ SCHEDULE = bytes([
     0x80, 0x32, 0x40, 0x8A, 0xBC, 0x02, 0x06, 0x40,
 ])
 
-# The page of FERRY, which stands in slot 1: serial number, identifier, scheme 00, page 1 of 1.
-HEADER = bytes([0x00, 0x10, 0x80, 0x01, 0x00, 0x11])
+# The board has the schedule at its second block and sleeps to the end of that slot; slot 2 follows, which it wants.
+HEARD = [
+    "schedule from 2 to 11: new 0001 0032 optional new again 1 new advised 0ABC again 2 again 6 optional new again 1 new 0100",
+    "slot 2: read",
+    "page 1234 0032 1/2 " + TEXT,
+    "held: 2",
+]
 
-
-def packed(text):
-    """93 septets, low bits first, with CR after the text; its characters are their own septets here."""
-    bits = 0
-    for i, septet in enumerate(text.encode("ascii") + b"\r" * (93 - len(text))):
-        bits |= septet << 7 * i
-    return bits.to_bytes(82, "little")
-
-
-def blocks(message, types):
-    """Four blocks of 22 octets under their type octets."""
-    return b"".join(bytes([t]) + message[22 * i:22 * i + 22] for i, t in enumerate(types))
-
-
-def plan(entries):
-    return b"CBP" + bytes([0, 1, len(entries)]) + b"".join(entries)
+# In the false copy slot 11, the first transmission of the highest slot, is told as a repeat of slot 1. It is the lowest slot
+# with its page, so that isn't true; nothing else is told in another way.
+OFFICE = [
+    "current plan: 11 slots",
+    "previous plan: 2 slots",
+    "schedule: 23 octets used, true to the plans",
+    "slot 11 as a repeat of slot 1: refused by 40, slot 11",
+]
 
 
 def main():
-    here = pathlib.Path(__file__).parent
+    folder = pathlib.Path(sys.argv[1])
     schedule = SCHEDULE.ljust(88, b"\x2B")
-    text = HEADER + packed(TEXT)
+    # the page of slot 2, CRANE
+    text = page(0x1234, 0x0032, 0x12, packed(TEXT))
     # the schedule uses 23 octets and the page 6 + 35, so the mark is on the second block of each and on those after it
     sent = blocks(schedule, [0x28, 0x31, 0x32, 0x33]) + blocks(text, [0x20, 0x31, 0x32, 0x33])
-    # a board takes the first block and has the message at the second; the other two are nobody's next
-    heard = [f"2 schedule 44 {schedule[:44].hex().upper()}", "3 refused 6", "4 refused 6",
-             f"6 page 44 {text[:44].hex().upper()}", "7 refused 6", "8 refused 6"]
-    (here / "current.plan").write_bytes(plan(CURRENT))
-    (here / "previous.plan").write_bytes(plan(PREVIOUS))
-    (here / "text").write_text(TEXT)
-    (here / "sender.out").write_bytes(sent)
-    (here / "heard.out").write_text("".join(line + "\n" for line in heard))
+    (folder / "current.plan").write_bytes(plan(CURRENT))
+    (folder / "previous.plan").write_bytes(plan(PREVIOUS))
+    (folder / "text").write_text(TEXT)
+    (folder / "sender.out").write_bytes(b"".join(sent))
+    (folder / "heard.out").write_text("".join(line + "\n" for line in HEARD))
+    (folder / "office.out").write_text("".join(line + "\n" for line in OFFICE))
 
 
 main()

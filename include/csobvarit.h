@@ -1,9 +1,26 @@
 /*
  * The calls of Csobvarit for C: cell broadcast blocks, text, schedules and plans, on memory that the caller lends.
  *
- * Every call takes every input of every length and ends; what it doesn't take it refuses by a number. No pointer may be
- * null, even at length 0, and memory that a call is lent to write may not overlap anything else that it is given.
- * cb_start and cb_intake are in libfirmware.a, the others in libcapi.a.
+ * Every call takes every input of every length and ends; what it doesn't take it refuses by a number.
+ *
+ * Memory. No pointer may be null: not at length 0, and not where a call doesn't look at what it points to, as cb_decide
+ * and cb_enter with known false. Memory that a call is lent to write may not overlap anything else that it is given. A
+ * length counts elements: octets, or numbers where these have 16 or 32 bits (text, wanted, slots); such numbers are
+ * aligned, to 2 or 4 octets. Memory to write has exactly the length that its call tells: a longer one is refused too.
+ *
+ * Archives. ./build writes them, for x86-64 only (ELF, System V calling convention, with SSE2 registers used):
+ * target/libcsobvarit.a has every call, target/libfirmware.a cb_start and cb_intake alone. Of the C library the first
+ * needs memcpy and memset, the second nothing, and neither needs anything else. No call keeps, allocates or prints
+ * anything: what lasts is in the memory lent, so calls on different memory may run at once.
+ *
+ * Stack. No call takes more octets than told here, on x86-64, as built by ./build. Return addresses are counted, what
+ * memcpy and memset take is not; tests/stack/run has the figures from the archive.
+ *
+ *   cb_start             100    cb_intake            100    cb_write_text      1,200
+ *   cb_read_text         600    cb_content           100    cb_read_header       100
+ *   cb_write_blocks      100    cb_read_schedule   1,900    cb_slots           1,000
+ *   cb_description     2,300    cb_read_plan       1,300    cb_write_schedule  6,200
+ *   cb_check_schedule  7,800    cb_decide          2,600    cb_enter           1,800
  */
 #ifndef CSOBVARIT_H
 #define CSOBVARIT_H
@@ -19,7 +36,7 @@ extern "C" {
 /* Sizes, in octets. */
 #define CB_STATE  90 /* kind (0 none, 1 page, 2 schedule), blocks taken (0 to 3), the 88 octets of a message */
 #define CB_PIECE  23 /* GSM 04.12, 3.1: a block, which is its type and 22 octets */
-#define CB_OUTPUT 88 /* GSM 04.12, 3.1: a message */
+#define CB_OUTPUT 88 /* GSM 04.12, 3.1: a message, which is a page or a schedule message */
 
 /* Answers. */
 #define CB_DONE            0 /* cb_start: the state is ready */
@@ -32,9 +49,10 @@ extern "C" {
 #define CB_NOT_NEXT        6 /* refused: a second to fourth block that isn't the next one of the message held */
 #define CB_SCHEDULE        7 /* a schedule message is complete; GSM 04.12, 3.5 */
 #define CB_STATE_IMPROPER  8 /* refused: the state isn't 90 octets long, or neither call can have left it so */
-#define CB_OUTPUT_LENGTH  15 /* refused: the output isn't 88 octets long */
+#define CB_OUTPUT_LENGTH  15 /* refused: the memory to write isn't exactly as long as it must be: 88 octets for output,
+                                page or schedule, 92 octets for blocks, 93 code points for text, 48 numbers for slots */
 
-/* What cb_intake returns is answer + 256 * octets received. */
+/* What cb_intake returns is answer + 256 * octets received; what cb_start returns is an answer. */
 #define CB_ANSWER(returned)   ((uint32_t)(returned) & 0xFFu)
 #define CB_RECEIVED(returned) ((uint32_t)(returned) >> 8) /* 22, 44, 66 or 88 if a message is complete, otherwise 0 */
 
@@ -61,8 +79,8 @@ uint32_t cb_start(uint8_t *state, size_t state_len);
  *     if it isn't              untouched                      untouched
  *   CB_OUTPUT_LENGTH           untouched                      untouched
  *
- * Where several refusals apply, the answer is the first of 15, 8, 2, 3, and then 4, 5 or 6 by the code.
- * A first block begins a message anew, whatever is held; a message is complete at the last-block mark or at
+ * Where several refusals apply, the answer is the first of 15 (an output_len that isn't 88), 8, 2, 3, and then 4, 5 or 6
+ * by the code. A first block begins a message anew, whatever is held; a message is complete at the last-block mark or at
  * its fourth block (GSM 04.12, 3.3.1).
  *
  * Give each call the state as the call before left it. Nothing is kept elsewhere, so two channels take two states.
@@ -70,8 +88,18 @@ uint32_t cb_start(uint8_t *state, size_t state_len);
 uint32_t cb_intake(uint8_t *state, size_t state_len, const uint8_t *piece, size_t piece_len,
                    uint8_t *output, size_t output_len);
 
-/* Text and blocks. A code point is 16 bits; the default alphabet is GSM 03.38's. */
-#define CB_TEXT 93 /* characters of a page, and code points that cb_read_text writes */
+/*
+ * Pages (GSM 03.41, 9.3.2): six octets of header, then 82 of content.
+ *
+ *   octets 1-2   serial number, high octet first
+ *   octets 3-4   message identifier, high octet first
+ *   octet 5      coding scheme; 00 to 0F hex are the default alphabet's
+ *   octet 6      page parameter: the page's number in the high half, the total of pages in the low half
+ *
+ * The default alphabet is GSM 03.38's, and a code point is 16 bits.
+ */
+#define CB_HEADER  6 /* octets of a page's header; the content starts after it */
+#define CB_TEXT   93 /* characters of a page, and code points that cb_read_text writes */
 
 #define CB_TEXT_LENGTH      10 /* refused: over 93 characters */
 #define CB_NOT_IN_ALPHABET  11 /* refused: a character that the default alphabet doesn't have */
@@ -84,36 +112,61 @@ uint32_t cb_intake(uint8_t *state, size_t state_len, const uint8_t *piece, size_
 
 /*
  * What most calls return is number + 256 * count. What is counted is told with each: used octets, characters, slots, the
- * slot that 40 names, or 1 for read.
+ * slot that 40 names, or CB_READ.
  */
 #define CB_NUMBER(returned) ((uint32_t)(returned) & 0xFFu)
 #define CB_COUNT(returned)  ((uint32_t)(returned) >> 8) /* 0 with a refusal other than 40 */
 
 /*
- * Writes a page of 88 octets: header, high octets first, and the text packed, with CR after it up to 93 characters.
+ * Writes a page of 88 octets: header, and the text packed, with CR after it up to 93 characters.
  *
  *   0                           page: the page; the count is its used octets, 6 to 88
- *   15, 13, 14, 10, 11, 12      page: untouched; the first of these that applies, in this order
+ *   15, 13, 14, 10, 11, 12      page: untouched; the first of these that applies, in this order. 15 is a page_len that
+ *                               isn't 88
  */
 uint32_t cb_write_text(uint16_t serial, uint16_t identifier, uint8_t scheme, uint8_t parameter,
                        const uint16_t *text, size_t text_len, uint8_t *page, size_t page_len);
 
 /*
- * Reads the text of what was received of a page. The CRs at its end are dropped.
+ * Reads the text of what was received of a page. The CRs at its end are dropped. Septet 1B hex, the escape of GSM 03.38,
+ * is read as a space.
  *
  *   0                           text: the count's characters, then 0 up to 93
- *   15, 16, 18, 13              text: untouched; the first of these that applies, in this order
+ *   15, 16, 18, 13              text: untouched; the first of these that applies, in this order. 15 is a text_len that
+ *                               isn't 93
  */
 uint32_t cb_read_text(const uint8_t *page, size_t page_len, size_t received, uint16_t *text, size_t text_len);
 
 /*
- * Whether a page in another alphabet can be handed on: its content received is page + 6, received - 6 octets long.
- * Nothing is written.
+ * Whether a page in another alphabet can be handed on: its content received is at page + CB_HEADER, received - CB_HEADER
+ * octets long. Nothing is written.
  *
  *   0                           it can
  *   16, 18                      it can't; the first of these that applies
  */
 uint32_t cb_content(const uint8_t *page, size_t page_len, size_t received);
+
+/*
+ * What cb_read_header returns is number + 2^8 * scheme + 2^16 * serial number + 2^32 * message identifier
+ * + 2^48 * page parameter; take its number by CB_NUMBER.
+ */
+#define CB_HEADER_SCHEME(returned)     ((uint8_t)((uint64_t)(returned) >> 8 & 0xFFu))
+#define CB_HEADER_SERIAL(returned)     ((uint16_t)((uint64_t)(returned) >> 16 & 0xFFFFu))
+#define CB_HEADER_IDENTIFIER(returned) ((uint16_t)((uint64_t)(returned) >> 32 & 0xFFFFu))
+#define CB_HEADER_PARAMETER(returned)  ((uint8_t)((uint64_t)(returned) >> 48 & 0xFFu))
+
+/* The halves of a page parameter: page so many of a total. */
+#define CB_PAGE_OF(parameter)  ((uint32_t)(parameter) >> 4 & 0xFu)
+#define CB_TOTAL_OF(parameter) ((uint32_t)(parameter) & 0xFu)
+
+/*
+ * Reads the header of a page, whatever else was received of it: the first block has all of the header. Nothing is
+ * written.
+ *
+ *   0                           scheme, serial number, identifier and parameter
+ *   16                          the page isn't 88 octets long; the others are 0
+ */
+uint64_t cb_read_header(const uint8_t *page, size_t page_len);
 
 #define CB_BLOCKS 92 /* octets of four blocks */
 
@@ -122,22 +175,25 @@ uint32_t cb_content(const uint8_t *page, size_t page_len, size_t received);
  * last-block mark is set from the block of the last used octet on.
  *
  *   0                           out: the four blocks
- *   15, 16, 17                  out: untouched; the first of these that applies, in this order
+ *   15, 16, 17                  out: untouched; the first of these that applies, in this order. 15 is an out_len that
+ *                               isn't 92
  */
 uint32_t cb_write_blocks(const uint8_t *message, size_t message_len, bool schedule, size_t used,
                          uint8_t *out, size_t out_len);
 
 /*
  * Schedule messages (GSM 04.12, 3.5): the octets of a complete one and the octets received, as cb_intake gives them.
- * Nothing is written to what is lent, whatever the answer.
+ * Nothing is written to the message, whatever the answer.
  */
+#define CB_SLOTS 48 /* the most slots of a period, and numbers that cb_slots writes */
+
 #define CB_SCHEDULE_TYPE       20 /* refused: the type isn't 00; GSM 04.12, 3.5.1 */
 #define CB_BEGIN_OR_END        21 /* refused: not 1 <= Begin <= End <= 48; GSM 04.12, 3.5.1 */
 #define CB_NEW_PAST_END        22 /* refused: a new bit is set past End */
 #define CB_DESCRIPTION_PAST    23 /* refused: a description passes the received octets */
 #define CB_REPEAT_OF_NO_FIRST  24 /* refused: a repeat of 0, of no slot below its own, or of no first transmission */
 
-/* What cb_read_schedule returns is number + 2^8 * Begin + 2^16 * End. */
+/* What cb_read_schedule and cb_slots return is number + 2^8 * Begin + 2^16 * End. */
 #define CB_BEGIN(returned) ((uint32_t)(returned) >> 8 & 0xFFu)
 #define CB_END(returned)   ((uint32_t)(returned) >> 16 & 0xFFu)
 
@@ -149,19 +205,34 @@ uint32_t cb_write_blocks(const uint8_t *message, size_t message_len, bool schedu
  */
 uint32_t cb_read_schedule(const uint8_t *message, size_t message_len, size_t received);
 
-/* What cb_description returns is number + 2^8 * slot + 2^16 * new bit + 2^32 * code. */
-#define CB_SLOT(returned) ((uint32_t)((uint64_t)(returned) >> 8) & 0xFFu)
-#define CB_NEW(returned)  ((uint32_t)((uint64_t)(returned) >> 16) & 0xFFu)
-#define CB_CODE(returned) ((uint32_t)((uint64_t)(returned) >> 32))
-
 /* Codes: 8000 hex + the identifier's low 15 bits for a first transmission, 1 to 47 for a repeat of that slot, or: */
 #define CB_FIRST    0x8000u /* from this code on */
 #define CB_OPTIONAL 0x40u   /* reading optional; what the message has as 42 to 7F hex too */
 #define CB_ADVISED  0x41u   /* reading advised */
 
+/* A number that cb_slots writes is code + 2^16 * new bit. */
+#define CB_SLOT_CODE(number) ((uint32_t)(number) & 0xFFFFu)
+#define CB_SLOT_NEW(number)  ((uint32_t)(number) >> 16 & 0xFFu)
+
+/*
+ * Tells all slots of a message in one reading: slot n in slots[n - 1].
+ *
+ *   0                           slots: a number for each slot up to End, then 0 up to 48; Begin and End, 1 to 48
+ *   15, 16, 18, 20, 21, 22, 23, 24
+ *                               slots: untouched; the first of these that applies, in this order; Begin and End are 0.
+ *                               15 is a slots_len, in numbers, that isn't 48
+ */
+uint32_t cb_slots(const uint8_t *message, size_t message_len, size_t received, uint32_t *slots, size_t slots_len);
+
+/* What cb_description returns is number + 2^8 * slot + 2^16 * new bit + 2^32 * code. */
+#define CB_SLOT(returned) ((uint32_t)((uint64_t)(returned) >> 8) & 0xFFu)
+#define CB_NEW(returned)  ((uint32_t)((uint64_t)(returned) >> 16) & 0xFFu)
+#define CB_CODE(returned) ((uint32_t)((uint64_t)(returned) >> 32))
+
 /*
  * Gives the description that stands in the message after so many others: those of slots with new bit 1 come first,
- * then the rest, each group in slot order. Call it with place 0, 1 and so on, up to no more.
+ * then the rest, each group in slot order. Call it with place 0, 1 and so on, up to no more. Each call reads the message
+ * anew; where the order doesn't matter, cb_slots tells the same at once.
  *
  *   0, slot 1 to 48             the slot's number, its new bit and its description
  *   0, slot 0                   no more: place is End or above; new bit and code are 0
@@ -170,9 +241,20 @@ uint32_t cb_read_schedule(const uint8_t *message, size_t message_len, size_t rec
 uint64_t cb_description(const uint8_t *message, size_t message_len, size_t received, size_t place);
 
 /*
- * Plan files: CBP in ASCII, the version 1 in two octets, the count in one, and six octets for each slot: its kind (0
- * optional, 1 advised, 2 page), serial number, identifier and page parameter.
+ * Plan files: six octets, then six for each slot. Numbers of two octets have the high octet first.
+ *
+ *   octets 1-3   CBP in ASCII
+ *   octets 4-5   the version, 1
+ *   octet 6      the count of slots, 0 to 48
+ *
+ *   and of a slot:
+ *   octet 1      its kind: 0 optional, 1 advised, 2 page; the others are 0 in kinds 0 and 1
+ *   octets 2-3   serial number
+ *   octets 4-5   message identifier
+ *   octet 6      page parameter
  */
+#define CB_PLAN 294 /* octets of the longest plan file: 6 + 6 * 48 */
+
 #define CB_PLAN_MARK    30 /* refused: the file doesn't begin with CBP */
 #define CB_PLAN_VERSION 31 /* refused: its version isn't 1 */
 #define CB_PLAN_LENGTH  32 /* refused: under 6 octets, a count over 48, or a length that isn't 6 + 6 * count */
@@ -190,13 +272,9 @@ uint32_t cb_read_plan(const uint8_t *file, size_t file_len);
  * Schedules beside plans. A plan goes in as its file, the current one and the one before it; where there is none before,
  * give a file of count 0.
  */
-#define CB_PLAN 294 /* octets of the longest plan file: 6 + 6 * 48 */
-
 #define CB_DESCRIPTIONS_TOO_LONG 34 /* refused: the descriptions need over 80 octets */
 #define CB_PLAN_EMPTY            35 /* refused: the current plan's count is 0 */
 #define CB_UNTRUE                40 /* the message isn't true to the plans */
-#define CB_SLOT_NUMBER           41 /* refused: the slot isn't 1 to 48 */
-#define CB_WANTED_COUNT          42 /* refused: over 64 wanted identifiers */
 
 /*
  * Writes the schedule message of the current plan, 88 octets: number + 256 * used octets. It is accepted by
@@ -204,8 +282,9 @@ uint32_t cb_read_plan(const uint8_t *file, size_t file_len);
  *
  *   0                           out: the message, then 2B; the count is its used octets, 9 to 88
  *   15, the current file's, the previous file's, 35, 21, 34
- *                               out: untouched; the first of these that applies, in this order. A file's refusals are
- *                               those of cb_read_plan; 21 is a Begin that isn't 1 to the current plan's count
+ *                               out: untouched; the first of these that applies, in this order. 15 is an out_len that
+ *                               isn't 88; a file's refusals are those of cb_read_plan; 21 is a Begin that isn't 1 to the
+ *                               current plan's count
  */
 uint32_t cb_write_schedule(const uint8_t *current, size_t current_len, const uint8_t *previous, size_t previous_len,
                            size_t begin, uint8_t *out, size_t out_len);
@@ -223,9 +302,19 @@ uint32_t cb_check_schedule(const uint8_t *current, size_t current_len, const uin
                            const uint8_t *message, size_t message_len, size_t received);
 
 /*
- * Decides for a slot: number + 256 * (1 read, 0 skip). Nothing is written. With known false there is no schedule, and
- * the message isn't looked at. In held, bit n - 1 is set where the page of slot n is held; enter a page got from a repeat
- * under the slot that the repeat names. Bits from 48 on mean nothing.
+ * The board's decision. With known false there is no schedule, and the message isn't looked at, but its pointer may not
+ * be null. In held, bit n - 1 is set where the page of slot n is held: begin a period with 0, and let cb_enter set the
+ * bits. Bits from 48 on mean nothing.
+ */
+#define CB_MOST_WANTED 64 /* identifiers that can be wanted at a time */
+
+#define CB_SLOT_NUMBER  41 /* refused: the slot isn't 1 to 48 */
+#define CB_WANTED_COUNT 42 /* refused: over 64 wanted identifiers */
+
+#define CB_READ 1 /* the count that says read; 0 says skip */
+
+/*
+ * Decides for a slot: number + 256 * (1 read, 0 skip). Nothing is written.
  *
  *   0, count 1                  read: there is no schedule, it is refused, it doesn't reach the slot, or it tells the slot
  *                               as advised, as a first transmission that matches a wanted identifier in 15 bits, or as
@@ -235,6 +324,13 @@ uint32_t cb_check_schedule(const uint8_t *current, size_t current_len, const uin
  */
 uint32_t cb_decide(bool known, const uint8_t *message, size_t message_len, size_t received, size_t slot,
                    const uint16_t *wanted, size_t wanted_len, uint64_t held);
+
+/*
+ * Gives the held set with the page got in a slot entered: where the schedule tells the slot as a repeat, under the slot
+ * that the repeat names; otherwise under its own, also where there is no schedule, it is refused or it doesn't reach the
+ * slot. A slot that isn't 1 to 48 enters nothing. Bits that were set stay set. Nothing is refused, and nothing written.
+ */
+uint64_t cb_enter(bool known, const uint8_t *message, size_t message_len, size_t received, size_t slot, uint64_t held);
 
 #ifdef __cplusplus
 }

@@ -1,0 +1,558 @@
+/*
+ * Holds include/csobvarit.h to the archive it is linked with: results FILE...
+ *
+ * First every number of the header to the paper's. Then each line of the files, which tells a call and what it gives
+ * (tests/second/README.md, "Stored results"): the call is made by its prototype, on blocks of memory of exactly the
+ * lengths told, and what it returns, taken apart by the header's macros, and all memory that it may write must be as the
+ * rest of the line has it. Lines of a kind that no call makes are passed over.
+ */
+#include <inttypes.h>
+#include <stdio.h>
+#include <stdlib.h>
+#include <string.h>
+
+#include "csobvarit.h"
+
+/* Each number of the header beside that of document 01. */
+#define NUMBER(name, paper) {#name, name, paper}
+static const struct {
+    const char *name;
+    uint32_t header, paper;
+} numbers[] = {
+    NUMBER(CB_STATE, 90),
+    NUMBER(CB_PIECE, 23),
+    NUMBER(CB_OUTPUT, 88),
+    NUMBER(CB_HEADER, 6),
+    NUMBER(CB_TEXT, 93),
+    NUMBER(CB_BLOCKS, 92),
+    NUMBER(CB_SLOTS, 48),
+    NUMBER(CB_PLAN, 294),
+    NUMBER(CB_MOST_WANTED, 64),
+    NUMBER(CB_DONE, 0),
+    NUMBER(CB_PAGE, 0),
+    NUMBER(CB_TAKEN, 1),
+    NUMBER(CB_PIECE_LENGTH, 2),
+    NUMBER(CB_DISCRIMINATOR, 3),
+    NUMBER(CB_RESERVED_CODE, 4),
+    NUMBER(CB_NULL_CODE, 5),
+    NUMBER(CB_NOT_NEXT, 6),
+    NUMBER(CB_SCHEDULE, 7),
+    NUMBER(CB_STATE_IMPROPER, 8),
+    NUMBER(CB_TEXT_LENGTH, 10),
+    NUMBER(CB_NOT_IN_ALPHABET, 11),
+    NUMBER(CB_ENDS_IN_CR, 12),
+    NUMBER(CB_SCHEME, 13),
+    NUMBER(CB_PAGE_PARAMETER, 14),
+    NUMBER(CB_OUTPUT_LENGTH, 15),
+    NUMBER(CB_MESSAGE_LENGTH, 16),
+    NUMBER(CB_USED_OCTETS, 17),
+    NUMBER(CB_RECEIVED_OCTETS, 18),
+    NUMBER(CB_SCHEDULE_TYPE, 20),
+    NUMBER(CB_BEGIN_OR_END, 21),
+    NUMBER(CB_NEW_PAST_END, 22),
+    NUMBER(CB_DESCRIPTION_PAST, 23),
+    NUMBER(CB_REPEAT_OF_NO_FIRST, 24),
+    NUMBER(CB_PLAN_MARK, 30),
+    NUMBER(CB_PLAN_VERSION, 31),
+    NUMBER(CB_PLAN_LENGTH, 32),
+    NUMBER(CB_PLAN_ENTRY, 33),
+    NUMBER(CB_DESCRIPTIONS_TOO_LONG, 34),
+    NUMBER(CB_PLAN_EMPTY, 35),
+    NUMBER(CB_UNTRUE, 40),
+    NUMBER(CB_SLOT_NUMBER, 41),
+    NUMBER(CB_WANTED_COUNT, 42),
+    NUMBER(CB_READ, 1),
+    NUMBER(CB_FIRST, 0x8000),
+    NUMBER(CB_OPTIONAL, 0x40),
+    NUMBER(CB_ADVISED, 0x41),
+};
+
+static int numbers_wrong(void)
+{
+    int wrong = 0;
+
+    for (size_t i = 0; i < sizeof numbers / sizeof numbers[0]; i++)
+        if (numbers[i].header != numbers[i].paper) {
+            fprintf(stderr, "tests/header: %s is %" PRIu32 " in the header and %" PRIu32 " in document 01\n",
+                    numbers[i].name, numbers[i].header, numbers[i].paper);
+            wrong = 1;
+        }
+    return wrong;
+}
+
+/* The line that is being run. */
+static const char *file;
+static unsigned long line_number;
+static char line[1 << 16];
+static char *rest; /* what of the line isn't taken yet; NULL at its end */
+static bool differs;
+
+enum { SHOWN = 5 }; /* differences that are printed */
+static unsigned long results, calls, passed_over, different;
+
+static void stop(const char *what)
+{
+    fprintf(stderr, "tests/header: %s:%lu: %s\n", file, line_number, what);
+    exit(1);
+}
+
+static char *take(void)
+{
+    char *field = rest;
+
+    if (field == NULL)
+        stop("the line ends early");
+    rest = strchr(field, ' ');
+    if (rest != NULL)
+        *rest++ = '\0';
+    return field;
+}
+
+static uint64_t take_number(void)
+{
+    char *field = take(), *end;
+    uint64_t number = strtoull(field, &end, 16);
+
+    if (*field == '\0' || *end != '\0')
+        stop("no number");
+    return number;
+}
+
+static size_t take_size(void)
+{
+    return (size_t)take_number();
+}
+
+/* Blocks of memory, of one length each and no more, for the time of a line. */
+struct octets { uint8_t *at; size_t len; };
+struct points { uint16_t *at; size_t len; };
+struct longs { uint32_t *at; size_t len; };
+
+enum { FILLING = 0xA5 };
+static void *blocks[1024];
+static size_t blocks_held;
+
+static void *block(size_t count, size_t size)
+{
+    void *made = malloc(count > 0 ? count * size : 1); /* no pointer may be null */
+
+    if (made == NULL || blocks_held == sizeof blocks / sizeof blocks[0])
+        stop("no memory");
+    memset(made, FILLING, count * size);
+    return blocks[blocks_held++] = made;
+}
+
+static struct octets lent(size_t len) { return (struct octets){block(len, sizeof(uint8_t)), len}; }
+static struct points lent_points(size_t len) { return (struct points){block(len, sizeof(uint16_t)), len}; }
+static struct longs lent_longs(size_t len) { return (struct longs){block(len, sizeof(uint32_t)), len}; }
+
+/* The number in some digits of a list. */
+static unsigned digits(const char *at, size_t count)
+{
+    char copy[9] = "", *end;
+    unsigned number;
+
+    memcpy(copy, at, count);
+    number = (unsigned)strtoul(copy, &end, 16);
+    if (*end != '\0')
+        stop("no list");
+    return number;
+}
+
+/* How many elements of so many digits a list has. */
+static size_t elements(const char *list, size_t wide)
+{
+    if (strcmp(list, "-") == 0)
+        return 0;
+    if (strlen(list) % wide != 0)
+        stop("no list");
+    return strlen(list) / wide;
+}
+
+static struct octets take_octets(void)
+{
+    const char *list = take();
+    struct octets taken = lent(elements(list, 2));
+
+    for (size_t i = 0; i < taken.len; i++)
+        taken.at[i] = (uint8_t)digits(list + 2 * i, 2);
+    return taken;
+}
+
+static struct points take_points(void)
+{
+    const char *list = take();
+    struct points taken = lent_points(elements(list, 4));
+
+    for (size_t i = 0; i < taken.len; i++)
+        taken.at[i] = (uint16_t)digits(list + 4 * i, 4);
+    return taken;
+}
+
+/* Holds what came of a call to the next field. */
+static void hold(const char *got)
+{
+    const char *stored = take();
+
+    if (strcmp(got, stored) == 0 || differs)
+        return;
+    differs = true;
+    if (different < SHOWN)
+        fprintf(stderr, "tests/header: %s:%lu: %c: %s, stored %s\n", file, line_number, line[0], got, stored);
+}
+
+static void hold_number(uint64_t got)
+{
+    char text[17];
+
+    snprintf(text, sizeof text, "%" PRIx64, got);
+    hold(text);
+}
+
+/* Holds a list, of elements of 1, 2 or 4 octets, to the next field. */
+static void hold_list(const void *list, size_t len, size_t size)
+{
+    static char shown[1 << 12];
+    int wide = (int)(2 * size);
+
+    if (len * 2 * size >= sizeof shown)
+        stop("too long a list");
+    for (size_t i = 0; i < len; i++) {
+        uint32_t element = size == 1   ? ((const uint8_t *)list)[i]
+                           : size == 2 ? ((const uint16_t *)list)[i]
+                                       : ((const uint32_t *)list)[i];
+        sprintf(shown + 2 * size * i, "%0*" PRIx32, wide, element);
+    }
+    hold(len > 0 ? shown : "-");
+}
+
+/* Memory after a call: = where it is as it was. */
+static void hold_after(const uint8_t *before, struct octets after)
+{
+    if (memcmp(before, after.at, after.len) == 0)
+        hold("=");
+    else
+        hold_list(after.at, after.len, 1);
+}
+
+/* The same of memory that was lent as FILLING. */
+static void hold_left(const void *memory, size_t len, size_t size)
+{
+    const uint8_t *octets = memory;
+    size_t same = 0;
+
+    while (same < len * size && octets[same] == FILLING)
+        same++;
+    if (same == len * size)
+        hold("=");
+    else
+        hold_list(memory, len, size);
+}
+#define HOLD_LEFT(memory) hold_left((memory).at, (memory).len, sizeof *(memory).at)
+
+/* Counts a call that returned something. */
+#define CALLED(call) (calls++, (call))
+
+static void start(void)
+{
+    struct octets state = take_octets(), before = lent(state.len);
+
+    memcpy(before.at, state.at, state.len);
+    hold_number(CB_ANSWER(CALLED(cb_start(state.at, state.len))));
+    hold_after(before.at, state);
+}
+
+static void intake(void)
+{
+    struct octets state = take_octets(), piece = take_octets(), output = lent(take_size()), before = lent(state.len);
+
+    memcpy(before.at, state.at, state.len);
+    uint32_t returned = CALLED(cb_intake(state.at, state.len, piece.at, piece.len, output.at, output.len));
+    hold_number(CB_ANSWER(returned));
+    hold_number(CB_RECEIVED(returned));
+    hold_after(before.at, state);
+    HOLD_LEFT(output);
+}
+
+static struct octets started(void)
+{
+    struct octets state = lent(CB_STATE);
+
+    if (CALLED(cb_start(state.at, state.len)) != CB_DONE)
+        stop("cb_start refuses a state of CB_STATE octets");
+    return state;
+}
+
+static void sequence(void)
+{
+    struct octets state = started();
+
+    while (strchr(rest, ' ') != NULL) {
+        struct octets piece = take_octets(), output = lent(CB_OUTPUT);
+        uint32_t returned = CALLED(cb_intake(state.at, state.len, piece.at, piece.len, output.at, output.len));
+        hold_number(CB_ANSWER(returned));
+        hold_number(CB_RECEIVED(returned));
+        HOLD_LEFT(output);
+    }
+    hold_list(state.at, state.len, 1);
+}
+
+/* The same with the text of each page. */
+static void texts(void)
+{
+    struct octets state = started();
+
+    while (rest != NULL) {
+        struct octets piece = take_octets(), output = lent(CB_OUTPUT);
+        struct points text = lent_points(CB_TEXT);
+        uint32_t returned = CALLED(cb_intake(state.at, state.len, piece.at, piece.len, output.at, output.len));
+        hold_number(CB_ANSWER(returned));
+        hold_number(CB_RECEIVED(returned));
+        if (CB_ANSWER(returned) != CB_PAGE) {
+            hold("-");
+            continue;
+        }
+        uint32_t read = CALLED(cb_read_text(output.at, output.len, CB_RECEIVED(returned), text.at, text.len));
+        hold_list(text.at, CB_COUNT(read), sizeof *text.at);
+    }
+}
+
+static void write_blocks(void)
+{
+    bool schedule = take_number() != 0;
+    size_t used = take_size();
+    struct octets message = take_octets(), out = lent(take_size());
+
+    hold_number(CB_NUMBER(CALLED(cb_write_blocks(message.at, message.len, schedule, used, out.at, out.len))));
+    HOLD_LEFT(out);
+}
+
+/* A page parameter is page and total, 4 bits each. */
+static void try_halves(uint8_t parameter)
+{
+    if (CB_PAGE_OF(parameter) != parameter / 16u || CB_TOTAL_OF(parameter) != parameter % 16u)
+        stop("the halves of a page parameter are others");
+}
+
+static void write_text(void)
+{
+    uint16_t serial = (uint16_t)take_number(), identifier = (uint16_t)take_number();
+    uint8_t scheme = (uint8_t)take_number(), parameter = (uint8_t)take_number();
+    struct points text = take_points();
+    struct octets page = lent(take_size());
+    uint32_t returned =
+        CALLED(cb_write_text(serial, identifier, scheme, parameter, text.at, text.len, page.at, page.len));
+
+    hold_number(CB_NUMBER(returned));
+    hold_number(CB_COUNT(returned));
+    HOLD_LEFT(page);
+    if (CB_NUMBER(returned) != 0)
+        return;
+    uint64_t header = CALLED(cb_read_header(page.at, page.len));
+    if (CB_NUMBER(header) != 0 || CB_HEADER_SERIAL(header) != serial || CB_HEADER_IDENTIFIER(header) != identifier ||
+        CB_HEADER_SCHEME(header) != scheme || CB_HEADER_PARAMETER(header) != parameter)
+        stop("the page's header isn't what was written");
+    try_halves(CB_HEADER_PARAMETER(header));
+}
+
+static void read_text(void)
+{
+    struct octets page = take_octets();
+    size_t received = take_size();
+    struct points text = lent_points(take_size());
+    uint32_t returned = CALLED(cb_read_text(page.at, page.len, received, text.at, text.len));
+
+    hold_number(CB_NUMBER(returned));
+    hold_number(CB_COUNT(returned));
+    HOLD_LEFT(text);
+}
+
+static void content(void)
+{
+    struct octets page = take_octets();
+    size_t received = take_size();
+    uint32_t returned = CALLED(cb_content(page.at, page.len, received));
+
+    hold_number(CB_NUMBER(returned));
+    if (CB_NUMBER(returned) == 0)
+        hold_list(page.at + CB_HEADER, received - CB_HEADER, 1);
+    else
+        hold("-");
+}
+
+static void read_header(void)
+{
+    struct octets page = take_octets();
+    uint64_t returned = CALLED(cb_read_header(page.at, page.len));
+
+    hold_number(CB_NUMBER(returned));
+    hold_number(CB_HEADER_SCHEME(returned));
+    hold_number(CB_HEADER_SERIAL(returned));
+    hold_number(CB_HEADER_IDENTIFIER(returned));
+    hold_number(CB_HEADER_PARAMETER(returned));
+    try_halves(CB_HEADER_PARAMETER(returned));
+}
+
+/* A schedule with its descriptions in the message's order, which cb_slots must tell by their slots. */
+static void read_schedule(void)
+{
+    struct octets message = take_octets();
+    size_t received = take_size();
+    struct longs slots = lent_longs(CB_SLOTS);
+    uint32_t returned = CALLED(cb_read_schedule(message.at, message.len, received));
+
+    if (CALLED(cb_slots(message.at, message.len, received, slots.at, slots.len)) != returned)
+        stop("cb_slots returns something else than cb_read_schedule");
+    hold_number(CB_NUMBER(returned));
+    hold_number(CB_BEGIN(returned));
+    hold_number(CB_END(returned));
+    for (size_t place = 0;; place++) {
+        uint64_t given = CALLED(cb_description(message.at, message.len, received, place));
+        if (CB_NUMBER(given) != CB_NUMBER(returned))
+            stop("cb_description gives another number than cb_read_schedule");
+        if (CB_SLOT(given) == 0)
+            break;
+        hold_number(CB_SLOT(given));
+        hold_number(CB_NEW(given));
+        hold_number(CB_CODE(given));
+        uint32_t told = slots.at[CB_SLOT(given) - 1];
+        if (CB_SLOT_NEW(told) != CB_NEW(given) || CB_SLOT_CODE(told) != CB_CODE(given))
+            stop("cb_slots tells a slot in another way than cb_description");
+    }
+}
+
+static void description(void)
+{
+    struct octets message = take_octets();
+    size_t received = take_size(), place = take_size();
+    uint64_t returned = CALLED(cb_description(message.at, message.len, received, place));
+
+    hold_number(CB_NUMBER(returned));
+    hold_number(CB_SLOT(returned));
+    hold_number(CB_NEW(returned));
+    hold_number(CB_CODE(returned));
+}
+
+static void all_slots(void)
+{
+    struct octets message = take_octets();
+    size_t received = take_size();
+    struct longs slots = lent_longs(take_size());
+    uint32_t returned = CALLED(cb_slots(message.at, message.len, received, slots.at, slots.len));
+
+    hold_number(CB_NUMBER(returned));
+    hold_number(CB_BEGIN(returned));
+    hold_number(CB_END(returned));
+    HOLD_LEFT(slots);
+}
+
+static void read_plan(void)
+{
+    struct octets plan = take_octets();
+    uint32_t returned = CALLED(cb_read_plan(plan.at, plan.len));
+
+    hold_number(CB_NUMBER(returned));
+    hold_number(CB_COUNT(returned));
+}
+
+static void write_schedule(void)
+{
+    struct octets current = take_octets(), previous = take_octets();
+    size_t begin = take_size();
+    struct octets out = lent(take_size());
+    uint32_t returned =
+        CALLED(cb_write_schedule(current.at, current.len, previous.at, previous.len, begin, out.at, out.len));
+
+    hold_number(CB_NUMBER(returned));
+    hold_number(CB_COUNT(returned));
+    HOLD_LEFT(out);
+}
+
+static void check_schedule(void)
+{
+    struct octets current = take_octets(), previous = take_octets(), message = take_octets();
+    size_t received = take_size();
+    uint32_t returned = CALLED(cb_check_schedule(current.at, current.len, previous.at, previous.len,
+                                                 message.at, message.len, received));
+
+    hold_number(CB_NUMBER(returned));
+    hold_number(CB_COUNT(returned));
+}
+
+static void decide(void)
+{
+    bool known = take_number() != 0;
+    struct octets message = take_octets();
+    size_t received = take_size(), slot = take_size();
+    struct points wanted = take_points();
+    uint64_t held = take_number();
+    uint32_t returned =
+        CALLED(cb_decide(known, message.at, message.len, received, slot, wanted.at, wanted.len, held));
+
+    hold_number(CB_NUMBER(returned));
+    hold_number(CB_COUNT(returned));
+}
+
+static void enter(void)
+{
+    bool known = take_number() != 0;
+    struct octets message = take_octets();
+    size_t received = take_size(), slot = take_size();
+    uint64_t held = take_number();
+
+    hold_number(CALLED(cb_enter(known, message.at, message.len, received, slot, held)));
+}
+
+static const struct {
+    char letter;
+    void (*run)(void);
+} kinds[] = {
+    {'N', start}, {'I', intake}, {'Q', sequence}, {'V', texts}, {'B', write_blocks}, {'T', write_text},
+    {'R', read_text}, {'C', content}, {'H', read_header}, {'S', read_schedule}, {'G', description}, {'L', all_slots},
+    {'P', read_plan}, {'W', write_schedule}, {'K', check_schedule}, {'D', decide}, {'E', enter},
+};
+
+static void run_line(void)
+{
+    size_t kind = 0;
+
+    line[strcspn(line, "\n")] = '\0';
+    if (line[0] == '#')
+        return;
+    if (line[0] == 'X' || line[0] == 'A') { /* packing and the alphabet alone, which no call gives */
+        passed_over++;
+        return;
+    }
+    while (kind < sizeof kinds / sizeof kinds[0] && kinds[kind].letter != line[0])
+        kind++;
+    if (kind == sizeof kinds / sizeof kinds[0] || line[1] != ' ')
+        stop("a line of no kind");
+    rest = line + 2;
+    differs = false;
+    kinds[kind].run();
+    if (rest != NULL)
+        stop("the line goes on");
+    results++;
+    different += differs;
+    while (blocks_held > 0)
+        free(blocks[--blocks_held]);
+}
+
+int main(int count, char **names)
+{
+    if (numbers_wrong())
+        return 1;
+    for (int i = 1; i < count; i++) {
+        FILE *from = fopen(names[i], "r");
+        file = names[i];
+        line_number = 0;
+        if (from == NULL)
+            stop("can't be read");
+        while (line_number++, fgets(line, sizeof line, from) != NULL)
+            run_line();
+        fclose(from);
+    }
+    printf("tests/header: %lu results by %lu calls, %lu differ; %lu of what is no call passed over\n",
+           results, calls, different, passed_over);
+    return different != 0 || results == 0;
+}
