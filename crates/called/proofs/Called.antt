@@ -2,7 +2,7 @@
 use mathlib.Core.Path.{_≡_, refl, sym, ap, _∙_}
 use mathlib.Core.Bool.{Bool, true, false, not}
 use mathlib.Core.List.{List, [], _∷_}
-use Prim.Native.Nat.{ℕ, suc, _+_, _*_, _/_, _%_, _<_}
+use Prim.Native.Nat.{ℕ, zero, suc, _+_, _*_, _/_, _%_, _<_}
 use native.Mathlib.Omega.{arith}
 use lib.Dec.{eqb}
 use lib.ListN.{length}
@@ -13,11 +13,11 @@ use Rattle.checker.specs.Paper.{Checked, unchecked, check}
 use Rattle.board.specs.Paper.{Decided}
 use Rattle.block.specs.Paper.{lastUsed}
 use Rattle.edges.proofs.Accepted.{ours-accepted}
-use Rattle.obeyed.specs.Claims.{Obeys, WantedPage, Why}
+use Rattle.obeyed.specs.Claims.{Obeys, WantedPage, Why, after}
 use Rattle.obeyed.proofs.Obeyed.{wakes, wakes-only}
 use Rattle.capi.specs.Paper.{bitOf, fileFaults, writtenFrom, writeScheduleCall, checkedBeside, checkScheduleCall, decidedFor, decideCall}
 use Rattle.unpacked.proofs.Unpacked.{unpacked-write-schedule, unpacked-check-schedule, unpacked-decide}
-use Rattle.called.specs.Claims.{planIn, listed, CallsAccepted, ObeysCalls, CallsWake, CallsWakeOnly}
+use Rattle.called.specs.Claims.{planIn, listed, CallsAccepted, ObeysCalls, CallsWake, CallsWakeOnly, afterSlots, CallsPeriod}
 
 -- no test on two files holds
 abbrev Good : List ℕ → List ℕ → Type 0
@@ -86,3 +86,14 @@ calls-wake = wake
 
 pub calls-wake-only : CallsWakeOnly
 calls-wake-only = wake-only
+
+-- a decision to read, as the number that C sees
+read-one : (b : Bool) → eqb (bitOf b) 1 ≡ b
+read-one true = refl
+read-one false = refl
+
+pub calls-period : CallsPeriod
+unfolding after afterSlots
+calls-period c m received w lost b zero = refl
+calls-period c m received w lost b (suc n) =
+    rw (calls-period c m received w lost b n, unpacked-decide true m received (suc n) w (after c m received (listed w) lost b n .held) .1, read-one (decidedFor true m received (suc n) w (after c m received (listed w) lost b n .held) .read))

@@ -3,7 +3,7 @@ use mathlib.Core.Path.{_≡_, refl}
 use mathlib.Core.Bool.{true}
 use mathlib.Core.List.{List, [], _∷_, _++_, map}
 use Prim.Native.Nat.{ℕ, _*_}
-use lib.Dec.{lit≤}
+use lib.Dec.{lit<, lit≤}
 use lib.ListN.{replicate}
 use Rattle.laws.specs.Received.{wholeBlocks}
 use Rattle.laws.specs.Search.{some, firstFrom}
@@ -15,7 +15,8 @@ use Rattle.sender.specs.Paper as sender
 use Rattle.checker.specs.Paper.{check, isTrue}
 use Rattle.board.specs.Paper.{isWanted, isHeld, tellsOf, reads, decide}
 use Rattle.capi.specs.Paper.{writeScheduleCall, decideCall}
-use Rattle.called.specs.Claims.{planIn, ObeysCalls}
+use Rattle.obeyed.specs.Claims.{WantedPage}
+use Rattle.called.specs.Claims.{planIn, listed, ObeysCalls}
 
 -- 01 Where the edges are: a plan file of two slots, both serial number 0010, identifier 8001, parameter 11; and one of no slots
 abbrev current : List ℕ
@@ -36,6 +37,11 @@ written = refl
 pub obeys : ObeysCalls current previous message 22 (1 ∷ [])
 unfolding readPlan entriesIn entryIn check planNumber bad some read upto.some upto.count upto.lowest new place tells isTrue hasPage lowestSlot holds samePage firstFrom wholeBlocks
 obeys = record { accepted = refl; few = lit≤ tt }
+
+-- slot 1 is the lowest of a page whose identifier 8001 matches in 15 bits
+pub first-wanted : WantedPage (planIn current) (listed (1 ∷ [])) 0
+unfolding readPlan entriesIn entryIn bad some isWanted
+first-wanted = record { below = lit< tt; page = refl; wanted = refl }
 
 pub first-lowest : lowestAt (planIn current) 0 ≡ 1
 unfolding readPlan entriesIn entryIn bad some lowestSlot holds samePage firstFrom

@@ -1,14 +1,16 @@
 -- Demand 3 over the calls for C: on plan files, messages and the numbers that the calls return.
 use mathlib.Core.Path.{_≡_}
-use mathlib.Core.Bool.{true}
-use mathlib.Core.List.{List}
-use Prim.Native.Nat.{ℕ, suc, _*_, _/_, _%_, _≤_, _<_}
+use mathlib.Core.Bool.{Bool, true, cond}
+use mathlib.Core.List.{List, _∷_}
+use Prim.Native.Nat.{ℕ, zero, suc, _*_, _/_, _%_, _≤_, _<_}
+use lib.Dec.{eqb}
 use lib.ListN.{length}
 use Rattle.block.specs.Paper.{lastUsed}
-use Rattle.plan.specs.Paper.{Plan, readPlan, lowestAt}
+use Rattle.plan.specs.Paper.{Plan, readPlan, entryAt, pageAt, lowestAt}
 use Rattle.board.specs.Paper.{Wanted}
 use Rattle.capi.specs.Paper.{writeScheduleCall, checkScheduleCall, decideCall}
-use Rattle.obeyed.specs.Claims.{WantedPage, Why}
+use Rattle.board_calls.specs.Paper.{enterCall}
+use Rattle.obeyed.specs.Claims.{WantedPage, Why, Board, after}
 
 -- 01 The plan: the plan that a file holds
 abbrev pub planIn : List ℕ → Plan
@@ -45,3 +47,26 @@ abbrev pub CallsWakeOnly : Type 0
 CallsWakeOnly =
     (c p m : List ℕ) (received : ℕ) (w : List ℕ) → ObeysCalls c p m received w
     → (held i : ℕ) → i < planIn c .count → decideCall true m received (suc i) w held / 256 ≡ 1 → Why (planIn c) m (listed w) held i
+
+-- 01 Decision: a board in C gets the page planned for slot i, and enters it by cb_enter
+abbrev pub enteringCall : Plan → List ℕ → ℕ → ℕ → Board → Board
+enteringCall c m received i b = record { held = enterCall true m received (suc i) (b .held); got = pageAt c i ∷ b .got }
+
+-- 01 Decision: slot i passes a board in C, which reads where cb_decide says so
+abbrev pub passingCall : Plan → List ℕ → ℕ → List ℕ → ℕ → Board → Board
+passingCall c m received w i b =
+    cond (eqb (decideCall true m received (suc i) w (b .held) / 256) 1)
+    (cond (eqb (entryAt c i .kind) 2) (enteringCall c m received i b) b)
+    b
+
+-- 00 demand 3, for C: a board b after the first n slots of a period; a slot that is lost to its radio gives it nothing
+unfoldable pub afterSlots : Plan → List ℕ → ℕ → List ℕ → (ℕ → Bool) → Board → ℕ → Board
+afterSlots c m received w lost b zero = b
+afterSlots c m received w lost b (suc n) =
+    cond (lost n) (afterSlots c m received w lost b n) (passingCall c m received w n (afterSlots c m received w lost b n))
+
+-- 00 demand 3, for C: a board that asks cb_decide at each slot and enters what it gets by cb_enter is, slot after slot, the board of which `obeyed` speaks
+abbrev pub CallsPeriod : Type 0
+CallsPeriod =
+    (c : Plan) (m : List ℕ) (received : ℕ) (w : List ℕ) (lost : ℕ → Bool) (b : Board) (n : ℕ)
+    → afterSlots c m received w lost b n ≡ after c m received (listed w) lost b n

@@ -1,1 +1,1 @@
-// The numbers that `capi` packs into one, taken out again: theorems on its calls. No code of its own.
+// What the calls for C pack into one number, taken out again: theorems on the calls. No code of its own.
