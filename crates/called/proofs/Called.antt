@@ -65,7 +65,7 @@ calls-accepted c p b o z =
     })
 
 module _ (c p m : List ℕ) (received : ℕ) (w : List ℕ) (o : ObeysCalls c p m received w) where
-  obeys : Obeys (planIn c) (planIn p) m received (listed w)
+  pub obeys : Obeys (planIn c) (planIn p) m received (listed w)
   obeys = record { accepted = accepts c p m received (o .accepted); few = o .few }
 
   wake : (held i : ℕ) → WantedPage (planIn c) (listed w) i → lowestAt (planIn c) i ≡ suc i → decideCall true m received (suc i) w held ≡ 256

@@ -1,1 +1,1 @@
-// Demand 3 over the calls for C. No functions.
+// Demand 3 over the calls for C. No code of its own.
