@@ -1,7 +1,7 @@
 -- Demand 3 over the calls for C follows from demand 3, for each number comes out of what a call returns.
 use mathlib.Core.Path.{_≡_, refl, sym, ap, _∙_}
 use mathlib.Core.Bool.{Bool, true, false, not}
-use mathlib.Core.List.{List, [], _∷_}
+use mathlib.Core.List.{List, _∷_}
 use Prim.Native.Nat.{ℕ, zero, suc, _+_, _*_, _/_, _%_, _<_}
 use native.Mathlib.Omega.{arith}
 use lib.Dec.{eqb}
@@ -15,7 +15,7 @@ use Rattle.block.specs.Paper.{lastUsed}
 use Rattle.edges.proofs.Accepted.{ours-accepted}
 use Rattle.obeyed.specs.Claims.{Obeys, WantedPage, Why, after}
 use Rattle.obeyed.proofs.Obeyed.{wakes, wakes-only}
-use Rattle.capi.specs.Paper.{bitOf, fileFaults, writtenFrom, writeScheduleCall, checkedBeside, checkScheduleCall, decidedFor, decideCall}
+use Rattle.capi.specs.Paper.{bitOf, fileFaults, writtenFrom, checkedBeside, checkScheduleCall, decidedFor, decideCall}
 use Rattle.unpacked.proofs.Unpacked.{unpacked-write-schedule, unpacked-check-schedule, unpacked-decide}
 use Rattle.called.specs.Claims.{planIn, listed, CallsAccepted, ObeysCalls, CallsWake, CallsWakeOnly, afterSlots, CallsPeriod}
 

@@ -14,14 +14,14 @@ use Rattle.lines.specs.Turns.{GoesOn}
 use Rattle.lines.proofs.Chunks.{listing-append}
 use Rattle.lines.proofs.Pieces.{cut-append}
 
--- whole pieces and what follows them are cut apart
-cut-behind : (xs ys : List ℕ) → length xs % 23 ≡ 0 → cut (xs ++ ys) ≡ cut xs ++ cut ys
+-- whole chunks and what follows them are cut apart
+cut-behind : (xs ys : List ℕ) → length xs % 23552 ≡ 0 → cut (xs ++ ys) ≡ cut xs ++ cut ys
 cut-behind xs ys e = cut-append (length xs / 23) xs ys (omega arith)
 
 -- what holds between two chunks: state and number are those that the log so far leaves
 pub record Going (f : ℕ → Given → List ℕ) (state text : List ℕ) (number end : ℕ) : Type 0 where
   pub all : List ℕ
-  pub whole : length all % 23 ≡ 0
+  pub whole : length all % 23552 ≡ 0
   pub states : state ≡ lent (after start (cut all))
   pub counted : number ≡ movedOn 1 all
   pub told : GoesOn f state text end
