@@ -114,10 +114,12 @@ int main(int count, char **words)
     for (int i = 1; i < count; i++)
         wanted[wanted_count++] = (uint16_t)strtoul(words[i], NULL, 16);
 
-    cb_start(state, sizeof state);
     while ((length = fread(piece, 1, sizeof piece, stdin)) > 0 && !ferror(stdin)) {
-        if (pieces++ % SLOT_PIECES == 0)
+        if (pieces++ % SLOT_PIECES == 0) {
+            /* No message goes across slots; without this a block after a sleep could go on with what an earlier slot began. */
+            cb_start(state, sizeof state);
             awake = wakes();
+        }
         if (!awake)
             continue;
         uint32_t returned = cb_intake(state, sizeof state, piece, length, output, sizeof output);
