@@ -103,6 +103,15 @@ static void take_page(const uint8_t *page, size_t received)
     putchar('\n');
 }
 
+/* Enters a word among the identifiers wanted, and tells whether it is one. */
+static bool want(const char *word)
+{
+    size_t digits = strspn(word, "0123456789ABCDEFabcdef");
+
+    wanted[wanted_count++] = (uint16_t)strtoul(word, NULL, 16);
+    return digits >= 1 && digits <= 4 && word[digits] == '\0';
+}
+
 int main(int count, char **words)
 {
     uint8_t state[CB_STATE], piece[CB_PIECE], output[CB_OUTPUT];
@@ -112,7 +121,8 @@ int main(int count, char **words)
     if (count - 1 > CB_MOST_WANTED)
         return fail("more identifiers than can be wanted");
     for (int i = 1; i < count; i++)
-        wanted[wanted_count++] = (uint16_t)strtoul(words[i], NULL, 16);
+        if (!want(words[i]))
+            return fail("an identifier isn't 1 to 4 hex digits");
 
     while ((length = fread(piece, 1, sizeof piece, stdin)) > 0 && !ferror(stdin)) {
         if (pieces++ % SLOT_PIECES == 0) {
