@@ -103,6 +103,15 @@ static void take_page(const uint8_t *page, size_t received)
     putchar('\n');
 }
 
+/* Enters a word among the identifiers wanted, and tells whether it is one. */
+static bool want(const char *word)
+{
+    size_t digits = strspn(word, "0123456789ABCDEFabcdef");
+
+    wanted[wanted_count++] = (uint16_t)strtoul(word, NULL, 16);
+    return digits >= 1 && digits <= 4 && word[digits] == '\0';
+}
+
 int main(int count, char **words)
 {
     uint8_t state[CB_STATE], piece[CB_PIECE], output[CB_OUTPUT];
@@ -112,12 +121,15 @@ int main(int count, char **words)
     if (count - 1 > CB_MOST_WANTED)
         return fail("more identifiers than can be wanted");
     for (int i = 1; i < count; i++)
-        wanted[wanted_count++] = (uint16_t)strtoul(words[i], NULL, 16);
+        if (!want(words[i]))
+            return fail("an identifier isn't 1 to 4 hex digits");
 
-    cb_start(state, sizeof state);
     while ((length = fread(piece, 1, sizeof piece, stdin)) > 0 && !ferror(stdin)) {
-        if (pieces++ % SLOT_PIECES == 0)
+        if (pieces++ % SLOT_PIECES == 0) {
+            /* No message goes across slots; without this a block after a sleep could go on with what an earlier slot began. */
+            cb_start(state, sizeof state);
             awake = wakes();
+        }
         if (!awake)
             continue;
         uint32_t returned = cb_intake(state, sizeof state, piece, length, output, sizeof output);

@@ -15,6 +15,8 @@ CLOSED_PAGE = page(0x4A31, 0x0032, 0x11, packed(CLOSED))
 CLOSED_LINE = "page 4A31 0032 1/1 " + CLOSED.replace("£", "<00A3>")
 TIDES_PAGE = page(0x4A32, 0x8ABC, 0x12, packed("High water 10:42"))
 TIDES_LINE = "page 4A32 8ABC 1/2 High water 10:42"
+# a later page of 0032, in two blocks
+OPEN_PAGE = page(0x4A33, 0x0032, 0x11, packed("Track 7 is open from 06:00 on"))
 # another alphabet, in one block
 FOREIGN_PAGE = page(0x4B01, 0xF0E1, 0xFF, bytes([0x00, 0x4B, 0x00, 0xE1, 0x01, 0x51]), scheme=0x48)
 FOREIGN_LINE = "page 4B01 F0E1 15/15 004B00E10151" + 10 * "2B"
@@ -24,9 +26,13 @@ FOREIGN_LINE = "page 4B01 F0E1 15/15 004B00E10151" + 10 * "2B"
 TOLD = bytes([0xD0, 0, 0, 0, 0, 0, 0x80, 0x32, 0x01, 0x41, 0xF7, 0x77, 0x8A, 0xBC, 0x05, 0x05])
 TOLD_LINE = "new 0032 new again 1 7777 new advised 0ABC again 5 again 5"
 
+# Nothing new: reading slot 1 advised, and first transmissions of 7777 in slot 2 and of 0032 in slot 3.
+THREE = bytes([0, 0, 0, 0, 0, 0, 0x41, 0xF7, 0x77, 0x80, 0x32])
+THREE_LINE = "advised 7777 0032"
 
-def schedule(begin, end):
-    return (bytes([begin, end]) + TOLD).ljust(88, b"\x2B")
+
+def schedule(begin, end, told=TOLD):
+    return (bytes([begin, end]) + told).ljust(88, b"\x2B")
 
 
 def null(number=1):
@@ -73,6 +79,14 @@ SLOTS = [
     (blocks(TIDES_PAGE, [0x20, 0x31, 0x32, 0x33]), ["slot 7: skip"]),
     # after End no schedule is known
     (blocks(FOREIGN_PAGE, [0x30, 0x31, 0x32, 0x33]), [FOREIGN_LINE]),
+    # another period
+    (blocks(schedule(1, 3, THREE), [0x38, 0x31, 0x32, 0x33]), ["schedule from 1 to 3: " + THREE_LINE]),
+    # slot 1 ends with the first block of a page, and slot 2 isn't wanted
+    (null(3) + blocks(CLOSED_PAGE, [0x20]), ["slot 1: read"] + [f"piece P+{i} refused by 5" for i in range(3)]),
+    (blocks(FOREIGN_PAGE, [0x30, 0x31, 0x32, 0x33]), ["slot 2: skip"]),
+    # so the second block of another page, with which slot 3 begins, doesn't go on with the first of slot 1
+    (blocks(OPEN_PAGE, [0, 0x31, 0x32, 0x33])[1:] + null(),
+     ["slot 3: read"] + [f"piece P+{i} refused by 6" for i in range(3)] + ["piece P+3 refused by 5"]),
     # a short tail, whatever it says
     (blocks(NOTHING, [0x20]) + [bytes([0x31, 0, 0])], ["piece P+1 refused by 2"]),
 ]

@@ -38,6 +38,26 @@ static size_t load(const char *name, uint8_t *file, size_t room)
     return length;
 }
 
+/* Reads Begin, the number of a slot in decimal. */
+static size_t read_begin(const char *word)
+{
+    size_t digits = strspn(word, "0123456789"), begin = strtoul(word, NULL, 10);
+
+    if (word[digits] != '\0' || begin < 1 || begin > CB_SLOTS)
+        exit(fail("Begin isn't a number from 1 to 48", 0));
+    return begin;
+}
+
+/* Shows how many slots a plan has. */
+static void show_plan(const char *which, const uint8_t *file, size_t length)
+{
+    uint32_t read = cb_read_plan(file, length);
+
+    if (CB_NUMBER(read) != 0)
+        exit(fail(which, CB_NUMBER(read)));
+    printf("%s: %u slots\n", which, (unsigned)CB_COUNT(read));
+}
+
 /* Finds the first transmissions of the lowest and of the highest slot: both 0 where there is none. */
 static void find_firsts(const uint8_t *message, uint32_t *lowest, uint32_t *highest)
 {
@@ -75,18 +95,11 @@ int main(int count, char **words)
         return fail("name two plan files and Begin", 0);
     size_t current_len = load(words[1], current, sizeof current);
     size_t previous_len = load(words[2], previous, sizeof previous);
+    size_t begin = read_begin(words[3]);
+    show_plan("current plan", current, current_len);
+    show_plan("previous plan", previous, previous_len);
 
-    uint32_t read = cb_read_plan(current, current_len);
-    if (CB_NUMBER(read) != 0)
-        return fail("the current plan", CB_NUMBER(read));
-    printf("current plan: %u slots\n", (unsigned)CB_COUNT(read));
-    read = cb_read_plan(previous, previous_len);
-    if (CB_NUMBER(read) != 0)
-        return fail("the previous plan", CB_NUMBER(read));
-    printf("previous plan: %u slots\n", (unsigned)CB_COUNT(read));
-
-    uint32_t written = cb_write_schedule(current, current_len, previous, previous_len, strtoul(words[3], NULL, 10),
-                                         message, sizeof message);
+    uint32_t written = cb_write_schedule(current, current_len, previous, previous_len, begin, message, sizeof message);
     if (CB_NUMBER(written) != 0)
         return fail("the schedule", CB_NUMBER(written));
     uint32_t checked = cb_check_schedule(current, current_len, previous, previous_len, message, sizeof message, CB_OUTPUT);

@@ -8,6 +8,7 @@
  */
 #include <stdio.h>
 #include <stdlib.h>
+#include <string.h>
 
 #include "csobvarit.h"
 
@@ -36,6 +37,16 @@ static size_t load(const char *name, uint8_t *file, size_t room)
     return length;
 }
 
+/* Reads Begin, the number of a slot in decimal. */
+static size_t read_begin(const char *word)
+{
+    size_t digits = strspn(word, "0123456789"), begin = strtoul(word, NULL, 10);
+
+    if (word[digits] != '\0' || begin < 1 || begin > CB_SLOTS)
+        exit(fail("Begin isn't a number from 1 to 48", 0));
+    return begin;
+}
+
 static uint16_t sixteen(const uint8_t *octets)
 {
     return (uint16_t)(octets[0] << 8 | octets[1]);
@@ -52,10 +63,9 @@ int main(int count, char **words)
         return fail("name two plan files and Begin", 0);
     size_t current_len = load(words[1], current, sizeof current);
     size_t previous_len = load(words[2], previous, sizeof previous);
-    size_t begin = strtoul(words[3], NULL, 10);
+    size_t begin = read_begin(words[3]);
 
-    uint32_t told =
-        cb_write_schedule(current, current_len, previous, previous_len, begin, schedule, sizeof schedule);
+    uint32_t told = cb_write_schedule(current, current_len, previous, previous_len, begin, schedule, sizeof schedule);
     if (CB_NUMBER(told) != 0)
         return fail("the schedule", CB_NUMBER(told));
 

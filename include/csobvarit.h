@@ -60,6 +60,9 @@ extern "C" {
  * Makes a state ready for its first piece. Call it once before the first cb_intake, at every power-up:
  * what memory happens to hold can look like a message half taken, and cb_intake can't tell.
  *
+ * Call it too whenever pieces of the channel were not handed over, because the board slept through them or lost them:
+ * cb_intake can't tell that either, and a block after the gap could go on with a message begun before it.
+ *
  *   CB_DONE             state: no message, 88 octets of 2B
  *   CB_STATE_IMPROPER   state_len isn't 90; state: untouched
  */
@@ -83,7 +86,8 @@ uint32_t cb_start(uint8_t *state, size_t state_len);
  * by the code. A first block begins a message anew, whatever is held; a message is complete at the last-block mark or at
  * its fourth block (GSM 04.12, 3.3.1).
  *
- * Give each call the state as the call before left it. Nothing is kept elsewhere, so two channels take two states.
+ * Give each call the state as the call before left it, if its piece is the channel's next; otherwise as cb_start leaves
+ * it. Nothing is kept elsewhere, so two channels take two states.
  */
 uint32_t cb_intake(uint8_t *state, size_t state_len, const uint8_t *piece, size_t piece_len,
                    uint8_t *output, size_t output_len);

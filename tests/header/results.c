@@ -287,7 +287,7 @@ static void sequence(void)
 {
     struct octets state = started();
 
-    while (strchr(rest, ' ') != NULL) {
+    while (rest != NULL && strchr(rest, ' ') != NULL) {
         struct octets piece = take_octets(), output = lent(CB_OUTPUT);
         uint32_t returned = CALLED(cb_intake(state.at, state.len, piece.at, piece.len, output.at, output.len));
         hold_number(CB_ANSWER(returned));
@@ -550,6 +550,8 @@ int main(int count, char **names)
             stop("can't be read");
         while (line_number++, fgets(line, sizeof line, from) != NULL)
             run_line();
+        if (ferror(from))
+            stop("can't be read on");
         fclose(from);
     }
     printf("tests/header: %lu results by %lu calls, %lu differ; %lu of what is no call passed over\n",
