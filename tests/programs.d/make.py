@@ -115,18 +115,38 @@ SENTENCES = [
 ]
 
 
+def sent(i, text, used):
+    """The four blocks of page i."""
+    scheme = 0x11 if i % 7 == 1 else i % 16
+    octets = (0x4000 + i).to_bytes(2, "big") + (0xF000 ^ 31 * i).to_bytes(2, "big") + bytes([scheme, 0x11 + i % 3]) + packed(text)
+    return blocks(octets, used, first=0)
+
+
 def pages_log():
     """Pages in fours of blocks behind two pieces, so that one lies across each border of a chunk of 1,024; then a tail."""
     parts = [NULL, RESERVED]
     for i in range(537):
         text = SENTENCES[i % 5].format(i)
-        scheme = 0x11 if i % 7 == 1 else i % 16
-        octets = (0x4000 + i).to_bytes(2, "big") + (0xF000 ^ 31 * i).to_bytes(2, "big") + bytes([scheme, 0x11 + i % 3]) + packed(text)
         # the two pages that lie across a border use all four blocks
         used = 88 if i in (255, 511) else 6 + (7 * len(text) + 7) // 8
-        parts.append(OTHERS if i % 20 == 19 and i not in (255, 511) else blocks(octets, used, first=0))
+        parts.append(OTHERS if i % 20 == 19 and i not in (255, 511) else sent(i, text, used))
     parts.append(b"\x20" + b"\x00" * 8)
     return b"".join(parts)
+
+
+def chunk_log():
+    """A whole chunk of 1,024 pieces and nothing behind it: its last piece ends a schedule message for FULL."""
+    return OTHERS * 255 + blocks(*message(48, told(FULL, [])))
+
+
+def chunks_log():
+    """Two whole chunks and nothing behind them: a page starts at the border, and the last piece ends another."""
+    return chunk_log() + sent(3, "Gate 1025", 88) + OTHERS * 254 + sent(4, "Gate 2048", 88)
+
+
+def true_in(log):
+    """What cbcheck prints for a log of true schedule messages."""
+    return "".join(f"{number} 0 0 true\n" for number, answer, _, _ in taken_in(log) if answer == 7).encode()
 
 
 def schedules():
@@ -193,6 +213,11 @@ FILES = {
     "schedules.log": schedules_log(),
     "schedules.list": listed(schedules_log()),
     "schedules.check": checked(),
+    "chunk.log": chunk_log(),
+    "chunk.list": listed(chunk_log()),
+    "chunk.check": true_in(chunk_log()),
+    "chunks.log": chunks_log(),
+    "chunks.text": shown(chunks_log()),
 }
 
 if __name__ == "__main__":
