@@ -6,46 +6,10 @@
  * CURRENT and PREVIOUS are plan files. The text, in Latin 1, is that of the page in slot BEGIN of the current plan. All eight
  * blocks are made before the first is written: what is refused goes out in no part.
  */
-#include <stdio.h>
-#include <stdlib.h>
-#include <string.h>
+#define PROGRAM "sender"
+#include "arguments.h"
 
-#include "csobvarit.h"
-
-enum { ROOM = CB_PLAN + 1, ENTRY = 6, PAGE = 2 };
-
-static int fail(const char *what, uint32_t number)
-{
-    if (number != 0)
-        fprintf(stderr, "sender: %s: refused by %u\n", what, (unsigned)number);
-    else
-        fprintf(stderr, "sender: %s\n", what);
-    return 1;
-}
-
-/* Reads a file that has at most `room` octets of use; one octet more shows that it is too long. */
-static size_t load(const char *name, uint8_t *file, size_t room)
-{
-    FILE *from = fopen(name, "rb");
-    size_t length = from == NULL ? 0 : fread(file, 1, room, from);
-
-    if (from == NULL || ferror(from)) {
-        fprintf(stderr, "sender: %s can't be read\n", name);
-        exit(1);
-    }
-    fclose(from);
-    return length;
-}
-
-/* Reads Begin, the number of a slot in decimal. */
-static size_t read_begin(const char *word)
-{
-    size_t digits = strspn(word, "0123456789"), begin = strtoul(word, NULL, 10);
-
-    if (word[digits] != '\0' || begin < 1 || begin > CB_SLOTS)
-        exit(fail("Begin isn't a number from 1 to 48", 0));
-    return begin;
-}
+enum { ENTRY = 6, PAGE = 2 };
 
 static uint16_t sixteen(const uint8_t *octets)
 {
