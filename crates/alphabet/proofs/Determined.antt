@@ -1,7 +1,5 @@
 -- Two answers that meet a public contract of this crate are equal, lent memory included.
-use mathlib.Core.Path.{_≡_, sym, _∙_}
-use mathlib.Core.List.{List}
-use Prim.Native.Nat.{ℕ}
+use Rattle.laws.proofs.Base.{_≡_, sym, _∙_, List, ℕ}
 use Rattle.laws.specs.Table.{onto}
 use Rattle.alphabet.specs.Paper.{codePoint, septetOf}
 

@@ -1,14 +1,5 @@
 -- Laws of the default alphabet: finding a septet undoes reading one, 1B aside, and finds nothing else.
-use mathlib.Core.Path.{_≡_, refl, sym, _∙_}
-use mathlib.Core.Bool.{Bool, true, false, not, _&&_, _||_}
-use mathlib.Core.List.{List, [], _∷_}
-use mathlib.Core.Logic.{_⊎_, inl, inr}
-use Prim.Native.Nat.{ℕ, suc, _+_, _<_, _≤_}
-use native.Mathlib.Nat.{mod-eq-of-lt, zero-add, add-zero, add-suc, suc-add, zero-lt-suc}
-use native.Mathlib.Omega.{arith}
-use lib.Dec.{eqb, ltb}
-use lib.ListN.{length, getD}
-use borrow.Author.Tests.{eqb-true, eqb-false, ltb-true, ne-eqb, not-true}
+use Rattle.laws.proofs.Base.{_≡_, refl, sym, _∙_, Bool, true, false, not, _&&_, _||_, List, [], _∷_, _⊎_, inl, inr, ℕ, suc, _+_, _<_, _≤_, mod-eq-of-lt, zero-add, add-zero, add-suc, suc-add, zero-lt-suc, arith, eqb, ltb, length, getD, eqb-true, eqb-false, ltb-true, ne-eqb, not-true}
 use Rattle.laws.specs.Table.{every}
 use Rattle.laws.proofs.Table.{at}
 use Rattle.laws.proofs.Tests.{both}

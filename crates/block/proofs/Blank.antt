@@ -1,13 +1,5 @@
 -- Laws of octets that are all 2B.
-use mathlib.Core.Path.{_≡_, refl, sym, ap, _∙_}
-use mathlib.Core.Bool.{Bool, true, false, _&&_, and-false, false≢true}
-use mathlib.Core.List.{List, [], _∷_}
-use Prim.Native.Nat.{ℕ, _+_, _≤_, _<_}
-use native.Mathlib.Numerals.{add-one}
-use lib.ListN.{length, drop, getD, replicate, drop-of-length-le}
-use lib.Seq.{drop-cons}
-use lib.Dec.{eqb}
-use borrow.Author.Tests.{eq-eqb, ne-eqb, eqb-true}
+use Rattle.laws.proofs.Base.{_≡_, refl, sym, ap, _∙_, Bool, true, false, _&&_, and-false, false≢true, List, [], _∷_, ℕ, _+_, _≤_, _<_, add-one, length, drop, getD, replicate, drop-of-length-le, drop-cons, eqb, eq-eqb, ne-eqb, eqb-true}
 use Rattle.block.specs.Paper.{allBlank}
 
 module _ (xs : List ℕ) (i : ℕ) where

@@ -1,13 +1,7 @@
 -- Answers that meet a contract of `block` are equal, lent memory included.
-use mathlib.Core.Path.{_≡_, refl, sym, ap, _∙_}
-use mathlib.Core.Bool.{Bool, cond}
-use mathlib.Core.List.{List}
-use Prim.Native.Nat.{ℕ}
-use native.Mathlib.Omega.{arith}
-use lib.Dec.{eqb}
-use borrow.Author.Tests.{ne-eqb}
-use Rattle.answer.specs.Number.{numberOf}
-use Rattle.answer.proofs.Inverse.{refusalOf, refusalOf-numberOf, not-listed, numberOf-positive}
+use Rattle.laws.proofs.Base.{_≡_, refl, sym, ap, _∙_, Bool, cond, List, ℕ, arith, eqb, ne-eqb}
+use Rattle.refusals.specs.Number.{numberOf}
+use Rattle.refusals.proofs.Inverse.{refusalOf, refusalOf-numberOf, not-listed, numberOf-positive}
 use Rattle.block.specs.declared.Kind.{Kind as KindCode}
 use Rattle.block.specs.declared.Kind.the-variants.{Page, Schedule}
 use Rattle.block.specs.declared.Sent.{Sent}
@@ -18,9 +12,9 @@ use Rattle.block.specs.declared.Place.the-variants.{None, First, Next}
 use Rattle.block.specs.declared.Answer.{Answer}
 use Rattle.block.specs.declared.Answer.the-variants as answers
 use Rattle.block.specs.declared.Reply.{Reply}
-use Rattle.block.specs.Paper.{Kind, page, schedule, kindNumber, Left, Given, written, proper, start, step}
-use Rattle.block.specs.Place.{Place, none, first, next, placeOf}
-use Rattle.block.specs.Coded.{kindOf, sentOf, held, heldOf, placed, answerOf, givenOf}
+use Rattle.block.specs.Paper.{Kind, page, schedule, kindNumber, BlocksLeft, Given, written, proper, start, step}
+use Rattle.block.specs.Inner.{Place, none, first, next, placeOf}
+use Rattle.block.specs.Coded.{kindOf, sentOf, stateWith, heldOf, placed, answerOf, givenOf}
 
 -- the writer's answer by its number
 abbrev sentFrom : ℕ → Sent
@@ -38,14 +32,14 @@ pub determined-write-blocks : (m : List ℕ) (k : KindCode) (used : ℕ) (out : 
     → sentOf r o ≡ written m (kindOf k) used out → sentOf s q ≡ written m (kindOf k) used out → (r ≡ s) × (o ≡ q)
 determined-write-blocks m k used out r s o q a b =
     let e = a ∙ sym b in (
-      sym (sentFrom-sentOf r o) ∙ ap (λ (x : Left). sentFrom (x .number)) e ∙ sentFrom-sentOf s q,
-      sym (sent-output r o) ∙ ap (λ (x : Left). x .output) e ∙ sent-output s q,
+      sym (sentFrom-sentOf r o) ∙ ap (λ (x : BlocksLeft). sentFrom (x .number)) e ∙ sentFrom-sentOf s q,
+      sym (sent-output r o) ∙ ap (λ (x : BlocksLeft). x .output) e ∙ sent-output s q,
     )
 
 pub determined-start : (r s : State) → heldOf r ≡ start → heldOf s ≡ start → r ≡ s
 determined-start r s a b = λ i. record { kind = (a ∙ sym b) i .kind; taken = (a ∙ sym b) i .taken; octets = (a ∙ sym b) i .octets }
 
-pub determined-is-proper : (kind taken : ℕ) (octets : List ℕ) (r s : Bool) → r ≡ proper (held kind taken octets) → s ≡ proper (held kind taken octets) → r ≡ s
+pub determined-is-proper : (kind taken : ℕ) (octets : List ℕ) (r s : Bool) → r ≡ proper (stateWith kind taken octets) → s ≡ proper (stateWith kind taken octets) → r ≡ s
 determined-is-proper kind taken octets r s a b = a ∙ sym b
 
 -- the code's kind and place by the paper's

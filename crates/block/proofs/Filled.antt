@@ -1,10 +1,5 @@
 -- Laws of a message that is filled up with 2B, and of one block more in it.
-use mathlib.Core.Path.{_≡_, sym, ap, _∙_}
-use mathlib.Core.List.{List, _++_, append-assoc}
-use Prim.Native.Nat.{ℕ, _+_, _*_, _-_, _≤_}
-use native.Mathlib.Omega.{arith}
-use lib.ListN.{length, take, drop, replicate, length-append, length-take, length-drop}
-use lib.Seq.{drop-drop, take-all}
+use Rattle.laws.proofs.Base.{_≡_, sym, ap, _∙_, List, _++_, append-assoc, ℕ, _+_, _*_, _-_, _≤_, arith, length, take, drop, replicate, length-append, length-take, length-drop, drop-drop, take-all}
 use borrow.Rule.Slice.PartMut.{midOf, putMid}
 use Rattle.laws.proofs.Parts.{put-copy, drop-replicate}
 use Rattle.block.specs.Paper.{filled}

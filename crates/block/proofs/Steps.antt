@@ -1,18 +1,11 @@
 -- The cases of `step`: what it is for an improper state, and for a proper one by the place of the piece.
-use mathlib.Core.Path.{_≡_, refl, sym, ap, _∙_}
-use mathlib.Core.Bool.{Bool, true, false, cond, false≢true, _&&_}
-use mathlib.Core.List.{List, []}
-use Prim.Native.Nat.{ℕ, suc, _*_, _-_, _≤_}
-use native.Mathlib.Omega.{arith}
-use lib.ListN.{length, drop, replicate, length-drop}
-use lib.Dec.{eqb, leb, lit≤}
-use borrow.Author.Tests.{eqb-true, leb-true, not-false}
+use Rattle.laws.proofs.Base.{_≡_, refl, sym, ap, _∙_, Bool, true, false, cond, false≢true, _&&_, List, [], ℕ, suc, _*_, _-_, _≤_, arith, length, drop, replicate, length-drop, eqb, leb, lit≤, eqb-true, leb-true, not-false}
 use Rattle.laws.specs.Ruled.{ruled}
 use Rattle.laws.proofs.Ruled.{ruled-map, ruling, Ruling, refuses, passes}
 use Rattle.laws.proofs.Tests.{both}
 use Rattle.block.specs.Paper.{page, schedule, kindNumber, Held, Given, proper, refusal, code, follows, faults, last, made, added, step, blank}
-use Rattle.block.specs.Place.{Place, none, first, next, placeOf}
-use Rattle.block.specs.Coded.{held, outcome, Adds}
+use Rattle.block.specs.Inner.{Place, none, first, next, placeOf}
+use Rattle.block.specs.Coded.{stateWith, outcome, Adds}
 use Rattle.block.proofs.Blank.{allBlank-is}
 
 pub step-improper : (h : Held) (p : List ℕ) → proper h ≡ false → step h p ≡ refusal 8
@@ -22,7 +15,7 @@ step-improper h p e = rw e
 -- the answer that a place means for a piece and a proper state
 abbrev pub met : Held → List ℕ → Place → Given
 met h p (none n) = refusal n
-met h p (first k l) = outcome l (added (held (kindNumber k) 0 []) p)
+met h p (first k l) = outcome l (added (stateWith (kindNumber k) 0 []) p)
 met h p (next l) = outcome l (added h p)
 
 -- where nothing refuses, the place gives the answer of the paper

@@ -1,14 +1,5 @@
 -- Laws of the blocks of a message, and of one turn of the loop that writes them.
-use mathlib.Core.Path.{_≡_, refl, sym, ap, _∙_}
-use mathlib.Core.Bool.{Bool, true, false}
-use mathlib.Core.List.{List, [], _∷_, _++_, append-assoc, append-nil}
-use Prim.Native.Nat.{ℕ, zero, suc, _+_, _*_, _-_, _≤_, _<_}
-use native.Mathlib.Nat.{le-of-lt}
-use native.Mathlib.Numerals.{add-one}
-use native.Mathlib.Omega.{arith}
-use lib.ListN.{length, take, drop, set, length-append, length-take, length-drop, length-set, drop-of-length-le}
-use lib.Seq.{take-at, drop-at, drop-drop, take-suc-set, drop-set-lt}
-use lib.Dec.{eqb, lit≤}
+use Rattle.laws.proofs.Base.{_≡_, refl, sym, ap, _∙_, Bool, true, false, List, [], _∷_, _++_, append-assoc, append-nil, ℕ, zero, suc, _+_, _*_, _-_, _≤_, _<_, le-of-lt, add-one, arith, length, take, drop, set, length-append, length-take, length-drop, length-set, drop-of-length-le, take-at, drop-at, drop-drop, take-suc-set, drop-set-lt, eqb, lit≤}
 use borrow.Rule.Slice.PartMut.{midOf, putMid}
 use Rattle.laws.proofs.Parts.{put-copy}
 use Rattle.block.specs.Paper.{Kind, page, schedule, firstCode, codeOf, typeOf, block, blocks}

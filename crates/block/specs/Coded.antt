@@ -4,7 +4,7 @@ use mathlib.Core.List.{List}
 use mathlib.Core.Path.{_≡_}
 use Prim.Native.Nat.{ℕ, _*_, _-_, _≤_}
 use lib.ListN.{length, drop, replicate}
-use Rattle.answer.specs.Number.{numberOf}
+use Rattle.refusals.specs.Number.{numberOf}
 use Rattle.block.specs.declared.Kind.{Kind as KindCode}
 use Rattle.block.specs.declared.Kind.the-variants.{Page, Schedule}
 use Rattle.block.specs.declared.Sent.{Sent}
@@ -15,8 +15,8 @@ use Rattle.block.specs.declared.Place.the-variants.{None, First, Next}
 use Rattle.block.specs.declared.Answer.{Answer}
 use Rattle.block.specs.declared.Answer.the-variants as answers
 use Rattle.block.specs.declared.Reply.{Reply}
-use Rattle.block.specs.Paper.{Kind, page, schedule, Left, Held, Given, blank, handed, kept}
-use Rattle.block.specs.Place.{Place, none, first, next}
+use Rattle.block.specs.Paper.{Kind, page, schedule, BlocksLeft, Held, Given, blank, handed, kept}
+use Rattle.block.specs.Inner.{Place, none, first, next}
 
 -- the two kinds
 abbrev pub kindOf : KindCode → Kind
@@ -24,16 +24,16 @@ kindOf Page = page
 kindOf Schedule = schedule
 
 -- 0 for done, or the refusal's number; and the output
-abbrev pub sentOf : Sent → List ℕ → Left
+abbrev pub sentOf : Sent → List ℕ → BlocksLeft
 sentOf Done out = record { number = 0; output = out }
 sentOf (Refused r) out = record { number = numberOf r; output = out }
 
 -- a state in numbers
-abbrev pub held : ℕ → ℕ → List ℕ → Held
-held kind taken octets = record { kind = kind; taken = taken; octets = octets }
+abbrev pub stateWith : ℕ → ℕ → List ℕ → Held
+stateWith kind taken octets = record { kind = kind; taken = taken; octets = octets }
 
 abbrev pub heldOf : State → Held
-heldOf s = held (s .kind) (s .taken) (s .octets)
+heldOf s = stateWith (s .kind) (s .taken) (s .octets)
 
 -- a refusal by its number
 abbrev pub placed : PlaceCode → Place

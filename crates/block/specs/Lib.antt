@@ -1,4 +1,4 @@
 -- What `block` defines.
 pub mod Paper
-pub mod Place
+pub mod Inner
 pub mod Coded

@@ -62,12 +62,12 @@ blocks k used m zero = []
 blocks k used m (suc n) = blocks k used m n ++ block k used m n
 
 -- what a call that writes leaves: its number, and the lent output
-pub record Left : Type 0 where
+pub record BlocksLeft : Type 0 where
   pub number : ℕ
   pub output : List ℕ
 
 -- 01 Blocks, Order: the block writer; a refusal leaves the output as it was
-unfoldable pub written : List ℕ → Kind → ℕ → List ℕ → Left
+unfoldable pub written : List ℕ → Kind → ℕ → List ℕ → BlocksLeft
 written m k used out =
     ruled (λ (n : ℕ). record { number = n; output = out })
     ((not (eqb (length out) 92), 15) ∷ (not (eqb (length m) 88), 16) ∷ (eqb used 0 || ltb 88 used, 17) ∷ [])

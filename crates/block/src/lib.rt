@@ -2,27 +2,21 @@
 ghost use mathlib.Core.Path.{_≡_};
 ghost use Prim.Native.Nat.{_<_, _≤_};
 ghost use lib.ListN.{drop};
-ghost use Rattle.answer.specs.Number.{numberOf};
+ghost use Rattle.refusals.specs.Number.{numberOf};
 ghost use Rattle.block.specs.Paper.{kindNumber, codeOf, typeOf, written, allBlank, proper, added, step};
 ghost use Rattle.block.specs.Paper.{start as startOf};
-ghost use Rattle.block.specs.Place.{placeOf};
-ghost use Rattle.block.specs.Coded.{kindOf, sentOf, held, heldOf, givenOf, placed, leaving, outcome, Adds};
-use answer::Refusal;
-
-// 000 3.1: octets of a block's content.
-const CONTENT: usize = 22;
-
-// 000 3.1: octets of a message.
-const MESSAGE: usize = 88;
+ghost use Rattle.block.specs.Inner.{placeOf};
+ghost use Rattle.block.specs.Coded.{kindOf, sentOf, stateWith, heldOf, givenOf, placed, leaving, outcome, Adds};
+use refusals::Refusal;
+use sizes::CONTENT;
+use sizes::FILLER;
+use sizes::MESSAGE;
 
 // 000 3.1: octets of a block, its type octet and its content.
 const BLOCK: usize = 23;
 
 // 000 3.1: octets of the four blocks of a message.
 const BLOCKS: usize = 92;
-
-// 000 3.4: what stands where nothing was sent.
-const FILLER: u8 = 0x2B;
 
 // 000 3.4, 3.5: what a message is.
 pub enum Kind {
@@ -125,7 +119,7 @@ fn is_blank(octets: &[u8], from: usize) -> bool
 
 // Whether a state is one that start and intake leave.
 pub fn is_proper(kind: u8, taken: u8, octets: &[u8]) -> bool
-    ensures { λ r. ⌜ r ≡ proper (held kind taken (now (octets .entry))) ⌝ }
+    ensures { λ r. ⌜ r ≡ proper (stateWith kind taken (now (octets .entry))) ⌝ }
 {
     if octets.len() != MESSAGE {
         return false;
@@ -248,7 +242,7 @@ fn refused(refusal: Refusal, state: State) -> Reply
 // The answer to a piece that is added to a message; last: it completes the message.
 fn add(kind: u8, taken: u8, octets: [u8; 88], piece: &[u8], last: bool) -> Reply
     requires { ⌜ Adds taken octets (now piece) ⌝ }
-    ensures { λ r. ⌜ givenOf r ≡ outcome last (added (held kind taken octets) (now (piece .entry))) ⌝ }
+    ensures { λ r. ⌜ givenOf r ≡ outcome last (added (stateWith kind taken octets) (now (piece .entry))) ⌝ }
 {
     let mut whole = octets;
     let at = CONTENT * taken as usize;

@@ -1,8 +1,5 @@
 -- A power of two added to a number in which that bit is clear: it sets the bit, and no other changes.
-use mathlib.Core.Path.{_≡_, sym, ap, _∙_}
-use Prim.Native.Nat.{ℕ, _+_, _*_, _-_, _/_, _%_, _^_, _≤_, _<_}
-use native.Mathlib.Nat.{add-div-right, add-mul-div-left, lt-mul-div-succ, mul-add, mul-le-mul-left}
-use native.Mathlib.Omega.{arith}
+use Rattle.laws.proofs.Base.{_≡_, sym, ap, _∙_, ℕ, _+_, _*_, _-_, _/_, _%_, _^_, _≤_, _<_, add-div-right, add-mul-div-left, lt-mul-div-succ, mul-add, mul-le-mul-left, arith}
 use lib.Pow.{pow-pos, pow-add, shr-shr, shr-lt}
 
 module _ (h k : ℕ) where

@@ -1,9 +1,5 @@
 -- The decision case by case, on plain facts.
-use mathlib.Core.Path.{_≡_, sym, _∙_}
-use mathlib.Core.Bool.{Bool, true, false}
-use Prim.Native.Nat.{ℕ, _-_, _≤_, _<_}
-use native.Mathlib.Omega.{arith}
-use borrow.Author.Tests.{le-leb, lt-leb, lt-ltb, le-ltb}
+use Rattle.laws.proofs.Base.{_≡_, sym, _∙_, Bool, true, false, ℕ, _-_, _≤_, _<_, arith, le-leb, lt-leb, lt-ltb, le-ltb}
 use Rattle.schedule.specs.Paper.{tells}
 use Rattle.board.specs.Paper.{Wanted, Schedule, readsFor, tellsOf, reads, decide, undecided, entryFor, enteredUnder}
 use Rattle.board.proofs.Sets.{Slot}

@@ -1,12 +1,7 @@
 -- Answers that meet a contract of `board` are equal.
-use mathlib.Core.Path.{_≡_, refl, sym, ap, _∙_}
-use mathlib.Core.Bool.{Bool, cond}
-use mathlib.Core.List.{List}
-use Prim.Native.Nat.{ℕ}
-use lib.Dec.{eqb}
-use borrow.Author.Tests.{ne-eqb}
-use Rattle.answer.specs.Number.{numberOf}
-use Rattle.answer.proofs.Inverse.{refusalOf, refusalOf-numberOf, numberOf-positive}
+use Rattle.laws.proofs.Base.{_≡_, refl, sym, ap, _∙_, Bool, cond, List, ℕ, eqb, ne-eqb}
+use Rattle.refusals.specs.Number.{numberOf}
+use Rattle.refusals.proofs.Inverse.{refusalOf, refusalOf-numberOf, numberOf-positive}
 use Rattle.board.specs.declared.Decision.{Decision}
 use Rattle.board.specs.declared.Decision.the-variants.{Read, Skip, Refused}
 use Rattle.board.specs.declared.Held.{Held}

@@ -1,12 +1,5 @@
 -- Laws of wanted lists: the loop that looks through one, and which identifiers match.
-use mathlib.Core.Path.{_≡_, ap}
-use mathlib.Core.Bool.{true, false}
-use mathlib.Core.List.{List}
-use Prim.Native.Nat.{ℕ, _+_, _%_, _<_}
-use native.Mathlib.Nat.{mod-mod}
-use lib.ListN.{length, getD, take, length-map, List·getD-map}
-use lib.Dec.{eqb}
-use borrow.Author.Tests.{eq-eqb, ne-eqb, eqb-true}
+use Rattle.laws.proofs.Base.{_≡_, ap, true, false, List, ℕ, _+_, _%_, _<_, mod-mod, length, getD, take, length-map, List·getD-map, eqb, eq-eqb, ne-eqb, eqb-true}
 use Rattle.laws.specs.Search.{some}
 use Rattle.laws.proofs.Search.{some-turn, some-found, some-implies, some-agree}
 use Rattle.page.specs.declared.MessageId.{MessageId}

@@ -1,13 +1,6 @@
 -- Laws of a set of slots held: case by case, and what entering a slot does to it.
-use mathlib.Core.Path.{_≡_, refl, sym, ap, _∙_}
-use mathlib.Core.Bool.{Bool, true, false, _&&_, and-false}
-use mathlib.Core.Logic.{_⊎_, inl, inr, ⊎-elim}
-use Prim.Native.Nat.{ℕ, _+_, _*_, _-_, _/_, _%_, _^_, _≤_, _<_}
-use native.Mathlib.Nat.{eq-or-lt-of-le, one-mul, zero-div}
-use native.Mathlib.Omega.{arith}
-use lib.Dec.{eqb, leb, lit<}
+use Rattle.laws.proofs.Base.{_≡_, refl, sym, ap, _∙_, Bool, true, false, _&&_, and-false, _⊎_, inl, inr, ⊎-elim, ℕ, _+_, _*_, _-_, _/_, _%_, _^_, _≤_, _<_, eq-or-lt-of-le, one-mul, zero-div, arith, eqb, leb, lit<, le-leb, lt-leb, leb-true, leb-false, eqb-true, eqb-false, eq-eqb}
 use lib.Pow.{shl-exact}
-use borrow.Author.Tests.{le-leb, lt-leb, leb-true, leb-false, eqb-true, eqb-false, eq-eqb}
 use Rattle.board.specs.Paper.{isHeld, enter}
 use Rattle.board.proofs.Bit.{bit-below, bit-set, bit-above, bit-fits}
 

@@ -1,26 +1,20 @@
 -- What a schedule tells of a slot, by way of the places of its descriptions.
-use mathlib.Core.Path.{_≡_, refl, sym, ap, _∙_}
-use mathlib.Core.Bool.{Bool, true, false, _&&_, _||_, not}
-use mathlib.Core.List.{List}
-use Prim.Native.Nat.{ℕ, suc, _+_, _-_, _≤_, _<_}
-use native.Mathlib.Omega.{arith}
-use lib.Dec.{eqb, leb}
-use borrow.Author.Tests.{eqb-true, eqb-false, leb-true, leb-false, ne-eqb, not-false}
+use Rattle.laws.proofs.Base.{_≡_, refl, sym, ap, _∙_, Bool, true, false, _&&_, _||_, not, List, ℕ, suc, _+_, _-_, _≤_, _<_, arith, eqb, leb, eqb-true, eqb-false, leb-true, leb-false, ne-eqb, not-false}
 use Rattle.laws.specs.Upto.{some}
 use Rattle.laws.proofs.Upto.{some-at}
 use Rattle.laws.proofs.Outcome.{Outcome, refuses, passes, outcome}
 use Rattle.laws.proofs.Tests.{both, neither}
-use Rattle.answer.specs.declared.Refusal.{Refusal}
-use Rattle.answer.specs.Number.{numberOf}
-use Rattle.answer.proofs.Inverse.{numberOf-positive}
+use Rattle.refusals.specs.declared.Refusal.{Refusal}
+use Rattle.refusals.specs.Number.{numberOf}
+use Rattle.refusals.proofs.Inverse.{numberOf-positive}
 use Rattle.schedule.specs.declared.Placed.{Placed}
-use Rattle.schedule.specs.Paper.{Told, first, again, optional, advised, isFirst, falseIn, falseRepeat, begin, end, within, faults, tells, Read, unread, good, read, Placed as Places, placed}
+use Rattle.schedule.specs.Paper.{Told, first, again, optional, advised, isFirst, falseIn, falseRepeat, begin, end, inBounds, faults, tells, Read, unread, good, read, Placed as Places, placed}
 use Rattle.schedule.specs.Coded.{readOf, placedOf}
-use Rattle.schedule.specs.Parts.{toldBy}
+use Rattle.schedule.specs.Inner.{toldBy}
 use Rattle.schedule.proofs.Givens.{faults-some, read-placed, given-good, told-at}
 use Rattle.schedule.proofs.Repeats.{falseRepeat-agree}
 use Rattle.board.specs.Paper.{Wanted, isHeld, firstMatches, readsFor, reads, decide, entryFor, enteredUnder}
-use Rattle.board.specs.Parts.{readsBy}
+use Rattle.board.specs.Inner.{readsBy}
 use Rattle.board.specs.Coded.{lentSchedule}
 use Rattle.board.proofs.Sets.{Slot as SlotNumber}
 use Rattle.board.proofs.Cases.{reads-told, entered-told, decided-as}
@@ -43,7 +37,7 @@ is-read m received e = go (outcome (faults m received))
     go : Outcome (faults m received) → IsRead m received
     go (refuses n a h) = absurd (faults-some m received n a (sym (ap (λ (r : Read). r .number) (h Read unread (good m))) ∙ e))
     go (passes h f) =
-        let range = both (leb 1 (begin m)) (leb (begin m) (end m) && leb (end m) 48) (not-false (within m) (h .1 .1 .1 .0)) in
+        let range = both (leb 1 (begin m)) (leb (begin m) (end m) && leb (end m) 48) (not-false (inBounds m) (h .1 .1 .1 .0)) in
         record {
           ends = ap (λ (r : Read). r .end) (f Read unread (good m));
           last = leb-true (end m) 48 (both (leb (begin m) (end m)) (leb (end m) 48) (range .1) .1);

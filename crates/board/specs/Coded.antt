@@ -2,7 +2,7 @@
 use Prim.Native.Nat.{ℕ}
 use mathlib.Core.Bool.{Bool, true, false}
 use mathlib.Core.List.{List, map}
-use Rattle.answer.specs.Number.{numberOf}
+use Rattle.refusals.specs.Number.{numberOf}
 use Rattle.page.specs.declared.MessageId.{MessageId}
 use Rattle.board.specs.declared.Wanted.{Wanted as WantedCode}
 use Rattle.board.specs.declared.Schedule.{Schedule as ScheduleCode}

@@ -1,4 +1,4 @@
 -- What `board` defines.
 pub mod Paper
 pub mod Coded
-pub mod Parts
+pub mod Inner

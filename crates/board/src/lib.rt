@@ -7,17 +7,15 @@ ghost use lib.ListN.{take};
 ghost use Rattle.laws.specs.Search.{some};
 ghost use Rattle.schedule.specs.Paper.{falseRepeat};
 ghost use Rattle.schedule.specs.Coded.{toldOf, readOf};
-ghost use Rattle.schedule.specs.Parts.{toldBy};
+ghost use Rattle.schedule.specs.Inner.{toldBy};
 ghost use Rattle.board.specs.Paper.{matches15, isWanted, isHeld, enter, firstMatches, readsFor, entryFor, decide as decideOf, enteredUnder};
-ghost use Rattle.board.specs.Parts.{readsBy};
+ghost use Rattle.board.specs.Inner.{readsBy};
 ghost use Rattle.board.specs.Coded.{idsOf, wantedOf, scheduleOf, lentSchedule, decidedOf};
-use answer::Refusal;
 use page::MessageId;
+use refusals::Refusal;
 use schedule::Description;
 use schedule::Reading;
-
-// 000 3.5.1: the slots of a period.
-const SLOTS: usize = 48;
+use sizes::SLOTS;
 
 // 01 Numbers given, 42: the most identifiers that are wanted at a time.
 const WANTED: usize = 64;

@@ -1,8 +1,5 @@
 -- Calls that meet the contract of `board_calls` return the same set.
-use mathlib.Core.Path.{_≡_, sym, _∙_}
-use mathlib.Core.Bool.{Bool}
-use mathlib.Core.List.{List}
-use Prim.Native.Nat.{ℕ}
+use Rattle.laws.proofs.Base.{_≡_, sym, _∙_, Bool, List, ℕ}
 use Rattle.board_calls.specs.Paper.{enterCall}
 
 pub determined-cb-enter : (known : Bool) (m : List ℕ) (received slot held r s : ℕ)

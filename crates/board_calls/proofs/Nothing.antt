@@ -1,12 +1,5 @@
 -- A number that is no slot's enters nothing.
-use mathlib.Core.Path.{_≡_, refl, ap, _∙_}
-use mathlib.Core.Bool.{Bool, true, false, _&&_}
-use mathlib.Core.List.{List}
-use mathlib.Core.Logic.{_⊎_, ⊎-elim}
-use Prim.Native.Nat.{ℕ, _≤_, _<_}
-use native.Mathlib.Omega.{arith}
-use lib.Dec.{eqb, leb}
-use borrow.Author.Tests.{eqb-true, le-leb, lt-leb}
+use Rattle.laws.proofs.Base.{_≡_, refl, ap, _∙_, Bool, true, false, _&&_, List, _⊎_, ⊎-elim, ℕ, _≤_, _<_, arith, eqb, leb, eqb-true, le-leb, lt-leb}
 use Rattle.schedule.specs.Paper.{end, read}
 use Rattle.board.specs.Paper.{enter, tellsOf}
 use Rattle.board.specs.Coded.{lentSchedule}

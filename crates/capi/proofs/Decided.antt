@@ -1,18 +1,9 @@
 -- Laws of a wanted list as the board takes it, and of what the board's decision packs into.
-use mathlib.Core.Path.{_≡_, refl, sym, ap, _∙_}
-use mathlib.Core.Bool.{Bool, true, false, cond, not, _&&_}
-use mathlib.Core.List.{List, [], _∷_, _++_}
-use Prim.Native.Nat.{ℕ, zero, suc, _+_, _*_, _-_, _≤_, _<_}
-use native.Mathlib.Numerals.{add-one}
-use native.Mathlib.Omega.{arith}
-use lib.Dec.{leb, ltb}
-use lib.ListN.{length, getD, take, set, length-map}
-use lib.Seq.{take-suc, take-suc-set, take-all}
-use borrow.Author.Tests.{ltb-false}
+use Rattle.laws.proofs.Base.{_≡_, refl, sym, ap, _∙_, Bool, true, false, cond, not, _&&_, List, [], _∷_, _++_, ℕ, zero, suc, _+_, _*_, _-_, _≤_, _<_, add-one, arith, leb, ltb, length, getD, take, set, length-map, take-suc, take-suc-set, take-all, ltb-false}
 use Rattle.laws.specs.Ruled.{ruled}
 use Rattle.laws.specs.Search.{some}
-use Rattle.answer.specs.declared.Refusal.{Refusal}
-use Rattle.answer.specs.Number.{numberOf}
+use Rattle.refusals.specs.declared.Refusal.{Refusal}
+use Rattle.refusals.specs.Number.{numberOf}
 use Rattle.page.specs.declared.MessageId.{MessageId}
 use Rattle.schedule.specs.Paper.{Told, first, again, optional, advised, tells}
 use Rattle.board.specs.declared.Wanted.{Wanted as WantedCode}

@@ -1,8 +1,5 @@
 -- Calls that meet a contract of `capi` return the same number and leave the same memory.
-use mathlib.Core.Path.{_≡_, sym, _∙_}
-use mathlib.Core.Bool.{Bool}
-use mathlib.Core.List.{List}
-use Prim.Native.Nat.{ℕ}
+use Rattle.laws.proofs.Base.{_≡_, sym, _∙_, Bool, List, ℕ}
 use Rattle.page.specs.Paper.{Heading}
 use Rattle.schedule_calls.proofs.Determined.{both}
 use Rattle.capi.specs.Paper.{writeCall, readCall, scheduleCall, descriptionCall, contentCall, blocksCall, planCall, writeScheduleCall, checkScheduleCall, decideCall}

@@ -1,19 +1,12 @@
 -- Laws of two plan files that are read together, and of what the writer's and the checker's answers for their plans pack into.
-use mathlib.Core.Path.{_≡_, refl, sym, ap, _∙_}
-use mathlib.Core.Bool.{Bool, true, false, cond, not}
-use mathlib.Core.List.{List}
-use Prim.Native.Nat.{ℕ, _+_, _*_, _≤_}
-use native.Mathlib.Omega.{arith}
-use lib.Dec.{eqb}
-use lib.ListN.{length}
-use borrow.Author.Tests.{eq-eqb, ne-eqb, eqb-true, not-false}
+use Rattle.laws.proofs.Base.{_≡_, refl, sym, ap, _∙_, Bool, true, false, cond, not, List, ℕ, _+_, _*_, _≤_, arith, eqb, length, eq-eqb, ne-eqb, eqb-true, not-false}
 use Rattle.laws.specs.Ruled.{ruled}
 use Rattle.laws.specs.Upto.{lowest}
 use Rattle.laws.proofs.Ruled.{Ruling, refuses, passes, ruling, none-holds, ruled-none, unless0-numbered}
 use Rattle.laws.proofs.Outcome as outcomes
 use Rattle.laws.proofs.Lowest.{Lowest, none-passes, first-passes, lowest-is}
-use Rattle.answer.specs.declared.Refusal.{Refusal}
-use Rattle.answer.specs.Number.{numberOf}
+use Rattle.refusals.specs.declared.Refusal.{Refusal}
+use Rattle.refusals.specs.Number.{numberOf}
 use Rattle.schedule.specs.Paper.{end}
 use Rattle.plan.specs.declared.Plan.{Plan as PlanCode}
 use Rattle.plan.specs.Paper.{Plan, readPlan}
@@ -27,7 +20,7 @@ use Rattle.checker.specs.declared.Checking.{Checking}
 use Rattle.checker.specs.declared.Checking.the-variants as checkings
 use Rattle.checker.specs.Paper.{Checked, unchecked, untrueAt, untrue, verdict, faults, check}
 use Rattle.checker.specs.Coded.{checkedOf}
-use Rattle.capi.specs.Paper.{Left, packed, fileFaults, filesNumber, writtenFrom, writeScheduleCall, checkedBeside, checkScheduleCall}
+use Rattle.capi.specs.Paper.{CallLeft, packed, fileFaults, filesNumber, writtenFrom, writeScheduleCall, checkedBeside, checkScheduleCall}
 use Rattle.capi.proofs.Packed.{packed-number, packed-done}
 use Rattle.capi.proofs.Planned.{good-count}
 
@@ -61,10 +54,10 @@ module _ {A : Type 0} (by : ℕ → A) (c p : List ℕ) (x : A) where
       (none-holds (fileFaults c p) 0 (unless0-numbered (readPlan c .number), (unless0-numbered (readPlan p .number), tt)) (sym e))
 
 module _ (c p : List ℕ) (b : ℕ) (o : List ℕ) where
-  abbrev packedWriting : Writing → Left
+  abbrev packedWriting : Writing → CallLeft
   packedWriting w = packed (w .number) (w .used) (w .output)
 
-  pub refuses-output : (r : ℕ) → r ≡ 15 → (length o ≡ 88 → ⊥) → _≡_ {A = Left} (record { returned = r; memory = o }) (writeScheduleCall c p b o)
+  pub refuses-output : (r : ℕ) → r ≡ 15 → (length o ≡ 88 → ⊥) → _≡_ {A = CallLeft} (record { returned = r; memory = o }) (writeScheduleCall c p b o)
   refuses-output r n e =
       let first : unwritten o 15 ≡ writtenFrom c p b o = rw (ne-eqb (length o) 88 e) in
       packed-number 15 r o n ∙ ap packedWriting first
@@ -74,7 +67,7 @@ module _ (c p : List ℕ) (b : ℕ) (o : List ℕ) where
     past-output : writtenFrom c p b o ≡ ruled (unwritten o) (fileFaults c p) (write (readPlan c .plan) (readPlan p .plan) b o)
     past-output = rw (eq-eqb (length o) 88 room)
 
-    pub refuses-files : (n r : ℕ) → (n ≡ 0 → ⊥) → n ≡ filesNumber c p → r ≡ n → _≡_ {A = Left} (record { returned = r; memory = o }) (writeScheduleCall c p b o)
+    pub refuses-files : (n r : ℕ) → (n ≡ 0 → ⊥) → n ≡ filesNumber c p → r ≡ n → _≡_ {A = CallLeft} (record { returned = r; memory = o }) (writeScheduleCall c p b o)
     refuses-files n r z e q =
         packed-number n r o q
         ∙ ap packedWriting (sym (past-output ∙ files-refused (unwritten o) c p (write (readPlan c .plan) (readPlan p .plan) b o) n z e))
@@ -93,10 +86,10 @@ module _ (c p : List ℕ) (b : ℕ) (o : List ℕ) where
           let s = accepts (planOf x) (planOf y) b o (sym (ap (λ (z : Writing). z .number) w)) in
           omega (arith, s .few, ap (λ (z : Writing). z .used) (w ∙ s .writes))
 
-      pub writes-message : (u : ℕ) → a ≡ Written u → _≡_ {A = Left} (record { returned = 256 * u; memory = q }) (writeScheduleCall c p b o)
+      pub writes-message : (u : ℕ) → a ≡ Written u → _≡_ {A = CallLeft} (record { returned = 256 * u; memory = q }) (writeScheduleCall c p b o)
       writes-message u k = packed-done u q ∙ ap packedWriting (rw k at as-filed)
 
-      pub refuses-message : (f : Refusal) (r : ℕ) → r ≡ numberOf f → a ≡ Refused f → _≡_ {A = Left} (record { returned = r; memory = q }) (writeScheduleCall c p b o)
+      pub refuses-message : (f : Refusal) (r : ℕ) → r ≡ numberOf f → a ≡ Refused f → _≡_ {A = CallLeft} (record { returned = r; memory = q }) (writeScheduleCall c p b o)
       refuses-message f r n k = packed-number (numberOf f) r q n ∙ ap packedWriting (rw k at as-filed)
 
 -- the lowest of n numbers, counted from 1, is no more than n

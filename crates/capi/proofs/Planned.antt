@@ -1,18 +1,12 @@
 -- Laws of what the plan room's answer packs into.
-use mathlib.Core.Path.{_≡_, refl, sym, ap, _∙_}
-use mathlib.Core.Bool.{Bool, true, false}
-use mathlib.Core.List.{List}
-use Prim.Native.Nat.{ℕ, _*_, _≤_}
-use native.Mathlib.Omega.{arith}
-use lib.Dec.{ltb}
-use borrow.Author.Tests.{ltb-true, ltb-false}
+use Rattle.laws.proofs.Base.{_≡_, refl, sym, ap, _∙_, Bool, true, false, List, ℕ, _*_, _≤_, arith, ltb, ltb-true, ltb-false}
 use Rattle.laws.proofs.Ruled.{Ruling, refuses, passes, ruling}
-use Rattle.answer.specs.declared.Refusal.{Refusal}
-use Rattle.answer.specs.Number.{numberOf}
-use Rattle.answer.proofs.Inverse.{numberOf-positive}
+use Rattle.refusals.specs.declared.Refusal.{Refusal}
+use Rattle.refusals.specs.Number.{numberOf}
+use Rattle.refusals.proofs.Inverse.{numberOf-positive}
 use Rattle.plan.specs.declared.Verdict.the-variants.{Good, Refused}
 use Rattle.plan.specs.declared.Reading.{Reading}
-use Rattle.plan.specs.Paper.{Plan, Read, held, listed, refusal, faults, planNumber, readPlan}
+use Rattle.plan.specs.Paper.{Plan, Read, filledPlan, listed, refusal, faults, planNumber, readPlan}
 use Rattle.plan.specs.Coded.{verdictOf, readingOf}
 use Rattle.plan.proofs.Answers.{over}
 use Rattle.plan.proofs.ReadGood.{read-is-good}
@@ -29,9 +23,9 @@ good-count p e = go (ltb 48 (p .count)) refl
 -- a refused file counts no slot
 refused-count : (f : List ℕ) → (readPlan f .number ≡ 0 → ⊥) → readPlan f .plan .count ≡ 0
 unfolding readPlan
-refused-count f = go (ruling refusal (faults f) (record { number = 0; plan = held (listed f) }))
+refused-count f = go (ruling refusal (faults f) (record { number = 0; plan = filledPlan (listed f) }))
   where
-    go : {r : Read} → Ruling refusal (faults f) (record { number = 0; plan = held (listed f) }) r → (r .number ≡ 0 → ⊥) → r .plan .count ≡ 0
+    go : {r : Read} → Ruling refusal (faults f) (record { number = 0; plan = filledPlan (listed f) }) r → (r .number ≡ 0 → ⊥) → r .plan .count ≡ 0
     go (refuses n a e) some = ap (λ (x : Read). x .plan .count) e
     go (passes h e) some = absurd (some (ap (λ (x : Read). x .number) e))
 

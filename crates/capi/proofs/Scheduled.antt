@@ -1,15 +1,9 @@
 -- Laws of what the schedule room's answers pack into.
-use mathlib.Core.Path.{_≡_, refl, ap, _∙_}
-use mathlib.Core.Bool.{Bool, true, false}
-use mathlib.Core.List.{List}
-use Prim.Native.Nat.{ℕ, _+_, _*_, _<_}
-use native.Mathlib.Omega.{arith}
-use lib.Dec.{ltb}
+use Rattle.laws.proofs.Base.{_≡_, refl, ap, _∙_, Bool, true, false, List, ℕ, _+_, _*_, _<_, arith, ltb, ltb-true}
 use mir.Val.{boolByte}
-use borrow.Author.Tests.{ltb-true}
 use Rattle.laws.proofs.Ruled.{Ruling, refuses, passes, ruling}
-use Rattle.answer.specs.declared.Refusal.{Refusal}
-use Rattle.answer.specs.Number.{numberOf}
+use Rattle.refusals.specs.declared.Refusal.{Refusal}
+use Rattle.refusals.specs.Number.{numberOf}
 use Rattle.schedule.specs.declared.Slot.{Slot}
 use Rattle.schedule.specs.declared.Reading.{Reading}
 use Rattle.schedule.specs.declared.Reading.the-variants as readings
@@ -17,7 +11,7 @@ use Rattle.schedule.specs.declared.Given.{Given as GivenCode}
 use Rattle.schedule.specs.declared.Given.the-variants as givens
 use Rattle.schedule.specs.Paper.{end, faults, Read, read, Given, next, noMore, refusal, givenAt, given}
 use Rattle.schedule.specs.Coded.{toldOf, readOf, givenOf}
-use Rattle.order.proofs.Ranks.{order-below}
+use Rattle.schedule_order.proofs.Ranks.{order-below}
 pub use Rattle.schedule_calls.proofs.Packed.{bit-byte, bit-small, ends-small}
 use Rattle.capi.specs.Paper.{codeOf, packedRead, scheduleCall, packedGiven, descriptionCall}
 

@@ -13,18 +13,18 @@ use Rattle.text.specs.Paper.{written, reading}
 use Rattle.sender.specs.Paper.{Writing, unwritten, write}
 use Rattle.checker.specs.Paper.{Checked, unchecked, check}
 use Rattle.board.specs.Paper.{Decided, decide}
-pub use Rattle.schedule_calls.specs.Paper.{Left, packedRead, codeOf, bitOf}
+pub use Rattle.schedule_calls.specs.Paper.{CallLeft, packedRead, codeOf, bitOf}
 
 -- two numbers in one, and the memory
-abbrev pub packed : ℕ → ℕ → List ℕ → Left
+abbrev pub packed : ℕ → ℕ → List ℕ → CallLeft
 packed number other memory = record { returned = number + 256 * other; memory = memory }
 
 -- 01 Page and text: the text writer for C: number + 256 × used octets
-abbrev pub writeCall : Heading → List ℕ → List ℕ → Left
+abbrev pub writeCall : Heading → List ℕ → List ℕ → CallLeft
 writeCall h t p = packed (written h t p .number) (written h t p .used) (written h t p .page)
 
 -- 01 Page and text: the text reader for C: number + 256 × characters
-abbrev pub readCall : List ℕ → ℕ → List ℕ → Left
+abbrev pub readCall : List ℕ → ℕ → List ℕ → CallLeft
 readCall p n t = packed (reading p n t .number) (reading p n t .characters) (reading p n t .text)
 
 -- 01 Schedule message: the schedule reader for C: number + 2^8 × Begin + 2^16 × End
@@ -50,7 +50,7 @@ abbrev pub kindIf : Bool → Kind
 kindIf isSchedule = cond isSchedule schedule page
 
 -- 01 Blocks: the block writer for C
-abbrev pub blocksCall : List ℕ → Bool → ℕ → List ℕ → Left
+abbrev pub blocksCall : List ℕ → Bool → ℕ → List ℕ → CallLeft
 blocksCall m isSchedule used out =
     record {
       returned = writtenBlocks m (kindIf isSchedule) used out .number;
@@ -75,7 +75,7 @@ writtenFrom c p begin out =
     ruled (unwritten out) ((not (eqb (length out) 88), 15) ∷ fileFaults c p) (write (readPlan c .plan) (readPlan p .plan) begin out)
 
 -- 01 The plan: the schedule writer for C: number + 256 × used octets
-abbrev pub writeScheduleCall : List ℕ → List ℕ → ℕ → List ℕ → Left
+abbrev pub writeScheduleCall : List ℕ → List ℕ → ℕ → List ℕ → CallLeft
 writeScheduleCall c p begin out =
     packed (writtenFrom c p begin out .number) (writtenFrom c p begin out .used) (writtenFrom c p begin out .output)
 

@@ -7,7 +7,6 @@ ghost use Rattle.board.specs.Coded.{idsOf};
 ghost use Prim.Native.Nat.{_≤_};
 ghost use lib.ListN.{length, take};
 ghost use Rattle.capi.specs.Paper.{writeCall, readCall, scheduleCall, descriptionCall, contentCall, kindIf, blocksCall, planCall, filesNumber, writeScheduleCall, checkScheduleCall, decideCall};
-use answer::Refusal;
 use block::Kind;
 use block::Sent;
 use board::Decision;
@@ -19,15 +18,14 @@ use page::MessageId;
 use page::Serial;
 use plan::Plan;
 use plan::Verdict;
+use refusals::Refusal;
 use schedule::Given;
 use schedule::Reading;
 use schedule_calls::code;
 use sender::Writing;
+use sizes::MESSAGE;
 use text::Got;
 use text::Written;
-
-// 000 3.3.1: the octets of a message.
-const MESSAGE: usize = 88;
 
 // 01 Numbers given, 42: the most identifiers that are wanted at a time.
 const WANTED: usize = 64;
@@ -54,7 +52,7 @@ pub extern "C" fn cb_write_text(
     );
     match answer {
         Written::Used(used) => 256 * used as u32,
-        Written::Refused(refusal) => answer::number(refusal) as u32,
+        Written::Refused(refusal) => refusals::number(refusal) as u32,
     }
 }
 
@@ -66,7 +64,7 @@ pub extern "C" fn cb_read_text(page: &[u8], received: usize, text: &mut [u16]) -
     let answer = text::read_text(page, received, text);
     match answer {
         Got::Characters(characters) => 256 * characters as u32,
-        Got::Refused(refusal) => answer::number(refusal) as u32,
+        Got::Refused(refusal) => refusals::number(refusal) as u32,
     }
 }
 
@@ -78,7 +76,7 @@ pub extern "C" fn cb_read_schedule(message: &[u8], received: usize) -> u32
     let answer = schedule::read_schedule(message, received);
     match answer {
         Reading::Read(begin, end) => 0x100 * begin as u32 + 0x10000 * end as u32,
-        Reading::Refused(refusal) => answer::number(refusal) as u32,
+        Reading::Refused(refusal) => refusals::number(refusal) as u32,
     }
 }
 
@@ -95,7 +93,7 @@ pub extern "C" fn cb_description(message: &[u8], received: usize, place: usize) 
             high + 0x10000 * slot.new as u64 + 0x100 * number as u64
         }
         Given::NoMore => 0,
-        Given::Refused(refusal) => answer::number(refusal) as u64,
+        Given::Refused(refusal) => refusals::number(refusal) as u64,
     }
 }
 
@@ -107,7 +105,7 @@ pub extern "C" fn cb_content(page: &[u8], received: usize) -> u32
     let answer = page::content_answer(page, received);
     match answer {
         Handing::Handed => 0,
-        Handing::Refused(refusal) => answer::number(refusal) as u32,
+        Handing::Refused(refusal) => refusals::number(refusal) as u32,
     }
 }
 
@@ -135,7 +133,7 @@ pub extern "C" fn cb_write_blocks(
     let answer = block::write_blocks(message, kind, used, out);
     match answer {
         Sent::Done => 0,
-        Sent::Refused(refusal) => answer::number(refusal) as u32,
+        Sent::Refused(refusal) => refusals::number(refusal) as u32,
     }
 }
 
@@ -148,7 +146,7 @@ pub extern "C" fn cb_read_plan(file: &[u8]) -> u32
     let verdict = reading.verdict;
     match verdict {
         Verdict::Good => 256 * reading.plan.count as u32,
-        Verdict::Refused(refusal) => answer::number(refusal) as u32,
+        Verdict::Refused(refusal) => refusals::number(refusal) as u32,
     }
 }
 
@@ -193,19 +191,19 @@ pub extern "C" fn cb_write_schedule(
     ensures { λ r. ⌜ record { returned = r; memory = now (out .exit) } ≡ writeScheduleCall (now (current .entry)) (now (previous .entry)) begin (now (out .entry)) ⌝ }
 {
     if out.len() != MESSAGE {
-        return answer::number(Refusal::OutputLength) as u32;
+        return refusals::number(Refusal::OutputLength) as u32;
     }
     let files = read_plans(current, previous);
     let verdict = files.verdict;
     if let Verdict::Refused(refusal) = verdict {
-        return answer::number(refusal) as u32;
+        return refusals::number(refusal) as u32;
     }
     let plan = files.current;
     let older = files.previous;
     let answer = sender::write_schedule(plan, older, begin, out);
     match answer {
         Writing::Written(used) => 256 * used as u32,
-        Writing::Refused(refusal) => answer::number(refusal) as u32,
+        Writing::Refused(refusal) => refusals::number(refusal) as u32,
     }
 }
 
@@ -222,14 +220,14 @@ pub extern "C" fn cb_check_schedule(
     let files = read_plans(current, previous);
     let verdict = files.verdict;
     if let Verdict::Refused(refusal) = verdict {
-        return answer::number(refusal) as u32;
+        return refusals::number(refusal) as u32;
     }
     let plan = files.current;
     let older = files.previous;
     let answer = checker::check_schedule(plan, older, message, received);
     match answer {
         Checking::True => 0,
-        Checking::Refused(refusal, slot) => { answer::number(refusal) as u32 + 256 * slot as u32 }
+        Checking::Refused(refusal, slot) => { refusals::number(refusal) as u32 + 256 * slot as u32 }
     }
 }
 
@@ -272,6 +270,6 @@ pub extern "C" fn cb_decide(
     match answer {
         Decision::Read => 256,
         Decision::Skip => 0,
-        Decision::Refused(refusal) => answer::number(refusal) as u32,
+        Decision::Refused(refusal) => refusals::number(refusal) as u32,
     }
 }

@@ -1,12 +1,7 @@
 -- What an intake call leaves, as the line of its answer takes it.
-use mathlib.Core.Path.{_≡_, refl}
-use mathlib.Core.Bool.{Bool, true, false, cond}
-use mathlib.Core.List.{List, []}
-use Prim.Native.Nat.{ℕ}
-use lib.Dec.{eqb}
-use borrow.Author.Tests.{eqb-true}
+use Rattle.laws.proofs.Base.{_≡_, refl, Bool, true, false, cond, List, [], ℕ, eqb, eqb-true}
 use Rattle.block.specs.Paper.{Given}
-use Rattle.checker.specs.Beside.{Plans, checkBeside}
+use Rattle.checker.specs.Inner.{Plans, checkBeside}
 use Rattle.lines.proofs.Complete.{Complete, handed-output}
 use Rattle.lines.proofs.Listed.{Taken}
 use Rattle.cbcheck.specs.Listing.{line, lineOf, lineFor}

@@ -1,8 +1,5 @@
 -- The cases of what a line says.
-use mathlib.Core.Path.{_≡_, refl}
-use mathlib.Core.List.{[], _∷_, _++_}
-use Prim.Native.Nat.{ℕ}
-use borrow.Author.Tests.{eq-eqb, ne-eqb}
+use Rattle.laws.proofs.Base.{_≡_, refl, [], _∷_, _++_, ℕ, eq-eqb, ne-eqb}
 use Rattle.words.specs.Words.{words}
 use Rattle.lines.specs.Paper.{decimal}
 use Rattle.cbcheck.specs.Listing.{trueWord, slotWord, untrueWords, reason, said}

@@ -6,9 +6,9 @@ use Prim.Native.Nat.{ℕ, _+_, _*_, _/_, _%_}
 use lib.ListN.{length}
 use lib.Dec.{eqb}
 use Rattle.block.specs.Paper.{Held, Given}
-use Rattle.history.specs.History.{after}
+use Rattle.block_history.specs.Claims.{after}
 use Rattle.checker.specs.Paper.{Checked}
-use Rattle.checker.specs.Beside.{Plans, checkBeside}
+use Rattle.checker.specs.Inner.{Plans, checkBeside}
 use Rattle.lines.specs.Paper.{decimal, cut, listing}
 use Rattle.words.specs.Words.{words}
 

@@ -2,21 +2,21 @@
 ghost use mathlib.Core.Path.{_≡_};
 ghost use Prim.Native.Nat.{_+_, _≤_, _<_};
 ghost use lib.ListN.{length, take};
-ghost use Rattle.answer.specs.Number.{numberOf};
+ghost use Rattle.refusals.specs.Number.{numberOf};
 ghost use Rattle.block.specs.Paper.{start};
-ghost use Rattle.history.specs.History.{after};
+ghost use Rattle.block_history.specs.Claims.{after};
 ghost use Rattle.firmware.specs.Paper.{lent, heldIn};
 ghost use Rattle.checker.specs.Coded.{checkedOf, plansOf};
 ghost use Rattle.lines.specs.Paper.{cut};
 ghost use Rattle.lines.specs.Inner.{Puts};
 ghost use Rattle.lines.specs.Turns.{GoesOn};
 ghost use Rattle.cbcheck.specs.Listing.{numbers, reason, line, lineOf, lineFor, lines};
-use answer::Refusal;
 use checker::Checking;
 use checker::Plans;
 use libc::STDERR_FILENO;
 use lines::Asked;
 use lines::Opened;
+use refusals::Refusal;
 
 // Room for the longest line of each piece of a chunk.
 const ROOM: usize = 146432;
@@ -177,7 +177,7 @@ fn put_refused(number: u64, refusal: Refusal, slot: usize, out: &mut [u8], at: u
     requires { ⌜ at + 143 ≤ length (now out) ⌝ }
     ensures { λ r. ⌜ Puts (line number (record { number = numberOf refusal; slot = slot })) 143 at (now (out .entry)) (now (out .exit)) r ⌝ }
 {
-    let answer = answer::number(refusal) as u64;
+    let answer = refusals::number(refusal) as u64;
     let a = put_numbers(number, answer, slot as u64, out, at);
     let b = put_reason(refusal, slot, out, a);
     out[b] = b'\n';

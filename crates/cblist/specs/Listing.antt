@@ -4,7 +4,7 @@ use mathlib.Core.List.{List, [], _∷_, _++_}
 use Prim.Native.Nat.{ℕ, _+_, _*_}
 use lib.ListN.{length}
 use Rattle.block.specs.Paper.{Held, Given}
-use Rattle.history.specs.History.{after}
+use Rattle.block_history.specs.Claims.{after}
 use Rattle.lines.specs.Paper.{decimal, cut, listing}
 
 -- 01 cblist: a block's number, the intake's answer and the octets received, and the line's end

@@ -4,7 +4,7 @@ ghost use Prim.Native.Nat.{_+_, _/_, _%_, _≤_, _<_};
 ghost use lib.ListN.{length, take};
 ghost use Rattle.firmware.specs.Paper.{lent, heldIn};
 ghost use Rattle.block.specs.Paper.{start};
-ghost use Rattle.history.specs.History.{after};
+ghost use Rattle.block_history.specs.Claims.{after};
 ghost use Rattle.lines.specs.Paper.{cut};
 ghost use Rattle.lines.specs.Inner.{Puts};
 ghost use Rattle.lines.specs.Turns.{GoesOn};

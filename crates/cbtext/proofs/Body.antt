@@ -1,19 +1,11 @@
 -- What the text reader's answer says of a page: which of its two forms the line has, and what stands in it.
-use mathlib.Core.Path.{_≡_, refl, ap, _∙_}
-use mathlib.Core.Bool.{Bool, true, false}
-use mathlib.Core.List.{List, [], _∷_, _++_, map}
-use Prim.Native.Nat.{ℕ, _-_, _≤_}
-use native.Mathlib.Omega.{arith}
-use lib.ListN.{length, getD, take, drop, replicate, length-map}
-use lib.Seq.{take-at}
-use lib.Dec.{ltb}
-use borrow.Author.Tests.{ltb-true, ltb-false}
-use Rattle.laws.specs.Received.{wholeBlocks}
+use Rattle.laws.proofs.Base.{_≡_, refl, ap, _∙_, Bool, true, false, List, [], _∷_, _++_, map, ℕ, _-_, _≤_, arith, length, getD, take, drop, replicate, length-map, take-at, ltb, ltb-true, ltb-false}
+use Rattle.sizes.specs.Paper.{wholeBlocks}
 use Rattle.alphabet.specs.Paper.{codePoint}
 use Rattle.page.specs.Paper.{header, octet}
-use Rattle.text.specs.Paper.{Reading, received, trimmed, shown, reading}
+use Rattle.text.specs.Paper.{Reading, septetsReceived, trimmed, shown, reading}
 use Rattle.text.proofs.Cases.{reading-13, reading-0}
-use Rattle.readback.proofs.Reader.{characters-bounded}
+use Rattle.text_back.proofs.Reader.{characters-bounded}
 use Rattle.cbtext.specs.Listing.{textPart, hexPart, body}
 
 -- the header is in the first six octets
@@ -46,7 +38,7 @@ module _ (p : List ℕ) (n : ℕ) (t₀ t : List ℕ) (size : length t₀ ≡ 93
       go : (b : Bool) → ltb 0x0f (octet p 5) ≡ b → Reads p n t count
       go true q = absurd (omega (arith, ap (λ (r : Reading). r .number) (e ∙ reading-13 p n t₀ size long blocks (ltb-true 0x0f (octet p 5) q))))
       go false q =
-          let front = shown-front (trimmed (received p n)) t count (e ∙ reading-0 p n t₀ size long blocks (ltb-false 0x0f (octet p 5) q)) in
+          let front = shown-front (trimmed (septetsReceived p n)) t count (e ∙ reading-0 p n t₀ size long blocks (ltb-false 0x0f (octet p 5) q)) in
           let c : count ≡ reading p n t₀ .characters = ap (λ (r : Reading). r .characters) e in
           record { few = omega (arith, characters-bounded p n t₀); shows = rw (q, front) }
 
@@ -62,4 +54,4 @@ module _ (p : List ℕ) (n : ℕ) (t₀ t : List ℕ) (size : length t₀ ≡ 93
           absurd
           (ne
           (ap (λ (r : Reading). r .number) (e ∙ reading-0 p n t₀ size long blocks (ltb-false 0x0f (octet p 5) q))
-          ∙ shown-number (trimmed (received p n))))
+          ∙ shown-number (trimmed (septetsReceived p n))))

@@ -1,13 +1,5 @@
 -- Laws of characters: each form of one put behind a text, and one after the other.
-use mathlib.Core.Path.{_≡_, refl, ap, _∙_}
-use mathlib.Core.List.{List, [], _∷_, _++_, append-assoc, append-nil}
-use Prim.Native.Nat.{ℕ, suc, _+_, _*_, _/_, _%_, _≤_, _<_}
-use native.Mathlib.Nat.{mul-suc, mul-zero}
-use native.Mathlib.Numerals.{add-one}
-use native.Mathlib.Omega.{arith}
-use lib.ListN.{length, getD, take, set, length-set}
-use lib.Seq.{take-suc, take-all}
-use borrow.Author.Tests.{eq-eqb, ne-eqb, lt-ltb, le-ltb}
+use Rattle.laws.proofs.Base.{_≡_, refl, ap, _∙_, List, [], _∷_, _++_, append-assoc, append-nil, ℕ, suc, _+_, _*_, _/_, _%_, _≤_, _<_, mul-suc, mul-zero, add-one, arith, length, getD, take, set, length-set, take-suc, take-all, eq-eqb, ne-eqb, lt-ltb, le-ltb}
 use Rattle.lines.specs.Inner.{Puts}
 use Rattle.lines.proofs.Behind.{puts-none, puts-octet, puts-wider, puts-then}
 use Rattle.cbtext.specs.Listing.{utf8, character, joined}

@@ -1,11 +1,5 @@
 -- What an intake call leaves, as the line of its answer takes it.
-use mathlib.Core.Path.{_≡_, refl, sym, ap, _∙_}
-use mathlib.Core.Bool.{Bool, true, false, cond}
-use mathlib.Core.List.{List, []}
-use Prim.Native.Nat.{ℕ}
-use lib.ListN.{length}
-use lib.Dec.{eqb}
-use borrow.Author.Tests.{eqb-true}
+use Rattle.laws.proofs.Base.{_≡_, refl, sym, ap, _∙_, Bool, true, false, cond, List, [], ℕ, length, eqb, eqb-true}
 use Rattle.block.specs.Paper.{Given}
 use Rattle.lines.proofs.Complete.{Complete, handed-output}
 use Rattle.lines.proofs.Listed.{Taken}

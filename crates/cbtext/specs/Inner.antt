@@ -5,7 +5,7 @@ use mathlib.Core.List.{List, []}
 use Prim.Native.Nat.{ℕ, _/_, _%_}
 use lib.ListN.{length}
 use lib.Dec.{eqb}
-use Rattle.laws.specs.Received.{wholeBlocks}
+use Rattle.sizes.specs.Paper.{wholeBlocks}
 use Rattle.cbtext.specs.Listing.{pageLine}
 
 -- a page complete is whole, and so are the blocks received

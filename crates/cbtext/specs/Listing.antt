@@ -6,10 +6,10 @@ use Prim.Native.Nat.{ℕ, _+_, _*_, _-_, _/_, _%_}
 use lib.ListN.{length, take, drop}
 use lib.Dec.{eqb, ltb}
 use Rattle.block.specs.Paper.{Held, Given}
-use Rattle.history.specs.History.{after}
+use Rattle.block_history.specs.Claims.{after}
 use Rattle.alphabet.specs.Paper.{codePoint}
 use Rattle.page.specs.Paper.{header, octet}
-use Rattle.text.specs.Paper.{received, trimmed}
+use Rattle.text.specs.Paper.{septetsReceived, trimmed}
 use Rattle.lines.specs.Paper.{decimal, hexadecimal, cut, listing}
 
 -- RFC 3629 3: the octets of a code point of 16 bits, one below 80 hex, two below 800 hex, three from there on; the bits go in by sixes from the low end; the alphabet has no surrogates
@@ -46,7 +46,7 @@ hexPart octets = 32 ∷ 104 ∷ 101 ∷ 120 ∷ 32 ∷ joined (hexadecimal 2) oc
 
 -- 01 Page and text: the text received, where the scheme is ours, 00 to 0F; else the content received, octets 7 to n
 unfoldable pub body : List ℕ → ℕ → List ℕ
-body p n = cond (ltb 0x0f (octet p 5)) (hexPart (take (n - 6) (drop 6 p))) (textPart (map codePoint (trimmed (received p n))))
+body p n = cond (ltb 0x0f (octet p 5)) (hexPart (take (n - 6) (drop 6 p))) (textPart (map codePoint (trimmed (septetsReceived p n))))
 
 -- the start of a line: the number n of the block that completed the page p, and what the page's header says
 abbrev pub heading : ℕ → List ℕ → List ℕ

@@ -1,12 +1,8 @@
 -- The cases of `composed`, by what the schedule writer answers.
-use mathlib.Core.Path.{_≡_, sym, ap, _∙_}
-use mathlib.Core.List.{List}
-use Prim.Native.Nat.{ℕ}
-use lib.ListN.{replicate}
-use borrow.Author.Tests.{ne-eqb}
-use Rattle.answer.specs.Number.{numberOf}
-use Rattle.answer.specs.declared.Refusal.{Refusal}
-use Rattle.answer.proofs.Inverse.{numberOf-positive}
+use Rattle.laws.proofs.Base.{_≡_, sym, ap, _∙_, List, ℕ, replicate, ne-eqb}
+use Rattle.refusals.specs.Number.{numberOf}
+use Rattle.refusals.specs.declared.Refusal.{Refusal}
+use Rattle.refusals.proofs.Inverse.{numberOf-positive}
 use Rattle.block.specs.Paper.{schedule, written}
 use Rattle.plan.specs.Paper.{Plan}
 use Rattle.sender.specs.Paper.{Writing, write}

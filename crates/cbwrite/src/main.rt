@@ -4,12 +4,12 @@ ghost use Prim.Native.Nat.{min};
 ghost use Rattle.block.specs.Coded.{sentOf};
 ghost use Rattle.plan.specs.Coded.{planOf};
 ghost use Rattle.cbwrite.specs.Paper.{composed};
-use answer::Refusal;
 use block::Kind;
 use block::Sent;
 use libc::STDERR_FILENO;
 use lines::Asked;
 use plan::Plan;
+use refusals::Refusal;
 use sender::Writing;
 
 // Begin as an argument tells it.

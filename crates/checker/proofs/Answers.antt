@@ -1,13 +1,10 @@
 -- Which test of the checker answers, each case on plain facts.
-use mathlib.Core.Path.{_≡_}
-use mathlib.Core.List.{List}
-use Prim.Native.Nat.{ℕ}
-use borrow.Author.Tests.{eq-eqb, ne-eqb}
+use Rattle.laws.proofs.Base.{_≡_, List, ℕ, eq-eqb, ne-eqb}
 use Rattle.laws.specs.Upto.{lowest}
 use Rattle.schedule.specs.Paper.{end, read}
 use Rattle.plan.specs.Paper.{Plan, Planned, planNumber, allPlanned}
 use Rattle.checker.specs.Paper.{unchecked, untrueAt}
-use Rattle.checker.specs.Beside.{Plans, unsaid, beside, untrueTo, compared, checkBeside}
+use Rattle.checker.specs.Inner.{Plans, unsaid, beside, untrueTo, compared, checkBeside}
 
 module _ (c p : Plan) where
   pub current-refused : (n : ℕ) → (n ≡ 0 → ⊥) → n ≡ planNumber c → unsaid n ≡ beside c p

@@ -1,14 +1,10 @@
 -- What is answered of a message, told from the places of its descriptions.
-use mathlib.Core.Path.{_≡_, sym, ap, _∙_}
-use mathlib.Core.Bool.{not}
-use mathlib.Core.List.{List, map}
-use Prim.Native.Nat.{ℕ, _≤_}
-use lib.ListN.{getD, List·getD-map}
+use Rattle.laws.proofs.Base.{_≡_, sym, ap, _∙_, not, List, map, ℕ, _≤_, getD, List·getD-map}
 use Rattle.laws.specs.Upto.{lowest}
 use Rattle.laws.proofs.Lowest.{lowest-agree}
-use Rattle.answer.specs.Number.{numberOf}
-use Rattle.answer.specs.declared.Refusal.{Refusal}
-use Rattle.answer.proofs.Inverse.{numberOf-positive}
+use Rattle.refusals.specs.Number.{numberOf}
+use Rattle.refusals.specs.declared.Refusal.{Refusal}
+use Rattle.refusals.proofs.Inverse.{numberOf-positive}
 use Rattle.schedule.specs.declared.Reading.{Reading}
 use Rattle.schedule.specs.declared.Reading.the-variants.{Read, Refused}
 use Rattle.schedule.specs.declared.Placed.{Placed}
@@ -18,9 +14,9 @@ use Rattle.schedule.proofs.Givens.{Good, read-placed, given-good, told-at}
 use Rattle.plan.specs.declared.Planned.{Planned as PlannedCode}
 use Rattle.plan.specs.Paper.{Planned}
 use Rattle.plan.specs.Coded.{plannedOf}
-use Rattle.plan.specs.Parts.{nothing}
+use Rattle.plan.specs.Inner.{nothing}
 use Rattle.checker.specs.Paper.{trueBy, unchecked, untrueAt}
-use Rattle.checker.specs.Beside.{untrueTo, compared}
+use Rattle.checker.specs.Inner.{untrueTo, compared}
 use Rattle.checker.specs.Coded.{untrueBy}
 use Rattle.checker.proofs.Answers.{read-refused, end-differs, all-true, one-untrue}
 

@@ -1,12 +1,7 @@
 -- Answers that meet the contract of `checker` are equal.
-use mathlib.Core.Path.{_≡_, refl, sym, ap, _∙_}
-use mathlib.Core.Bool.{cond}
-use mathlib.Core.List.{List}
-use Prim.Native.Nat.{ℕ}
-use lib.Dec.{eqb}
-use borrow.Author.Tests.{ne-eqb}
-use Rattle.answer.specs.Number.{numberOf}
-use Rattle.answer.proofs.Inverse.{refusalOf, refusalOf-numberOf, numberOf-positive}
+use Rattle.laws.proofs.Base.{_≡_, refl, sym, ap, _∙_, cond, List, ℕ, eqb, ne-eqb}
+use Rattle.refusals.specs.Number.{numberOf}
+use Rattle.refusals.proofs.Inverse.{refusalOf, refusalOf-numberOf, numberOf-positive}
 use Rattle.plan.specs.declared.Plan.{Plan as PlanCode}
 use Rattle.plan.specs.Coded.{planOf}
 use Rattle.plan.proofs.Determined.{verdict-injective, said-injective}
@@ -14,7 +9,7 @@ use Rattle.checker.specs.declared.Checking.{Checking}
 use Rattle.checker.specs.declared.Checking.the-variants.{True, Refused}
 use Rattle.checker.specs.Paper.{Checked, check}
 use Rattle.checker.specs.Coded.{checkedOf, plansOf}
-use Rattle.checker.specs.Beside.{Plans, beside, checkBeside}
+use Rattle.checker.specs.Inner.{Plans, beside, checkBeside}
 use Rattle.checker.specs.declared.Plans.{Plans as PlansCode}
 
 -- the code's answer by the paper's

@@ -1,18 +1,12 @@
 -- What may be told of a slot by what the plans say of it.
-use mathlib.Core.Path.{_≡_, refl, ap, _∙_}
-use mathlib.Core.Bool.{Bool, true, false, not, _&&_, Bool·beq}
-use mathlib.Core.List.{List}
-use Prim.Native.Nat.{ℕ, _≤_, _<_}
-use native.Mathlib.Omega.{arith}
-use lib.Dec.{eqb}
-use borrow.Author.Tests.{eqb-true, lt-ltb}
+use Rattle.laws.proofs.Base.{_≡_, refl, ap, _∙_, Bool, true, false, not, _&&_, Bool·beq, List, ℕ, _≤_, _<_, arith, eqb, eqb-true, lt-ltb}
 use Rattle.laws.proofs.Lowest.{lowest-agree}
 use Rattle.laws.proofs.Upto.{each-at}
 use Rattle.schedule.specs.Paper.{Told, first, again, optional, advised, Shown, shown}
 use Rattle.plan.specs.Paper.{Plan, Planned, planNumber, entryAt, plannedAt, nonePlanned, saidAt, allPlanned}
 use Rattle.plan.proofs.GoodPlan.{good-counted}
 use Rattle.checker.specs.Paper.{mayTell, newFor, trueBy, isTrue, untrue, verdict, check}
-use Rattle.checker.specs.Beside.{untrueTo, verdictTo, compared, beside, checkBeside}
+use Rattle.checker.specs.Inner.{untrueTo, verdictTo, compared, beside, checkBeside}
 
 module _ (c p : Plan) (i : ℕ) where
   -- of a slot planned with no page, no description and no new bit is judged by a page

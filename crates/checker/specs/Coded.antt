@@ -3,17 +3,17 @@ use mathlib.Core.Bool.{Bool, not}
 use mathlib.Core.List.{List, map}
 use Prim.Native.Nat.{ℕ}
 use lib.ListN.{getD}
-use Rattle.answer.specs.Number.{numberOf}
+use Rattle.refusals.specs.Number.{numberOf}
 use Rattle.schedule.specs.Paper.{new}
-use Rattle.schedule.specs.Parts.{toldBy}
+use Rattle.schedule.specs.Inner.{toldBy}
 use Rattle.plan.specs.declared.Planned.{Planned}
 use Rattle.plan.specs.Coded.{verdictOf, plannedOf}
-use Rattle.plan.specs.Parts.{nothing}
+use Rattle.plan.specs.Inner.{nothing}
 use Rattle.checker.specs.declared.Checking.{Checking}
 use Rattle.checker.specs.declared.Checking.the-variants.{True, Refused}
 use Rattle.checker.specs.declared.Plans.{Plans as PlansCode}
 use Rattle.checker.specs.Paper.{trueBy, Checked}
-use Rattle.checker.specs.Beside.{Plans}
+use Rattle.checker.specs.Inner.{Plans}
 
 -- what a message tells of slot i at its place is untrue by what an array says of the slot
 abbrev pub untrueBy : List Planned → List ℕ → List ℕ → ℕ → Bool

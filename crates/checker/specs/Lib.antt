@@ -1,4 +1,4 @@
 -- What `checker` defines.
 pub mod Paper
-pub mod Beside
+pub mod Inner
 pub mod Coded

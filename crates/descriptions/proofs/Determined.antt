@@ -1,14 +1,8 @@
 -- Answers that meet a contract of `descriptions` are equal.
-use mathlib.Core.Path.{_≡_, refl, sym, ap, _∙_}
-use mathlib.Core.Bool.{cond}
-use mathlib.Core.List.{List}
-use Prim.Native.Nat.{ℕ}
-use lib.Dec.{eqb}
-use denote.Ref.{RefT, now}
-use borrow.Author.Tests.{ne-eqb}
+use Rattle.laws.proofs.Base.{_≡_, refl, sym, ap, _∙_, cond, List, ℕ, eqb, RefT, now, ne-eqb}
 use Rattle.laws.proofs.Map.{map-injective}
-use Rattle.answer.specs.Number.{numberOf}
-use Rattle.answer.proofs.Inverse.{refusalOf, refusalOf-numberOf, numberOf-positive}
+use Rattle.refusals.specs.Number.{numberOf}
+use Rattle.refusals.proofs.Inverse.{refusalOf, refusalOf-numberOf, numberOf-positive}
 use Rattle.schedule.specs.declared.Given.{Given as GivenCode}
 use Rattle.schedule.proofs.Determined.{slotFrom, slotFrom-shownOf, determined-description-at}
 use Rattle.descriptions.specs.declared.Numbered.{Numbered as NumberedCode}

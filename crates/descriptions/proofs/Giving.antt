@@ -1,14 +1,5 @@
 -- The slots that the reader of descriptions gives from opening on, collected one after the other.
-use mathlib.Core.Path.{_≡_, refl, sym, ap, _∙_}
-use mathlib.Core.Bool.{Bool, true, false, cond}
-use mathlib.Core.List.{List, map}
-use mathlib.Core.Logic.{_⊎_, inl, inr}
-use Prim.Native.Nat.{ℕ, _+_, _≤_, _<_}
-use native.Mathlib.Omega.{arith}
-use lib.ListN.{length, getD, set, replicate, getD-replicate, length-map, length-set, List·getD-map}
-use lib.Seq.{ext-getD, getD-set-same, getD-set-other}
-use lib.Dec.{eqb, ltb}
-use borrow.Author.Tests.{lt-ltb, le-ltb, ltb-true, ltb-false, eqb-true, eqb-false}
+use Rattle.laws.proofs.Base.{_≡_, refl, sym, ap, _∙_, Bool, true, false, cond, List, map, _⊎_, inl, inr, ℕ, _+_, _≤_, _<_, arith, length, getD, set, replicate, getD-replicate, length-map, length-set, List·getD-map, ext-getD, getD-set-same, getD-set-other, eqb, ltb, lt-ltb, le-ltb, ltb-true, ltb-false, eqb-true, eqb-false}
 use Rattle.laws.specs.Upto.{each}
 use Rattle.laws.proofs.Tests.{below-other}
 use Rattle.laws.proofs.Upto.{each-length, each-at}
@@ -16,7 +7,7 @@ use Rattle.schedule.specs.declared.Description.the-variants.{Optional}
 use Rattle.schedule.specs.declared.Slot.{Slot}
 use Rattle.schedule.specs.Paper.{end, Given, next, noMore, refusal, givenAt, given}
 use Rattle.schedule.specs.Coded.{shownOf}
-use Rattle.schedule.specs.Parts.{zeroed}
+use Rattle.schedule.specs.Inner.{zeroed}
 use Rattle.descriptions.specs.declared.Numbered.{Numbered as NumberedCode}
 use Rattle.descriptions.specs.Paper.{Numbered, nothing, entry, Ordered, ordered}
 use Rattle.descriptions.specs.Coded.{numberedOf}

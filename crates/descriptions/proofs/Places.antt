@@ -1,11 +1,5 @@
 -- The places that opening and calls of the reader of descriptions reach.
-use mathlib.Core.Path.{_≡_, refl, ap, _∙_}
-use mathlib.Core.Bool.{Bool, true, false}
-use mathlib.Core.List.{List}
-use Prim.Native.Nat.{ℕ, zero, suc, _+_, min}
-use native.Mathlib.Omega.{arith}
-use lib.Dec.{ltb}
-use borrow.Author.Tests.{ltb-true, ltb-false}
+use Rattle.laws.proofs.Base.{_≡_, refl, ap, _∙_, Bool, true, false, List, ℕ, zero, suc, _+_, min, arith, ltb, ltb-true, ltb-false}
 use Rattle.schedule.specs.Paper.{end, givenAt, given}
 use Rattle.descriptions.specs.Paper.{passed, reached, Ordered, ordered}
 use Rattle.descriptions.proofs.Stepping.{Told, refused, whole, told}

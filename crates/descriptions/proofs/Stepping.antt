@@ -1,14 +1,8 @@
 -- A call of the reader of descriptions: what it gives, and the place that it leaves.
-use mathlib.Core.Path.{_≡_, refl, sym, ap, _∙_}
-use mathlib.Core.Bool.{Bool, true, false}
-use mathlib.Core.List.{List}
-use Prim.Native.Nat.{ℕ, _+_, _≤_, _<_, _^_}
-use native.Mathlib.Omega.{arith}
-use lib.Dec.{ltb}
-use borrow.Author.Tests.{ltb-true, not-false}
+use Rattle.laws.proofs.Base.{_≡_, refl, sym, ap, _∙_, Bool, true, false, List, ℕ, _+_, _≤_, _<_, _^_, arith, ltb, ltb-true, not-false}
 use Rattle.laws.proofs.Outcome.{Outcome, refuses, passes, outcome}
 use Rattle.schedule.specs.declared.Given.{Given as GivenCode}
-use Rattle.schedule.specs.Paper.{end, within, faults, Given, refusal, givenAt, given}
+use Rattle.schedule.specs.Paper.{end, inBounds, faults, Given, refusal, givenAt, given}
 use Rattle.schedule.specs.Coded.{givenOf}
 use Rattle.schedule.proofs.Header.{within-end}
 use Rattle.descriptions.specs.declared.Stepped.{Stepped as SteppedCode}
@@ -29,7 +23,7 @@ module _ (m : List ℕ) (received : ℕ) where
       go (refuses n a h) = refused n (λ i. h Given refusal (givenAt m i)) (h Ordered unordered (inOrder m))
       go (passes h f) =
           whole
-          (within-end m (not-false (within m) (h .1 .1 .1 .0)))
+          (within-end m (not-false (inBounds m) (h .1 .1 .1 .0)))
           (λ i. f Given refusal (givenAt m i))
           (f Ordered unordered (inOrder m))
 

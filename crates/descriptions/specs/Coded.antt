@@ -2,7 +2,7 @@
 use mathlib.Core.List.{map}
 use Prim.Native.Nat.{ℕ}
 use denote.Ref.{now}
-use Rattle.answer.specs.Number.{numberOf}
+use Rattle.refusals.specs.Number.{numberOf}
 use Rattle.schedule.specs.declared.Given.{Given as GivenCode}
 use Rattle.schedule.specs.Paper.{Given}
 use Rattle.schedule.specs.Coded.{shownOf, givenOf}

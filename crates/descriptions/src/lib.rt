@@ -3,13 +3,11 @@ ghost use mathlib.Core.Path.{_≡_};
 ghost use Rattle.schedule.specs.Coded.{givenOf};
 ghost use Rattle.descriptions.specs.Paper.{passed, stepped, ordered};
 ghost use Rattle.descriptions.specs.Coded.{steppedOf, calledOf, called, orderedOf};
-use answer::Refusal;
+use refusals::Refusal;
 use schedule::Description;
 use schedule::Given;
 use schedule::Slot;
-
-// 000 3.5.1: the slots that a message can describe.
-const SLOTS: usize = 48;
+use sizes::SLOTS;
 
 // A slot by its number.
 pub struct Numbered {

@@ -1,6 +1,6 @@
 -- The cases that document 01 marks P, all computed.
-use mathlib.Core.Path.{refl}
-use Rattle.laws.specs.Received.{wholeBlocks}
+use Rattle.laws.proofs.Base.{refl}
+use Rattle.sizes.specs.Paper.{wholeBlocks}
 use Rattle.laws.specs.Radix.{value, digits}
 use Rattle.laws.specs.Search as search
 use Rattle.laws.specs.Upto.{some, count, picked, each}
@@ -11,10 +11,10 @@ use Rattle.block.specs.Paper.{block, blocks}
 use Rattle.block.specs.Paper as cut
 use Rattle.plan.specs.Paper.{bad, planNumber, holds, lowestSlot, hasPage}
 use Rattle.schedule.specs.Paper.{new, place, order, tells, read}
-use Rattle.sender.specs.Paper.{plannedAt, newAt, octetsOfAll, descriptions, newBits, usedOctets, padded, write}
+use Rattle.sender.specs.Paper.{plannedTold, newAt, octetsOfAll, descriptions, newBits, usedPart, padded, write}
 use Rattle.board.specs.Paper.{isWanted, isHeld, tellsOf, reads, decide}
-use Rattle.edges.specs.Cases.{Edges}
+use Rattle.edges.specs.Claims.{Edges}
 
 pub edges : Edges
-unfolding wholeBlocks value digits search.some search.firstFrom some count picked each alphabet septetOf headerOctets samePage septets packed pageOf badParameter foreign endsInCr written block blocks cut.written bad planNumber holds lowestSlot hasPage new place order tells read plannedAt newAt octetsOfAll descriptions newBits usedOctets padded write isWanted isHeld tellsOf reads decide
+unfolding wholeBlocks value digits search.some search.firstFrom some count picked each alphabet septetOf headerOctets samePage septets packed pageOf badParameter foreign endsInCr written block blocks cut.written bad planNumber holds lowestSlot hasPage new place order tells read plannedTold newAt octetsOfAll descriptions newBits usedPart padded write isWanted isHeld tellsOf reads decide
 edges = refl

@@ -1,5 +1,2 @@
 -- What `edges` states.
-pub mod Accepted
-pub mod Air
-pub mod Cases
-pub mod ReadsBack
+pub mod Claims

@@ -1,1 +1,1 @@
-// What crosses rooms: theorems over several crates, and document 01's proved cases. No code of its own.
+// Document 01's list of where the edges are, each line computed. No code of its own.

@@ -1,8 +1,6 @@
 -- Calls that meet a contract of `firmware` return the same number and leave the same memory.
-use mathlib.Core.Path.{_≡_, sym, ap, _∙_}
-use mathlib.Core.List.{List}
-use Prim.Native.Nat.{ℕ}
-use Rattle.firmware.specs.Paper.{Started, Left, startCall, intakeCall}
+use Rattle.laws.proofs.Base.{_≡_, sym, ap, _∙_, List, ℕ}
+use Rattle.firmware.specs.Paper.{Started, IntakeLeft, startCall, intakeCall}
 
 pub determined-cb-start : (m : List ℕ) (r s : ℕ) (x y : List ℕ)
     → record { number = r; state = x } ≡ startCall m → record { number = s; state = y } ≡ startCall m → (r ≡ s) × (x ≡ y)
@@ -15,4 +13,4 @@ pub determined-cb-intake : (m p o : List ℕ) (r s : ℕ) (x y v w : List ℕ)
     → (r ≡ s) × (x ≡ y) × (v ≡ w)
 determined-cb-intake m p o r s x y v w a b =
     let e = a ∙ sym b in
-    (ap (λ (l : Left). l .returned) e, ap (λ (l : Left). l .state) e, ap (λ (l : Left). l .output) e)
+    (ap (λ (l : IntakeLeft). l .returned) e, ap (λ (l : IntakeLeft). l .state) e, ap (λ (l : IntakeLeft). l .output) e)

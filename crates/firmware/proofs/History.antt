@@ -1,18 +1,11 @@
 -- Demand 2 over C calls: each state in lent memory is the one that the counted pieces leave, and nothing from before the start is in it.
-use mathlib.Core.Path.{_≡_, refl, sym, ap, _∙_}
-use mathlib.Core.Bool.{Bool, true, false}
-use mathlib.Core.List.{List, [], _∷_, _++_, append-assoc, append-nil}
-use Prim.Native.Nat.{ℕ, _+_, _*_, _%_, _≤_}
-use native.Mathlib.Omega.{arith}
-use lib.ListN.{length}
-use lib.Dec.{eqb, lit≤}
-use borrow.Author.Tests.{eq-eqb, ne-eqb, eqb-true, eqb-false}
+use Rattle.laws.proofs.Base.{_≡_, refl, sym, ap, _∙_, Bool, true, false, List, [], _∷_, _++_, append-assoc, append-nil, ℕ, _+_, _*_, _%_, _≤_, arith, length, eqb, lit≤, eq-eqb, ne-eqb, eqb-true, eqb-false}
 use Rattle.block.specs.Paper.{Kind, page, schedule, Given, start, step}
-use Rattle.history.specs.History.{completes, refusedBy, after, answered}
-use Rattle.history.proofs.History.{standing, standing-proper, after-append, number-small, complete-exactly, complete-gives, taken-gives, goes-on-decided, refused-gives}
+use Rattle.block_history.specs.Claims.{completes, refusedBy, after, answered}
+use Rattle.block_history.proofs.History.{standing, standing-proper, after-append, number-small, complete-exactly, complete-gives, taken-gives, goes-on-decided, refused-gives}
 use Rattle.block.proofs.Steps.{proper-facts}
-use Rattle.firmware.specs.Paper.{Left, Started, lent, heldIn, moved, startCall, intakeCall}
-use Rattle.firmware.specs.History.{Call, on, off, afterCalls, counted, called, LentHistory, NeverFinishesLeftovers}
+use Rattle.firmware.specs.Paper.{IntakeLeft, Started, lent, heldIn, moved, startCall, intakeCall}
+use Rattle.firmware.specs.Claims.{Call, on, off, afterCalls, counted, called, LentHistory, NeverFinishesLeftovers}
 use Rattle.firmware.proofs.Lent.{refused-over}
 
 -- memory that holds what pieces leave is 90 octets long
@@ -47,11 +40,11 @@ lent-after ps (on p o ∷ cs) = go (λ qs. lent-after qs cs) (eqb (length o) 88)
     go : ((qs : List (List ℕ)) → afterCalls (lent (after start qs)) cs ≡ lent (after start (qs ++ counted cs))) → (b : Bool) → eqb (length o) 88 ≡ b
         → afterCalls (intakeCall (lent (after start ps)) p o .state) cs ≡ lent (after start (ps ++ counted (on p o ∷ cs)))
     go rest false e =
-        let state = ap (λ (x : Left). x .state) (uncounted-15 (lent (after start ps)) p o (eqb-false (length o) 88 e)) in
+        let state = ap (λ (x : IntakeLeft). x .state) (uncounted-15 (lent (after start ps)) p o (eqb-false (length o) 88 e)) in
         rw (state, e) (rest ps)
     go rest true e =
         let one = after-one ps p in
-        let state = ap (λ (x : Left). x .state) (right (lent (after start ps)) p o (length-lent ps) (eqb-true (length o) 88 e)) in
+        let state = ap (λ (x : IntakeLeft). x .state) (right (lent (after start ps)) p o (length-lent ps) (eqb-true (length o) 88 e)) in
         rw (state, e, ← one, ← append-assoc ps (p ∷ []) (counted cs)) (rest (ps ++ (p ∷ [])))
 
 -- a start call on 90 octets leaves a started state
@@ -78,7 +71,7 @@ lent-history =
     record {
       exactly = λ m cs p o k long size.
           let g = answered (counted cs) p in
-          let number = ap (λ (x : Left). x .returned % 256) (called-answered m cs p o long size) ∙ answer-of (g .number) (g .received) (number-small (after start (counted cs)) p) in (
+          let number = ap (λ (x : IntakeLeft). x .returned % 256) (called-answered m cs p o long size) ∙ answer-of (g .number) (g .received) (number-small (after start (counted cs)) p) in (
             λ e. complete-exactly k (counted cs) p .0 (sym number ∙ e),
             λ x. number ∙ complete-exactly k (counted cs) p .1 x,
           );
@@ -104,8 +97,8 @@ module _ (m : List ℕ) (short : length m ≡ 90 → ⊥) where
   not-started = rw (ne-eqb (length m) 90 short)
 
   call-leaves : (p o : List ℕ) (b : Bool) → eqb (length o) 88 ≡ b → intakeCall m p o .state ≡ m
-  call-leaves p o false e = ap (λ (x : Left). x .state) (uncounted-15 m p o (eqb-false (length o) 88 e))
-  call-leaves p o true e = ap (λ (x : Left). x .state) (uncounted-8 m p o (eqb-true (length o) 88 e) short)
+  call-leaves p o false e = ap (λ (x : IntakeLeft). x .state) (uncounted-15 m p o (eqb-false (length o) 88 e))
+  call-leaves p o true e = ap (λ (x : IntakeLeft). x .state) (uncounted-8 m p o (eqb-true (length o) 88 e) short)
 
   calls-leave : (cs : List Call) → afterCalls m cs ≡ m
   unfolding afterCalls
@@ -124,13 +117,13 @@ right-lengths m cs p o k e = go (eqb (length o) 88) refl (eqb (length m) 90) ref
   where
     go : (b : Bool) → eqb (length o) 88 ≡ b → (c : Bool) → eqb (length m) 90 ≡ c → (length m ≡ 90) × (length o ≡ 88)
     go false eo c em =
-        absurd (not-completes k 15 (lit≤ tt) (sym (ap (λ (x : Left). x .returned % 256) (uncounted-15 (afterCalls (startCall m .state) cs) p o (eqb-false (length o) 88 eo))) ∙ e))
+        absurd (not-completes k 15 (lit≤ tt) (sym (ap (λ (x : IntakeLeft). x .returned % 256) (uncounted-15 (afterCalls (startCall m .state) cs) p o (eqb-false (length o) 88 eo))) ∙ e))
     go true eo false em =
         let short = eqb-false (length m) 90 em in
         let state : afterCalls (startCall m .state) cs ≡ m = ap (λ (s : List ℕ). afterCalls s cs) (not-started m short) ∙ calls-leave m short cs in
         let left : called m cs p o .returned ≡ 8 =
         ap (λ (s : List ℕ). intakeCall s p o .returned) state
-        ∙ ap (λ (x : Left). x .returned) (uncounted-8 m p o (eqb-true (length o) 88 eo) short) in
+        ∙ ap (λ (x : IntakeLeft). x .returned) (uncounted-8 m p o (eqb-true (length o) 88 eo) short) in
         absurd (not-completes k 8 (lit≤ tt) (sym (ap (λ (n : ℕ). n % 256) left) ∙ e))
     go true eo true em = (eqb-true (length m) 90 em, eqb-true (length o) 88 eo)
 

@@ -1,23 +1,13 @@
 -- Laws of a state in lent memory: two octets in front, and the 88 behind them.
-use mathlib.Core.Path.{_≡_, refl, sym, ap, _∙_}
-use mathlib.Core.Bool.{Bool, true, false, cond}
-use mathlib.Core.List.{List, [], _∷_, _++_}
-use Prim.Native.Nat.{ℕ, suc, _+_, _*_, _-_, _≤_}
-use native.Mathlib.Nat.{add-zero}
-use native.Mathlib.Numerals.{add-one}
-use native.Mathlib.Omega.{arith}
-use lib.ListN.{length, take, drop, set, length-drop}
-use lib.Seq.{take-all}
-use lib.Dec.{eqb}
-use borrow.Author.Tests.{ne-eqb}
+use Rattle.laws.proofs.Base.{_≡_, refl, sym, ap, _∙_, Bool, true, false, cond, List, [], _∷_, _++_, ℕ, suc, _+_, _*_, _-_, _≤_, add-zero, add-one, arith, length, take, drop, set, length-drop, take-all, eqb, ne-eqb}
 use borrow.Rule.Slice.PartMut.{midOf, putMid}
 use Rattle.laws.proofs.Parts.{copy-whole, put-copy}
 use Rattle.block.specs.Paper.{Held, Given, filled, start, proper, refusal, added, step}
-use Rattle.block.specs.Place.{Place, placeOf}
-use Rattle.block.specs.Coded.{held, outcome, Adds}
+use Rattle.block.specs.Inner.{Place, placeOf}
+use Rattle.block.specs.Coded.{stateWith, outcome, Adds}
 use Rattle.block.proofs.Filled.{filled-next}
 use Rattle.block.proofs.Steps.{met, step-by}
-use Rattle.firmware.specs.Paper.{Left, lent, moved}
+use Rattle.firmware.specs.Paper.{IntakeLeft, lent, moved}
 
 -- the front octets written, the rest as it is
 pub set-front : (w : List ℕ) (a b : ℕ) → 2 ≤ length w → set (set w 0 a) 1 b ≡ a ∷ b ∷ drop 2 w
@@ -67,14 +57,14 @@ handed-over s o y long size q =
 module _ (last : Bool) (k t : ℕ) (s p o w : List ℕ) (content : w ≡ filled (take (22 * t) (drop 2 s) ++ drop 1 p)) where
   -- what a block leaves that is only taken
   pub taken-over : (v : List ℕ) → last ≡ false → v ≡ k ∷ ((t + 1) ∷ w)
-      → _≡_ {A = Left} (record { returned = 1; state = v; output = o }) (moved (outcome last (added (held k t (drop 2 s)) p)) o)
+      → _≡_ {A = IntakeLeft} (record { returned = 1; state = v; output = o }) (moved (outcome last (added (stateWith k t (drop 2 s)) p)) o)
   taken-over v e q =
       let state = rw (add-one t, content) at q in
       rw e (λ i. record { returned = 1; state = state i; output = o })
 
   -- what the last block leaves
   pub complete-over : (r : ℕ) (v : List ℕ) → last ≡ true → v ≡ lent start → r ≡ cond (eqb k 2) 7 0 + 256 * (22 * (t + 1))
-      → _≡_ {A = Left} (record { returned = r; state = v; output = w }) (moved (outcome last (added (held k t (drop 2 s)) p)) o)
+      → _≡_ {A = IntakeLeft} (record { returned = r; state = v; output = w }) (moved (outcome last (added (stateWith k t (drop 2 s)) p)) o)
   complete-over r v e q n =
       let some : eqb (22 * suc t) 0 ≡ false = ne-eqb (22 * suc t) 0 (omega arith) in
       let returned = rw (add-one t) at n in
@@ -82,12 +72,12 @@ module _ (last : Bool) (k t : ℕ) (s p o w : List ℕ) (content : w ≡ filled 
 
 -- what a refused piece leaves
 pub refused-over : (n r : ℕ) (v o : List ℕ) → r ≡ n → v ≡ lent start
-    → _≡_ {A = Left} (record { returned = r; state = v; output = o }) (moved (refusal n) o)
+    → _≡_ {A = IntakeLeft} (record { returned = r; state = v; output = o }) (moved (refusal n) o)
 refused-over n r v o e q =
     let returned = e ∙ sym (add-zero n) in
     λ i. record { returned = returned i; state = q i; output = o }
 
 -- what the place of a piece means is what the call leaves
-pub moved-step : (h : Held) (p o : List ℕ) (x : Place) (l : Left) → proper h ≡ true → placeOf (h .taken) p ≡ x
+pub moved-step : (h : Held) (p o : List ℕ) (x : Place) (l : IntakeLeft) → proper h ≡ true → placeOf (h .taken) p ≡ x
     → l ≡ moved (met h p x) o → l ≡ moved (step h p) o
 moved-step h p o x l good e q = q ∙ ap (λ (g : Given). moved g o) (step-by h p x (met h p x) good e refl)

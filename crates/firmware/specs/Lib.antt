@@ -1,3 +1,3 @@
 -- What `firmware` defines.
 pub mod Paper
-pub mod History
+pub mod Claims

@@ -27,13 +27,13 @@ startCall s =
     (record { number = 0; state = lent start })
 
 -- what an intake call leaves: the number returned, the lent state, the lent output
-pub record Left : Type 0 where
+pub record IntakeLeft : Type 0 where
   pub returned : ℕ
   pub state : List ℕ
   pub output : List ℕ
 
 -- 01 Intake: answer + 256 × octets received; the output is untouched unless a message is complete
-abbrev pub moved : Given → List ℕ → Left
+abbrev pub moved : Given → List ℕ → IntakeLeft
 moved g o =
     record {
       returned = g .number + 256 * g .received;
@@ -42,7 +42,7 @@ moved g o =
     }
 
 -- 01 Intake, Order: 15 first, then 8 for the length, and nothing changes; then as the intake by value
-unfoldable pub intakeCall : List ℕ → List ℕ → List ℕ → Left
+unfoldable pub intakeCall : List ℕ → List ℕ → List ℕ → IntakeLeft
 intakeCall s p o =
     ruled (λ (n : ℕ). record { returned = n; state = s; output = o })
     ((not (eqb (length o) 88), 15) ∷ (not (eqb (length s) 90), 8) ∷ [])

@@ -3,24 +3,18 @@ ghost use mathlib.Core.Path.{_≡_};
 ghost use mathlib.Core.List.{_++_};
 ghost use Prim.Native.Nat.{_*_};
 ghost use lib.ListN.{length, take, drop, replicate};
-ghost use Rattle.answer.specs.Number.{numberOf};
+ghost use Rattle.refusals.specs.Number.{numberOf};
 ghost use Rattle.block.specs.Paper.{start, added, filled, step};
-ghost use Rattle.block.specs.Coded.{held, outcome, Adds};
+ghost use Rattle.block.specs.Coded.{stateWith, outcome, Adds};
 ghost use Rattle.firmware.specs.Paper.{lent, heldIn, moved, startCall, intakeCall};
-use answer::Refusal;
 use block::Place;
+use refusals::Refusal;
+use sizes::CONTENT;
+use sizes::FILLER;
+use sizes::MESSAGE;
 
 // Octets of a lent state: kind, blocks taken, and a message.
 const STATE: usize = 90;
-
-// 000 3.1: octets of a message.
-const MESSAGE: usize = 88;
-
-// 000 3.1: octets of a block's content.
-const CONTENT: usize = 22;
-
-// 000 3.4: what stands where nothing was sent.
-const FILLER: u8 = 0x2B;
 
 // Makes a state as it must be before the first piece.
 #[no_mangle]
@@ -75,7 +69,7 @@ fn refuse(state: &mut [u8], refusal: Refusal) -> u32
     ensures { λ r. ⌜ (r ≡ numberOf refusal) × (now (state .exit) ≡ lent start) ⌝ }
 {
     clear(state);
-    answer::number(refusal) as u32
+    refusals::number(refusal) as u32
 }
 
 // The state as after start.
@@ -102,7 +96,7 @@ fn fill(memory: &mut [u8], octet: u8)
 // Adds a piece to the message in state; last: it completes the message.
 fn add(kind: u8, taken: u8, last: bool, state: &mut [u8], piece: &[u8], output: &mut [u8]) -> u32
     requires { ⌜ (length (now state) ≡ 90) × (length (now output) ≡ 88) × Adds taken (drop 2 (now state)) (now piece) ⌝ }
-    ensures { λ r. ⌜ record { returned = r; state = now (state .exit); output = now (output .exit) } ≡ moved (outcome last (added (held kind taken (drop 2 (now (state .entry)))) (now (piece .entry)))) (now (output .entry)) ⌝ }
+    ensures { λ r. ⌜ record { returned = r; state = now (state .exit); output = now (output .exit) } ≡ moved (outcome last (added (stateWith kind taken (drop 2 (now (state .entry)))) (now (piece .entry)))) (now (output .entry)) ⌝ }
 {
     put(state, taken, piece);
     if !last {

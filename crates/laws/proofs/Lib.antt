@@ -1,11 +1,11 @@
 -- What `laws` proves.
+pub mod Base
 pub mod Bits
 pub mod Lowest
 pub mod Map
 pub mod Outcome
 pub mod Parts
 pub mod Radix
-pub mod Received
 pub mod Ruled
 pub mod Search
 pub mod Snoc

@@ -1,10 +1,5 @@
 -- Laws of the lowest number below a bound that passes a test.
-use mathlib.Core.Path.{_≡_, refl, sym, _∙_}
-use mathlib.Core.Bool.{Bool, true, false, cond, false≢true}
-use mathlib.Core.Logic.{⊎-elim}
-use Prim.Native.Nat.{ℕ, zero, suc, _<_}
-use native.Mathlib.Nat.{not-suc-le-zero}
-use native.Mathlib.Omega.{arith}
+use Rattle.laws.proofs.Base.{_≡_, refl, sym, _∙_, Bool, true, false, cond, false≢true, ⊎-elim, ℕ, zero, suc, _<_, not-suc-le-zero, arith}
 use Rattle.laws.specs.Upto.{some, lowest}
 use Rattle.laws.proofs.Upto.{below-suc, some-at, some-none, some-agree}
 

@@ -1,6 +1,5 @@
 -- Laws of a function that has a way back, along lists.
-use mathlib.Core.Path.{_≡_, refl, sym, ap, _∙_}
-use mathlib.Core.List.{List, [], _∷_, map}
+use Rattle.laws.proofs.Base.{_≡_, refl, sym, ap, _∙_, List, [], _∷_, map}
 
 module _ {A B : Type 0} (f : A → B) (g : B → A) (h : (x : A) → g (f x) ≡ x) where
   -- what brings each element back brings the list back

@@ -1,9 +1,5 @@
 -- What a list of tests settles, whatever the answers that hang on it.
-use mathlib.Core.Path.{_≡_, refl, sym}
-use mathlib.Core.Bool.{Bool, true, false}
-use mathlib.Core.List.{List, [], _∷_, _++_}
-use mathlib.Core.Logic.{_⊎_, inl, inr, ⊎-elim}
-use Prim.Native.Nat.{ℕ}
+use Rattle.laws.proofs.Base.{_≡_, refl, sym, Bool, true, false, List, [], _∷_, _++_, _⊎_, inl, inr, ⊎-elim, ℕ}
 use Rattle.laws.specs.Ruled.{ruled}
 use Rattle.laws.proofs.Ruled.{Among, NoneHolds}
 

@@ -1,11 +1,5 @@
 -- Laws of parts of lists: one that is lent comes back into its place, parts of parts, and parts of repeats.
-use mathlib.Core.Path.{_≡_, sym, ap, _∙_}
-use mathlib.Core.List.{List, [], _∷_, _++_, append-nil}
-use Prim.Native.Nat.{ℕ, zero, suc, _+_, _-_, _≤_, min}
-use native.Mathlib.Nat.{sub-zero, zero-sub, suc-sub-suc, zero-min, min-zero, suc-min-suc}
-use native.Mathlib.Omega.{arith}
-use lib.ListN.{length, take, drop, replicate, length-append, length-drop, drop-of-length-le}
-use lib.Seq.{take-length, length-take-le, take-nil}
+use Rattle.laws.proofs.Base.{_≡_, sym, ap, _∙_, List, [], _∷_, _++_, append-nil, ℕ, zero, suc, _+_, _-_, _≤_, min, sub-zero, zero-sub, suc-sub-suc, zero-min, min-zero, suc-min-suc, arith, length, take, drop, replicate, length-append, length-drop, drop-of-length-le, take-length, length-take-le, take-nil}
 use borrow.Rule.Slice.PartMut.{midOf, putMid, post-is, mid-len}
 
 -- a source that is copied over memory of its length is what stands there

@@ -1,11 +1,5 @@
 -- Laws of `ruled`: what is done to its answer, and which of its tests answered.
-use mathlib.Core.Path.{_≡_, refl}
-use mathlib.Core.Bool.{Bool, true, false, cond}
-use mathlib.Core.List.{List, [], _∷_}
-use mathlib.Core.Logic.{_⊎_, inl, inr}
-use Prim.Native.Nat.{ℕ}
-use lib.Dec.{eqb}
-use borrow.Author.Tests.{eqb-false, not-true}
+use Rattle.laws.proofs.Base.{_≡_, refl, Bool, true, false, cond, List, [], _∷_, _⊎_, inl, inr, ℕ, eqb, eqb-false, not-true}
 use Rattle.laws.specs.Ruled.{ruled, unless0}
 
 module _ {A B : Type 0} (f : A → B) where

@@ -1,15 +1,5 @@
 -- Laws of lists that are searched: turns and ends of the loops that do it, and what is found.
-use mathlib.Core.Path.{_≡_, refl, sym}
-use mathlib.Core.Bool.{Bool, true, false, cond, not, _||_, or-true, or-assoc}
-use mathlib.Core.List.{List, [], _∷_, _++_}
-use mathlib.Core.Logic.{⊎-elim}
-use Prim.Native.Nat.{ℕ, zero, suc, _+_, _≤_, _<_}
-use native.Mathlib.Nat.{le-of-suc-le-suc, not-suc-le-zero}
-use native.Mathlib.Numerals.{add-one}
-use native.Mathlib.Omega.{arith}
-use lib.ListN.{length, getD, take, drop, drop-of-length-le}
-use lib.Dec.{eqb, eqb·suc-zero}
-use lib.Seq.{take-suc, drop-cons}
+use Rattle.laws.proofs.Base.{_≡_, refl, sym, Bool, true, false, cond, not, _||_, or-true, or-assoc, List, [], _∷_, _++_, ⊎-elim, ℕ, zero, suc, _+_, _≤_, _<_, le-of-suc-le-suc, not-suc-le-zero, add-one, arith, length, getD, take, drop, drop-of-length-le, eqb, eqb·suc-zero, take-suc, drop-cons}
 use Rattle.laws.specs.Search.{some, firstFrom}
 use Rattle.laws.proofs.Tests.{either}
 

@@ -1,11 +1,5 @@
 -- What one computed test over a table says of each of its entries.
-use mathlib.Core.Path.{_≡_, refl, ap}
-use mathlib.Core.Bool.{Bool, true}
-use mathlib.Core.List.{List, [], _∷_, _++_, map}
-use Prim.Native.Nat.{ℕ, zero, suc, _+_, _<_, _≤_, min}
-use native.Mathlib.Nat.{add-zero, zero-add, add-suc, suc-add, le-of-suc-le-suc, not-suc-le-zero, lt-of-lt-of-le, min-le-left, min-le-right, suc-min-suc}
-use native.Mathlib.Numerals.{add-one}
-use lib.ListN.{length, getD, set, take, drop}
+use Rattle.laws.proofs.Base.{_≡_, refl, ap, Bool, true, List, [], _∷_, _++_, map, ℕ, zero, suc, _+_, _<_, _≤_, min, add-zero, zero-add, add-suc, suc-add, le-of-suc-le-suc, not-suc-le-zero, lt-of-lt-of-le, min-le-left, min-le-right, suc-min-suc, add-one, length, getD, set, take, drop}
 use Rattle.laws.proofs.Tests.{both}
 use Rattle.laws.specs.Table.{every, listed, onto}
 

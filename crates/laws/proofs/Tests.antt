@@ -1,11 +1,5 @@
 -- Laws of tests: joined ones, and one number below another.
-use mathlib.Core.Path.{_≡_, refl}
-use mathlib.Core.Logic.{_⊎_, inl, inr}
-use mathlib.Core.Bool.{Bool, true, false, _&&_, _||_, false≢true, true≢false}
-use Prim.Native.Nat.{ℕ, _+_, _≤_, _<_}
-use native.Mathlib.Omega.{arith}
-use lib.Dec.{ltb}
-use borrow.Author.Tests.{lt-ltb, le-ltb, ltb-true, ltb-false}
+use Rattle.laws.proofs.Base.{_≡_, refl, _⊎_, inl, inr, Bool, true, false, _&&_, _||_, false≢true, true≢false, ℕ, _+_, _≤_, _<_, arith, ltb, lt-ltb, le-ltb, ltb-true, ltb-false}
 
 -- a conjunction that holds, part by part
 pub both : (a b : Bool) → (a && b) ≡ true → (a ≡ true) × (b ≡ true)

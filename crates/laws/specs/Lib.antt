@@ -1,6 +1,5 @@
 -- What `laws` defines.
 pub mod Radix
-pub mod Received
 pub mod Ruled
 pub mod Search
 pub mod Table

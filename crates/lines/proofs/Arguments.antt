@@ -1,9 +1,5 @@
 -- The cases of what a program's arguments ask for.
-use mathlib.Core.Path.{_≡_}
-use mathlib.Core.Bool.{true, false}
-use mathlib.Core.List.{List}
-use Prim.Native.Nat.{ℕ, _≤_, _<_}
-use borrow.Author.Tests.{le-leb, lt-leb}
+use Rattle.laws.proofs.Base.{_≡_, true, false, List, ℕ, _≤_, _<_, le-leb, lt-leb}
 use Rattle.lines.specs.Asked.{helpAsked, askedBy}
 use Rattle.lines.specs.declared.Asked.the-variants.{Work, Help, Usage}
 

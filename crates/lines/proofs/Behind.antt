@@ -1,17 +1,8 @@
 -- Laws of what stands behind a text: the cases of `behind`, and one thing put behind another.
-use mathlib.Core.Path.{_≡_, refl, sym, ap, _∙_}
-use mathlib.Core.Bool.{Bool, true, false}
-use mathlib.Core.List.{List, [], _∷_, _++_, append-assoc, append-nil}
-use Prim.Native.Nat.{ℕ, _+_, _-_, _≤_, _<_}
-use native.Mathlib.Numerals.{add-one}
-use native.Mathlib.Omega.{arith}
-use lib.ListN.{length, take, drop, set, length-take, length-drop, length-append}
-use lib.Seq.{take-at, take-suc-set}
-use lib.Dec.{leb}
-use borrow.Author.Tests.{le-leb, lt-leb, leb-true, leb-false}
+use Rattle.laws.proofs.Base.{_≡_, refl, sym, ap, _∙_, Bool, true, false, List, [], _∷_, _++_, append-assoc, append-nil, ℕ, _+_, _-_, _≤_, _<_, add-one, arith, length, take, drop, set, length-take, length-drop, length-append, take-at, take-suc-set, leb, le-leb, lt-leb, leb-true, leb-false}
 use borrow.Rule.Slice.PartMut.{midOf, putMid}
 use Rattle.laws.proofs.Parts.{put-copy}
-use Rattle.lines.specs.Paper.{Left, behind}
+use Rattle.lines.specs.Paper.{PutLeft, behind}
 use Rattle.lines.specs.Inner.{Puts}
 
 -- whether a number of octets fits, by what is left of the memory
@@ -43,7 +34,7 @@ module _ (s : List ℕ) (n : ℕ) (t : List ℕ) where
   behind-copy y e h q r =
       let whole = put-copy n e t s y (omega arith) (omega arith) (omega arith) r in
       let text : putMid n (e - n) t y ≡ take n t ++ (s ++ drop (n + length s) t) = whole ∙ ap (λ (k : ℕ). take n t ++ (s ++ drop k t)) q in
-      let put : _≡_ {A = Left} (record { end = e; text = putMid n (e - n) t y }) (record { end = n + length s; text = take n t ++ (s ++ drop (n + length s) t) }) =
+      let put : _≡_ {A = PutLeft} (record { end = e; text = putMid n (e - n) t y }) (record { end = n + length s; text = take n t ++ (s ++ drop (n + length s) t) }) =
       λ i. record { end = q i; text = text i } in
       put ∙ sym (behind-fits h)
 
@@ -51,8 +42,8 @@ module _ (s : List ℕ) (n : ℕ) (t : List ℕ) where
   pub puts-behind : (most r : ℕ) (t′ : List ℕ) → record { end = r; text = t′ } ≡ behind s n t → length s ≤ most → n + most ≤ length t → Puts s most n t t′ r
   puts-behind most r t′ q few h =
       let e = q ∙ behind-fits (omega arith) in
-      let end : r ≡ n + length s = ap (λ (x : Left). x .end) e in
-      let text : t′ ≡ take n t ++ (s ++ drop (n + length s) t) = ap (λ (x : Left). x .text) e in
+      let end : r ≡ n + length s = ap (λ (x : PutLeft). x .end) e in
+      let text : t′ ≡ take n t ++ (s ++ drop (n + length s) t) = ap (λ (x : PutLeft). x .text) e in
       let front : length (take n t ++ s) ≡ n + length s = simp (length-append, length-take) (omega arith) in
       record {
         text = rw (end, text, ← append-assoc (take n t) s (drop (n + length s) t)) (take-at (take n t ++ s) (drop (n + length s) t) (n + length s) front);
@@ -61,17 +52,17 @@ module _ (s : List ℕ) (n : ℕ) (t : List ℕ) where
       }
 
 -- what is put ends within its memory
-pub ends-inside : (s : List ℕ) (n : ℕ) (t : List ℕ) (left : Left) → n ≤ length t → left ≡ behind s n t → left .end ≤ length t
+pub ends-inside : (s : List ℕ) (n : ℕ) (t : List ℕ) (left : PutLeft) → n ≤ length t → left ≡ behind s n t → left .end ≤ length t
 ends-inside s n t left h q = go (leb (n + length s) (length t)) refl
   where
     go : (b : Bool) → leb (n + length s) (length t) ≡ b → left .end ≤ length t
     go true e =
         let few = leb-true (n + length s) (length t) e in
-        let end : left .end ≡ n + length s = ap (λ (x : Left). x .end) (q ∙ behind-fits s n t few) in
+        let end : left .end ≡ n + length s = ap (λ (x : PutLeft). x .end) (q ∙ behind-fits s n t few) in
         omega arith
     go false e =
         let many = leb-false (n + length s) (length t) e in
-        let end : left .end ≡ n = ap (λ (x : Left). x .end) (q ∙ behind-full s n t many) in
+        let end : left .end ≡ n = ap (λ (x : PutLeft). x .end) (q ∙ behind-full s n t many) in
         omega arith
 
 -- and the memory is as long as it was
@@ -81,8 +72,8 @@ length-behind s n t = go (leb (n + length s) (length t)) refl
     go : (b : Bool) → leb (n + length s) (length t) ≡ b → length (behind s n t .text) ≡ length t
     go true e =
         let few = leb-true (n + length s) (length t) e in
-        ap (λ (x : Left). length (x .text)) (behind-fits s n t few) ∙ simp (length-append, length-take, length-drop) (omega arith)
-    go false e = ap (λ (x : Left). length (x .text)) (behind-full s n t (leb-false (n + length s) (length t) e))
+        ap (λ (x : PutLeft). length (x .text)) (behind-fits s n t few) ∙ simp (length-append, length-take, length-drop) (omega arith)
+    go false e = ap (λ (x : PutLeft). length (x .text)) (behind-full s n t (leb-false (n + length s) (length t) e))
 
 -- nothing is put
 pub puts-none : (n : ℕ) (t : List ℕ) → Puts [] 0 n t t n

@@ -1,12 +1,7 @@
 -- A log that is read chunk by chunk is listed as if it were read at once.
-use mathlib.Core.Path.{_≡_, sym, _∙_}
-use mathlib.Core.List.{List, [], _∷_, _++_, append-assoc}
-use Prim.Native.Nat.{ℕ, suc, _+_, _/_}
-use native.Mathlib.Nat.{add-zero}
-use native.Mathlib.Omega.{arith}
-use lib.ListN.{length}
+use Rattle.laws.proofs.Base.{_≡_, sym, _∙_, List, [], _∷_, _++_, append-assoc, ℕ, suc, _+_, _/_, add-zero, arith, length}
 use Rattle.block.specs.Paper.{Held, Given, step}
-use Rattle.history.specs.History.{after}
+use Rattle.block_history.specs.Claims.{after}
 use Rattle.lines.specs.Paper.{listing, cut, InChunks}
 use Rattle.lines.proofs.Pieces.{length-pieces, cut-append}
 

@@ -1,18 +1,11 @@
 -- A message that is handed out is 88 octets long, and whole blocks of it were received.
-use mathlib.Core.Path.{_≡_, refl, sym, ap, _∙_}
-use mathlib.Core.Bool.{Bool, true, false, cond, not}
-use mathlib.Core.Logic.{inl, inr}
-use mathlib.Core.List.{List, _∷_}
-use Prim.Native.Nat.{ℕ, suc, _*_, _≤_}
-use native.Mathlib.Omega.{arith}
-use lib.ListN.{length, length-append, length-take, length-drop, length-replicate}
-use borrow.Author.Tests.{eqb-true, ne-eqb, not-false}
-use Rattle.laws.specs.Received.{wholeBlocks}
-use Rattle.laws.proofs.Received.{whole-times, whole-bounds}
+use Rattle.laws.proofs.Base.{_≡_, refl, sym, ap, _∙_, Bool, true, false, cond, not, inl, inr, List, _∷_, ℕ, suc, _*_, _≤_, arith, length, length-append, length-take, length-drop, length-replicate, eqb-true, ne-eqb, not-false}
+use Rattle.sizes.specs.Paper.{wholeBlocks}
+use Rattle.sizes.proofs.Received.{whole-times, whole-bounds}
 use Rattle.laws.proofs.Ruled.{ruling, Ruling, refuses, passes, Among, NoneHolds}
 use Rattle.block.specs.Paper.{Kind, page, schedule, Held, Given, proper, refusal, code, follows, faults, last, begun, added, made, handed, kept, step}
 use Rattle.block.proofs.Steps.{Proper, proper-facts}
-use Rattle.history.specs.History.{completes}
+use Rattle.block_history.specs.Claims.{completes}
 use Rattle.lines.proofs.Listed.{Taken}
 
 -- a message complete

@@ -1,16 +1,9 @@
 -- The loop over a log: what is listed so far, and one piece more.
-use mathlib.Core.Path.{_≡_, refl, sym, ap, _∙_}
-use mathlib.Core.Bool.{cond}
-use mathlib.Core.List.{List, [], _∷_, _++_, append-assoc, append-nil}
-use Prim.Native.Nat.{ℕ, _+_, _*_, _-_, _/_, _%_, _≤_, _<_}
-use native.Mathlib.Nat.{sub-zero, mul-suc, mul-le-mul-left}
-use native.Mathlib.Omega.{arith}
-use lib.ListN.{length, take, drop}
-use lib.Dec.{eqb}
+use Rattle.laws.proofs.Base.{_≡_, refl, sym, ap, _∙_, cond, List, [], _∷_, _++_, append-assoc, append-nil, ℕ, _+_, _*_, _-_, _/_, _%_, _≤_, _<_, sub-zero, mul-suc, mul-le-mul-left, arith, length, take, drop, eqb}
 use Rattle.block.specs.Paper.{Given, step}
-use Rattle.history.specs.History.{after}
-use Rattle.history.proofs.History.{number-small}
-use Rattle.firmware.specs.Paper.{Left, lent, heldIn, moved, intakeCall}
+use Rattle.block_history.specs.Claims.{after}
+use Rattle.block_history.proofs.History.{number-small}
+use Rattle.firmware.specs.Paper.{IntakeLeft, lent, heldIn, moved, intakeCall}
 use Rattle.firmware.proofs.History.{right, answer-of}
 use Rattle.lines.specs.Paper.{listing, pieces, cut}
 use Rattle.lines.specs.Inner.{Puts}
@@ -43,15 +36,15 @@ pub taken : (s log message : List ℕ) (at returned next : ℕ) (s′ message′
 taken s log message at returned next s′ message′ h size₁ size₂ n call =
     let p = take 23 (drop at log) in
     let g = step (heldIn s) p in
-    let did : _≡_ {A = Left} (record { returned = returned; state = s′; output = message′ }) (moved g message) =
+    let did : _≡_ {A = IntakeLeft} (record { returned = returned; state = s′; output = message′ }) (moved g message) =
     (rw (n, piece-is at log h) at call) ∙ right s p message size₁ size₂ in
-    let number-is = ap (λ (x : Left). x .returned) did in
+    let number-is = ap (λ (x : IntakeLeft). x .returned) did in
     let small = number-small (heldIn s) p in
     record {
       answer = rw number-is (answer-of (g .number) (g .received) small);
       received = rw number-is (received-of (g .number) (g .received) small);
-      state = ap (λ (x : Left). heldIn (x .state)) did;
-      output = ap (λ (x : Left). x .output) did;
+      state = ap (λ (x : IntakeLeft). heldIn (x .state)) did;
+      output = ap (λ (x : IntakeLeft). x .output) did;
     }
 
 -- what holds between two pieces, where a line is no longer than wide and the text's memory is of a size: the text so far and the lines to come are the listing

@@ -1,14 +1,5 @@
 -- Laws of numbers in decimal and to base 16: how many digits they have, and how the code writes them.
-use mathlib.Core.Path.{_≡_, refl, sym, ap, _∙_}
-use mathlib.Core.Bool.{Bool, true, false}
-use mathlib.Core.List.{List, [], _∷_, _++_, append-assoc}
-use Prim.Native.Nat.{ℕ, zero, suc, _+_, _*_, _-_, _/_, _%_, _^_, _≤_, _<_}
-use native.Mathlib.Nat.{pow-suc, one-le-pow, pow-le-pow-right, mod-lt, mod-eq-of-lt, le-div-iff-mul-le, div-lt-iff-lt-mul, add-zero}
-use native.Mathlib.Omega.{arith}
-use lib.ListN.{length, take, drop, set, length-append, length-set, take-append-drop}
-use lib.Seq.{drop-cons, getD-set-same, take-set-le, drop-set-lt, take-take}
-use lib.Dec.{ltb, leb, lit<}
-use borrow.Author.Tests.{lt-ltb, le-ltb, leb-true, leb-false}
+use Rattle.laws.proofs.Base.{_≡_, refl, sym, ap, _∙_, Bool, true, false, List, [], _∷_, _++_, append-assoc, ℕ, zero, suc, _+_, _*_, _-_, _/_, _%_, _^_, _≤_, _<_, pow-suc, one-le-pow, pow-le-pow-right, mod-lt, mod-eq-of-lt, le-div-iff-mul-le, div-lt-iff-lt-mul, add-zero, arith, length, take, drop, set, length-append, length-set, take-append-drop, drop-cons, getD-set-same, take-set-le, drop-set-lt, take-take, ltb, leb, lit<, lt-ltb, le-ltb, leb-true, leb-false}
 use Rattle.io.specs.Digits.{glyph, digits, Fewest}
 use Rattle.lines.specs.Paper.{spelled, hexDigit, hexadecimal, behind}
 use Rattle.lines.proofs.Behind.{behind-fits}

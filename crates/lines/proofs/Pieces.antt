@@ -1,14 +1,5 @@
 -- Laws of a log cut into pieces: the next piece and those left, and a log in two parts.
-use mathlib.Core.Path.{_≡_, refl, sym, ap, _∙_}
-use mathlib.Core.Bool.{Bool, true, false}
-use mathlib.Core.List.{List, _∷_, _++_}
-use Prim.Native.Nat.{ℕ, zero, suc, _+_, _*_, _-_, _/_, _≤_, _<_, min}
-use native.Mathlib.Nat.{zero-add, add-zero}
-use native.Mathlib.Omega.{arith}
-use lib.ListN.{length, take, drop, length-append, length-drop}
-use lib.Seq.{take-all, take-append-le, drop-append-le, drop-append-add}
-use lib.Dec.{leb}
-use borrow.Author.Tests.{leb-true, leb-false}
+use Rattle.laws.proofs.Base.{_≡_, refl, sym, ap, _∙_, Bool, true, false, List, _∷_, _++_, ℕ, zero, suc, _+_, _*_, _-_, _/_, _≤_, _<_, min, zero-add, add-zero, arith, length, take, drop, length-append, length-drop, take-all, take-append-le, drop-append-le, drop-append-add, leb, leb-true, leb-false}
 use Rattle.lines.specs.Paper.{pieces, cut}
 
 -- the pieces of a log from a place on

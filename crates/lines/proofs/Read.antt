@@ -1,13 +1,5 @@
 -- What is known of a chunk that was read, by what reading gave.
-use mathlib.Core.Path.{_≡_, refl, sym, subst, _∙_}
-use mathlib.Core.Bool.{Bool, true, false, cond}
-use mathlib.Core.List.{List}
-use Prim.Native.Nat.{ℕ, _-_, _%_, _≤_, _<_}
-use native.Mathlib.Omega.{arith}
-use lib.ListN.{length, take}
-use lib.Seq.{length-take-le}
-use lib.Dec.{eqb}
-use borrow.Author.Tests.{eqb-true}
+use Rattle.laws.proofs.Base.{_≡_, refl, sym, subst, _∙_, Bool, true, false, cond, List, ℕ, _-_, _%_, _≤_, _<_, arith, length, take, length-take-le, eqb, eqb-true}
 use Rattle.lines.specs.Chunk.{movedOn, filled, endingOf, chunkOf, Reads}
 use Rattle.lines.specs.Paper.{cut}
 use Rattle.lines.specs.declared.Chunk.{Chunk}

@@ -1,10 +1,5 @@
 -- Two texts are the same exactly where `sameText` says so.
-use mathlib.Core.Path.{_≡_, refl, sym, ap, _∙_}
-use mathlib.Core.Bool.{Bool, true, false, false≢true}
-use mathlib.Core.List.{List, [], _∷_}
-use Prim.Native.Nat.{ℕ}
-use lib.Dec.{eqb}
-use borrow.Author.Tests.{eq-eqb, eqb-true}
+use Rattle.laws.proofs.Base.{_≡_, refl, sym, ap, _∙_, Bool, true, false, false≢true, List, [], _∷_, ℕ, eqb, eq-eqb, eqb-true}
 use Rattle.laws.proofs.Tests.{both}
 use Rattle.lines.specs.Asked.{sameText}
 

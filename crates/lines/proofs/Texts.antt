@@ -1,27 +1,24 @@
 -- Laws of texts put one behind the other.
-use mathlib.Core.Path.{_≡_, refl, ap, _∙_}
-use mathlib.Core.List.{List, [], _∷_, _++_}
-use Prim.Native.Nat.{ℕ, _≤_}
-use lib.ListN.{length}
-use Rattle.lines.specs.Paper.{Left, behind, allBehind}
+use Rattle.laws.proofs.Base.{_≡_, refl, ap, _∙_, List, [], _∷_, _++_, ℕ, _≤_, length}
+use Rattle.lines.specs.Paper.{PutLeft, behind, allBehind}
 use Rattle.lines.proofs.Behind.{ends-inside, length-behind}
 
 -- one text, and others behind it
-pub and-then : (s : List ℕ) (ss : List (List ℕ)) (n : ℕ) (t : List ℕ) (one left : Left) → one ≡ behind s n t → left ≡ allBehind ss (one .end) (one .text)
+pub and-then : (s : List ℕ) (ss : List (List ℕ)) (n : ℕ) (t : List ℕ) (one left : PutLeft) → one ≡ behind s n t → left ≡ allBehind ss (one .end) (one .text)
     → left ≡ allBehind (s ∷ ss) n t
 unfolding allBehind
-and-then s ss n t one left e h = h ∙ ap (λ (x : Left). allBehind ss (x .end) (x .text)) e
+and-then s ss n t one left e h = h ∙ ap (λ (x : PutLeft). allBehind ss (x .end) (x .text)) e
 
 -- one text alone
-pub and-last : (s : List ℕ) (n : ℕ) (t : List ℕ) (left : Left) → left ≡ behind s n t → left ≡ allBehind (s ∷ []) n t
+pub and-last : (s : List ℕ) (n : ℕ) (t : List ℕ) (left : PutLeft) → left ≡ behind s n t → left ≡ allBehind (s ∷ []) n t
 unfolding allBehind
 and-last s n t left e = e
 
 -- some texts, and others behind them
-pub and-others : (rs ss : List (List ℕ)) (n : ℕ) (t : List ℕ) (some left : Left) → some ≡ allBehind rs n t → left ≡ allBehind ss (some .end) (some .text)
+pub and-others : (rs ss : List (List ℕ)) (n : ℕ) (t : List ℕ) (some left : PutLeft) → some ≡ allBehind rs n t → left ≡ allBehind ss (some .end) (some .text)
     → left ≡ allBehind (rs ++ ss) n t
 unfolding allBehind
-and-others [] ss n t some left e h = h ∙ ap (λ (x : Left). allBehind ss (x .end) (x .text)) e
+and-others [] ss n t some left e h = h ∙ ap (λ (x : PutLeft). allBehind ss (x .end) (x .text)) e
 and-others (r ∷ rs) ss n t some left e h = and-others rs ss (behind r n t .end) (behind r n t .text) some left e h
 
 -- they end within the memory
@@ -32,7 +29,7 @@ all-inside (s ∷ ss) n t h =
     let same = length-behind s n t in
     rw (← same) (all-inside ss (behind s n t .end) (behind s n t .text) (rw same (ends-inside s n t (behind s n t) h refl)))
 
-pub ends-all : (ss : List (List ℕ)) (n : ℕ) (t : List ℕ) (left : Left) → n ≤ length t → left ≡ allBehind ss n t → left .end ≤ length t
+pub ends-all : (ss : List (List ℕ)) (n : ℕ) (t : List ℕ) (left : PutLeft) → n ≤ length t → left ≡ allBehind ss n t → left .end ≤ length t
 ends-all ss n t left h e =
-    let end : left .end ≡ allBehind ss n t .end = ap (λ (x : Left). x .end) e in
+    let end : left .end ≡ allBehind ss n t .end = ap (λ (x : PutLeft). x .end) e in
     rw end (all-inside ss n t h)

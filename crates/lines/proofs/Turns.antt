@@ -1,12 +1,8 @@
 -- A program that lists chunk after chunk lists the log: what holds between two chunks.
-use mathlib.Core.Path.{_≡_, refl, ap, _∙_}
-use mathlib.Core.List.{List, [], _++_}
-use Prim.Native.Nat.{ℕ, _+_, _/_, _%_, _<_}
-use native.Mathlib.Omega.{arith}
-use lib.ListN.{length, take, length-append}
+use Rattle.laws.proofs.Base.{_≡_, refl, ap, _∙_, List, [], _++_, ℕ, _+_, _/_, _%_, _<_, arith, length, take, length-append}
 use Rattle.block.specs.Paper.{Given, start}
-use Rattle.history.specs.History.{after}
-use Rattle.history.proofs.History.{after-append}
+use Rattle.block_history.specs.Claims.{after}
+use Rattle.block_history.proofs.History.{after-append}
 use Rattle.firmware.specs.Paper.{lent, heldIn}
 use Rattle.lines.specs.Chunk.{movedOn}
 use Rattle.lines.specs.Paper.{cut, listing, pieces}

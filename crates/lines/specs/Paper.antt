@@ -8,7 +8,7 @@ use Prim.Native.String.{String, [] as none, _∷_ as _before_}
 use lib.ListN.{length, take, drop}
 use lib.Dec.{leb, ltb}
 use Rattle.block.specs.Paper.{Held, Given, step}
-use Rattle.history.specs.History.{after}
+use Rattle.block_history.specs.Claims.{after}
 
 -- the decimal digits of a number that has at most k + 1 of them, in ASCII
 unfoldable pub spelled : ℕ → ℕ → List ℕ
@@ -34,19 +34,19 @@ ascii none = []
 ascii (c before s) = code c ∷ ascii s
 
 -- what putting leaves: where the text ends, and its memory
-pub record Left : Type 0 where
+pub record PutLeft : Type 0 where
   pub end : ℕ
   pub text : List ℕ
 
 -- octets s behind the first n of a text t; where they do not fit, nothing is put
-unfoldable pub behind : List ℕ → ℕ → List ℕ → Left
+unfoldable pub behind : List ℕ → ℕ → List ℕ → PutLeft
 behind s n t =
     cond (leb (n + length s) (length t))
     (record { end = n + length s; text = take n t ++ (s ++ drop (n + length s) t) })
     (record { end = n; text = t })
 
 -- texts one behind the other; one that does not fit is left out
-unfoldable pub allBehind : List (List ℕ) → ℕ → List ℕ → Left
+unfoldable pub allBehind : List (List ℕ) → ℕ → List ℕ → PutLeft
 allBehind [] n t = record { end = n; text = t }
 allBehind (s ∷ ss) n t = allBehind ss (behind s n t .end) (behind s n t .text)
 

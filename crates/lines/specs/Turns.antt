@@ -4,7 +4,7 @@ use mathlib.Core.List.{List, _++_}
 use Prim.Native.Nat.{ℕ, _%_}
 use lib.ListN.{length, take}
 use Rattle.block.specs.Paper.{Given, start}
-use Rattle.history.specs.History.{after}
+use Rattle.block_history.specs.Claims.{after}
 use Rattle.firmware.specs.Paper.{lent}
 use Rattle.lines.specs.Paper.{cut, listing}
 

@@ -1,9 +1,6 @@
 -- Two answers that meet a public contract of this crate are equal.
-use mathlib.Core.Path.{_≡_, sym, ap, _∙_}
-use mathlib.Core.Bool.{Bool}
-use mathlib.Core.List.{List}
-use Prim.Native.Nat.{ℕ, _+_, _*_}
-use Rattle.answer.proofs.Inverse.{numberOf-injective, numberOf-positive}
+use Rattle.laws.proofs.Base.{_≡_, sym, ap, _∙_, Bool, List, ℕ, _+_, _*_}
+use Rattle.refusals.proofs.Inverse.{numberOf-injective, numberOf-positive}
 use Rattle.page.specs.Paper.{Part, header, headerOctets, samePage, handedPart, handedNumber}
 use Rattle.page.specs.Coded.{keyOf, headingOf, nameOf, numberOfHanding}
 use Rattle.page.specs.declared.Header.{Header}

@@ -1,10 +1,5 @@
 -- The header's octets and what they say determine each other.
-use mathlib.Core.Path.{_≡_, refl}
-use mathlib.Core.List.{[], _∷_}
-use Prim.Native.Nat.{ℕ, _+_, _*_, _/_, _%_, _<_}
-use native.Mathlib.Nat.{div-add-mod'}
-use native.Mathlib.Omega.{arith}
-use lib.ListN.{length}
+use Rattle.laws.proofs.Base.{_≡_, refl, [], _∷_, ℕ, _+_, _*_, _/_, _%_, _<_, div-add-mod', arith, length}
 use Rattle.page.specs.Paper.{Heading, header, headerOctets}
 
 -- what was written is read back

@@ -1,12 +1,6 @@
 -- Which test of the handing back answers.
-use mathlib.Core.Path.{_≡_, refl}
-use mathlib.Core.Bool.{Bool, true, false}
-use mathlib.Core.List.{List}
-use Prim.Native.Nat.{ℕ}
-use lib.Dec.{eqb}
-use lib.ListN.{length}
-use borrow.Author.Tests.{eq-eqb, ne-eqb, eqb-true, eqb-false}
-use Rattle.laws.specs.Received.{wholeBlocks}
+use Rattle.laws.proofs.Base.{_≡_, refl, Bool, true, false, List, ℕ, eqb, length, eq-eqb, ne-eqb, eqb-true, eqb-false}
+use Rattle.sizes.specs.Paper.{wholeBlocks}
 use Rattle.laws.specs.Ruled.{ruled}
 use Rattle.page.specs.Paper.{Part, handing, handedNumber, emptyPart, contentPart, handedPart}
 

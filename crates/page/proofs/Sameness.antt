@@ -1,11 +1,5 @@
 -- Laws of the sameness of pages. Other crates use these alone.
-use mathlib.Core.Path.{_≡_, refl, sym, _∙_}
-use mathlib.Core.Bool.{Bool, true, false, false≢true}
-use mathlib.Core.Logic.{_⊎_, inl, inr}
-use Prim.Native.Nat.{_<_}
-use native.Mathlib.Omega.{arith}
-use lib.Dec.{eqb}
-use borrow.Author.Tests.{eq-eqb, ne-eqb, eqb-true}
+use Rattle.laws.proofs.Base.{_≡_, refl, sym, _∙_, Bool, true, false, false≢true, _⊎_, inl, inr, _<_, arith, eqb, eq-eqb, ne-eqb, eqb-true}
 use Rattle.laws.proofs.Tests.{both}
 use Rattle.page.specs.Paper.{Name, samePage}
 use Rattle.page.specs.Coded.{keyOf}

@@ -2,7 +2,7 @@
 use Prim.Native.Nat.{ℕ, _+_, _*_}
 use mathlib.Core.List.{List}
 use denote.Ref.{RefT}
-use Rattle.answer.specs.Number.{numberOf}
+use Rattle.refusals.specs.Number.{numberOf}
 use Rattle.page.specs.Paper.{Heading, Name, Part}
 use Rattle.page.specs.declared.Header.{Header}
 use Rattle.page.specs.declared.PageName.{PageName}

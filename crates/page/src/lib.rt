@@ -3,8 +3,8 @@ ghost use mathlib.Core.Path.{_≡_};
 ghost use Prim.Native.Nat.{_+_, _*_};
 ghost use Rattle.page.specs.Paper.{header, headerOctets, samePage, handedPart, handedNumber};
 ghost use Rattle.page.specs.Coded.{keyOf, headingOf, nameOf, numberOfHanding, partOf};
-use answer::Refusal;
-use answer::whole_blocks;
+use refusals::Refusal;
+use sizes::whole_blocks;
 
 // A serial number.
 pub struct Serial(pub u16);

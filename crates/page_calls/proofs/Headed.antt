@@ -1,10 +1,5 @@
 -- Laws of what a page's header packs into.
-use mathlib.Core.Path.{_≡_, refl, ap, _∙_}
-use mathlib.Core.List.{List, [], _∷_}
-use Prim.Native.Nat.{ℕ, _+_, _*_}
-use native.Mathlib.Omega.{arith}
-use lib.ListN.{length, getD}
-use borrow.Author.Tests.{eq-eqb, ne-eqb}
+use Rattle.laws.proofs.Base.{_≡_, refl, ap, _∙_, List, [], _∷_, ℕ, _+_, _*_, arith, length, getD, eq-eqb, ne-eqb}
 use Rattle.page.specs.declared.Header.{Header}
 use Rattle.page.specs.Paper.{Heading, header}
 use Rattle.page.specs.Coded.{headingOf}

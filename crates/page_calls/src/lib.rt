@@ -1,18 +1,16 @@
 // The entry for C that reads a page's header.
 ghost use mathlib.Core.Path.{_≡_};
 ghost use Rattle.page_calls.specs.Paper.{headerCall};
-use answer::Refusal;
-
-// 01 Numbers given, 16: the octets of a page.
-const PAGE: usize = 88;
+use refusals::Refusal;
+use sizes::MESSAGE;
 
 // Reads a page's header: number + 2^8 × scheme + 2^16 × serial + 2^32 × identifier + 2^48 × parameter.
 #[no_mangle]
 pub extern "C" fn cb_read_header(page: &[u8]) -> u64
     ensures { λ r. ⌜ r ≡ headerCall (now (page .entry)) ⌝ }
 {
-    if page.len() != PAGE {
-        return answer::number(Refusal::MessageLength) as u64;
+    if page.len() != MESSAGE {
+        return refusals::number(Refusal::MessageLength) as u64;
     }
     let read = page::read_header([page[0], page[1], page[2], page[3], page[4], page[5]]);
     let low = 0x100 * read.scheme as u64 + 0x10000 * read.serial.0 as u64;

@@ -1,14 +1,8 @@
 -- Which test of a plan answers: each case of reading a file, and of a plan by value, on plain facts.
-use mathlib.Core.Path.{_≡_, ap, _∙_}
-use mathlib.Core.Bool.{true, false}
-use mathlib.Core.List.{List, _++_}
-use Prim.Native.Nat.{ℕ, _+_, _*_, _-_, _≤_, _<_}
-use lib.ListN.{length, take, drop, replicate}
-use lib.Seq.{take-at}
-use borrow.Author.Tests.{eq-eqb, ne-eqb, lt-ltb, le-ltb}
+use Rattle.laws.proofs.Base.{_≡_, ap, _∙_, true, false, List, _++_, ℕ, _+_, _*_, _-_, _≤_, _<_, length, take, drop, replicate, take-at, eq-eqb, ne-eqb, lt-ltb, le-ltb}
 use Rattle.laws.specs.Search.{some}
 use Rattle.page.specs.Paper.{octet}
-use Rattle.plan.specs.Paper.{Entry, Plan, free, within, bad, planNumber, sixteen, marked, entriesIn, listed, refusal, readPlan}
+use Rattle.plan.specs.Paper.{Entry, Plan, free, entriesWithin, bad, planNumber, sixteen, marked, entriesIn, listed, refusal, readPlan}
 use Rattle.plan.proofs.Entries.{length-entries}
 
 module _ (f : List ℕ) where
@@ -61,10 +55,10 @@ module _ (p : Plan) where
   unfolding planNumber
   over h = simp (lt-ltb 48 (p .count) h)
 
-  pub some-bad : p .count ≤ 48 → some bad (within p) ≡ true → planNumber p ≡ 33
+  pub some-bad : p .count ≤ 48 → some bad (entriesWithin p) ≡ true → planNumber p ≡ 33
   unfolding planNumber
   some-bad h b = simp (le-ltb 48 (p .count) h, b)
 
-  pub none-bad : p .count ≤ 48 → some bad (within p) ≡ false → planNumber p ≡ 0
+  pub none-bad : p .count ≤ 48 → some bad (entriesWithin p) ≡ false → planNumber p ≡ 0
   unfolding planNumber
   none-bad h b = simp (le-ltb 48 (p .count) h, b)

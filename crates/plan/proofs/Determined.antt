@@ -1,13 +1,8 @@
 -- Answers that meet a contract of `plan` are equal.
-use mathlib.Core.Path.{_≡_, refl, sym, ap, _∙_}
-use mathlib.Core.Bool.{cond}
-use mathlib.Core.List.{List, map}
-use Prim.Native.Nat.{ℕ}
-use lib.Dec.{eqb}
-use borrow.Author.Tests.{ne-eqb}
+use Rattle.laws.proofs.Base.{_≡_, refl, sym, ap, _∙_, cond, List, map, ℕ, eqb, ne-eqb}
 use Rattle.laws.proofs.Map.{map-injective}
-use Rattle.answer.specs.Number.{numberOf}
-use Rattle.answer.proofs.Inverse.{refusalOf, refusalOf-numberOf, numberOf-positive}
+use Rattle.refusals.specs.Number.{numberOf}
+use Rattle.refusals.proofs.Inverse.{refusalOf, refusalOf-numberOf, numberOf-positive}
 use Rattle.plan.specs.declared.Entry.{Entry as EntryCode}
 use Rattle.plan.specs.declared.Plan.{Plan as PlanCode}
 use Rattle.plan.specs.declared.Verdict.{Verdict}

@@ -1,11 +1,5 @@
 -- Laws of entries: those of a file one after the other, and an array that is filled with them.
-use mathlib.Core.Path.{_≡_, refl, sym, ap, _∙_}
-use mathlib.Core.List.{List, [], _∷_, _++_}
-use Prim.Native.Nat.{ℕ, zero, suc, _+_, _*_, _-_, _<_}
-use native.Mathlib.Numerals.{add-one}
-use native.Mathlib.Omega.{arith}
-use lib.ListN.{length, getD, drop, set, replicate, length-map, List·getD-map}
-use lib.Seq.{drop-drop, set-at, append-snoc}
+use Rattle.laws.proofs.Base.{_≡_, refl, sym, ap, _∙_, List, [], _∷_, _++_, ℕ, zero, suc, _+_, _*_, _-_, _<_, add-one, arith, length, getD, drop, set, replicate, length-map, List·getD-map, drop-drop, set-at, append-snoc}
 use Rattle.plan.specs.Paper.{Entry, free, entryIn, entriesIn}
 use Rattle.plan.specs.Coded.{entryOf, entriesOf}
 use Rattle.plan.specs.declared.Entry.{Entry as EntryCode}

@@ -1,13 +1,7 @@
 -- A file written from good entries reads back as them.
-use mathlib.Core.Path.{_≡_, refl, _∙_}
-use mathlib.Core.Bool.{false}
-use mathlib.Core.List.{List, [], _∷_}
-use Prim.Native.Nat.{ℕ, _+_, _*_, _/_, _%_, _≤_}
-use native.Mathlib.Nat.{div-add-mod'}
-use native.Mathlib.Omega.{arith}
-use lib.ListN.{length}
+use Rattle.laws.proofs.Base.{_≡_, refl, _∙_, false, List, [], _∷_, ℕ, _+_, _*_, _/_, _%_, _≤_, div-add-mod', arith, length}
 use Rattle.laws.specs.Search.{some}
-use Rattle.plan.specs.Paper.{Entry, held, bad, entryIn, entriesIn, readPlan, octetsOfAll, fileOf}
+use Rattle.plan.specs.Paper.{Entry, filledPlan, bad, entryIn, entriesIn, readPlan, octetsOfAll, fileOf}
 use Rattle.plan.proofs.Answers.{read-good}
 
 length-octets : (es : List Entry) → length (octetsOfAll es) ≡ 6 * length es
@@ -27,7 +21,7 @@ entries-back [] = refl
 entries-back (e ∷ es) = rw (entry-back e (octetsOfAll es), entries-back es)
 
 -- a file that was written from good entries, no more than 48, reads as them
-pub file-back : (es : List Entry) → length es ≤ 48 → some bad es ≡ false → readPlan (fileOf es) ≡ record { number = 0; plan = held es }
+pub file-back : (es : List Entry) → length es ≤ 48 → some bad es ≡ false → readPlan (fileOf es) ≡ record { number = 0; plan = filledPlan es }
 file-back es few good =
     let back : entriesIn (length es) (octetsOfAll es) ≡ es = entries-back es in
     let n : length (fileOf es) ≡ 6 + 6 * length es = omega (arith, length-octets es) in

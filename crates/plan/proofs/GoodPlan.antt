@@ -1,17 +1,9 @@
 -- What a good plan has within its count.
-use mathlib.Core.Path.{_≡_, sym, ap, _∙_}
-use mathlib.Core.Bool.{true, false, false≢true}
-use mathlib.Core.List.{[], _∷_}
-use mathlib.Core.Logic.{inl, inr}
-use Prim.Native.Nat.{ℕ, suc, _≤_, _<_}
-use native.Mathlib.Omega.{arith, by-contra}
-use lib.Dec.{ltb}
-use lib.ListN.{length, List·getD-eq-default}
-use borrow.Author.Tests.{lt-ltb, ltb-false}
+use Rattle.laws.proofs.Base.{_≡_, sym, ap, _∙_, true, false, false≢true, [], _∷_, inl, inr, ℕ, suc, _≤_, _<_, arith, by-contra, ltb, length, List·getD-eq-default, lt-ltb, ltb-false}
 use Rattle.laws.specs.Search.{some}
 use Rattle.laws.proofs.Search.{some-found}
 use Rattle.laws.proofs.Ruled.{Ruling, refuses, passes, ruling}
-use Rattle.plan.specs.Paper.{Entry, Plan, free, within, bad, planNumber, entryAt}
+use Rattle.plan.specs.Paper.{Entry, Plan, free, entriesWithin, bad, planNumber, entryAt}
 
 over-bad : (e : Entry) → 2 < e .kind → bad e ≡ true
 unfolding bad
@@ -19,14 +11,14 @@ over-bad e h = simp (lt-ltb 2 (e .kind) h)
 
 -- a plan's number is 0, its count is up to 48 and none of its entries within the count is bad; or 32 or 33
 data Numbered (c : Plan) (n : ℕ) : Type 0 where
-  good : n ≡ 0 → c .count ≤ 48 → some bad (within c) ≡ false → Numbered c n
+  good : n ≡ 0 → c .count ≤ 48 → some bad (entriesWithin c) ≡ false → Numbered c n
   refused : 0 < n → n < 40 → Numbered c n
 
 numbered : (c : Plan) → Numbered c (planNumber c)
 unfolding planNumber
-numbered c = go (ruling (λ (n : ℕ). n) ((ltb 48 (c .count), 32) ∷ (some bad (within c), 33) ∷ []) 0)
+numbered c = go (ruling (λ (n : ℕ). n) ((ltb 48 (c .count), 32) ∷ (some bad (entriesWithin c), 33) ∷ []) 0)
   where
-    go : {r : ℕ} → Ruling (λ (n : ℕ). n) ((ltb 48 (c .count), 32) ∷ (some bad (within c), 33) ∷ []) 0 r → Numbered c r
+    go : {r : ℕ} → Ruling (λ (n : ℕ). n) ((ltb 48 (c .count), 32) ∷ (some bad (entriesWithin c), 33) ∷ []) 0 r → Numbered c r
     go (refuses n (inl a) e) = refused (omega arith) (omega arith)
     go (refuses n (inr (inl a)) e) = refused (omega arith) (omega arith)
     go (refuses n (inr (inr a)) e) = absurd a
@@ -41,10 +33,10 @@ plan-low c = go (numbered c)
     go (refused some low) = low
 
 module _ (c : Plan) (g : planNumber c ≡ 0) where
-  none-bad : some bad (within c) ≡ false
+  none-bad : some bad (entriesWithin c) ≡ false
   none-bad = go g (numbered c)
     where
-      go : {n : ℕ} → n ≡ 0 → Numbered c n → some bad (within c) ≡ false
+      go : {n : ℕ} → n ≡ 0 → Numbered c n → some bad (entriesWithin c) ≡ false
       go z (good e few none) = none
       go z (refused l low) = absurd (omega arith)
 

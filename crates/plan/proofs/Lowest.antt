@@ -1,12 +1,7 @@
 -- The lowest slot of the page of a slot: it is no higher, has the same page, and is its own lowest.
-use mathlib.Core.Path.{_≡_, refl, sym, ap, _∙_}
-use mathlib.Core.Bool.{true}
-use Prim.Native.Nat.{ℕ, suc, _-_, _≤_, _<_}
-use native.Mathlib.Omega.{arith, by-contra}
-use lib.ListN.{length, getD, length-take, List·getD-eq-default}
-use lib.Seq.{getD-take}
+use Rattle.laws.proofs.Base.{_≡_, refl, sym, ap, _∙_, true, ℕ, suc, _-_, _≤_, _<_, arith, by-contra, length, getD, length-take, List·getD-eq-default, getD-take}
 use Rattle.page.proofs.Sameness.{Same}
-use Rattle.plan.specs.Paper.{Entry, Plan, free, within, holds, entryAt, pageAt, lowestAt}
+use Rattle.plan.specs.Paper.{Entry, Plan, free, entriesWithin, holds, entryAt, pageAt, lowestAt}
 use Rattle.plan.proofs.Slots.{holds-kind, holds-own, holds-identifier, lowest-same, Has, Lowest, absent, lowest, lowest-slot, lowest-reached}
 
 -- what is known of the lowest slot, with number s, of the page of slot i
@@ -19,7 +14,7 @@ pub record Leading (p : Plan) (i s : ℕ) : Type 0 where
   pub own : lowestAt p (s - 1) ≡ s
 
 module _ (p : Plan) where
-  within-at : (i : ℕ) → i < p .count → getD (within p) i free ≡ entryAt p i
+  within-at : (i : ℕ) → i < p .count → getD (entriesWithin p) i free ≡ entryAt p i
   within-at i l = getD-take (p .count) (p .entries) i free l
 
   module _ (i : ℕ) (l : i < p .count) (k : entryAt p i .kind ≡ 2) where

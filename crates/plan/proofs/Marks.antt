@@ -1,14 +1,6 @@
 -- Marks: two entries with a page have the same one exactly if their marks are equal, so that a search among marks finds a page's slots.
-use mathlib.Core.Path.{_≡_, refl, sym, ap, _∙_}
-use mathlib.Core.Bool.{Bool, true, false, not}
-use mathlib.Core.List.{List, [], _∷_}
-use Prim.Native.Nat.{ℕ, zero, suc, _+_, _<_}
-use native.Mathlib.Omega.{arith}
-use lib.Dec.{eqb, ltb}
-use lib.ListN.{length, getD, take, set, replicate, length-map, length-set}
-use lib.Seq.{take-all, getD-set-same, getD-set-other}
+use Rattle.laws.proofs.Base.{_≡_, refl, sym, ap, _∙_, Bool, true, false, not, List, [], _∷_, ℕ, zero, suc, _+_, _<_, arith, eqb, ltb, length, getD, take, set, replicate, length-map, length-set, take-all, getD-set-same, getD-set-other, eq-eqb, ne-eqb, eqb-true, eqb-false, ltb-true}
 use borrow.Author.Count.{below-none}
-use borrow.Author.Tests.{eq-eqb, ne-eqb, eqb-true, eqb-false, ltb-true}
 use Rattle.laws.specs.Search.{some, firstFrom}
 use Rattle.laws.proofs.Search.{found-some}
 use Rattle.page.specs.Paper.{samePage}
@@ -17,7 +9,7 @@ use Rattle.page.proofs.Sameness.{Small, key-same}
 use Rattle.plan.specs.declared.Entry.{Entry as EntryCode}
 use Rattle.plan.specs.Paper.{Entry, free, pageOf, holds}
 use Rattle.plan.specs.Coded.{entryOf, entriesOf}
-use Rattle.plan.specs.Parts.{counted, Marked, Marks}
+use Rattle.plan.specs.Inner.{counted, Marked, Marks}
 use Rattle.plan.proofs.Entries.{none, entry-at}
 
 pub marks-none : (es : List EntryCode) → length es ≡ 48 → Marks (replicate 48 0) (entriesOf es) 0

@@ -1,21 +1,13 @@
 -- What is said of the slots of a plan, told from the marks of it and of the plan before.
-use mathlib.Core.Path.{_≡_, refl, sym, ap, _∙_}
-use mathlib.Core.Bool.{Bool, true, false, cond}
-use mathlib.Core.List.{List, map}
-use Prim.Native.Nat.{ℕ, _+_, _≤_, _<_}
-use native.Mathlib.Omega.{arith}
-use lib.Dec.{eqb, ltb}
-use lib.ListN.{length, getD, take, set, replicate, getD-replicate, length-map, length-set, List·getD-map}
-use lib.Seq.{ext-getD, getD-set-same, getD-set-other}
+use Rattle.laws.proofs.Base.{_≡_, refl, sym, ap, _∙_, Bool, true, false, cond, List, map, ℕ, _+_, _≤_, _<_, arith, eqb, ltb, length, getD, take, set, replicate, getD-replicate, length-map, length-set, List·getD-map, ext-getD, getD-set-same, getD-set-other, eqb-true, eqb-false, lt-ltb, ltb-true, ltb-false}
 use borrow.Author.Count.{below-none}
-use borrow.Author.Tests.{eqb-true, eqb-false, lt-ltb, ltb-true, ltb-false}
 use Rattle.laws.specs.Search.{some, firstFrom}
 use Rattle.laws.specs.Upto.{each}
 use Rattle.laws.proofs.Upto.{each-length, each-at}
 use Rattle.plan.specs.declared.Planned.{Planned as PlannedCode}
 use Rattle.plan.specs.Paper.{Entry, Plan, Planned, free, entryAt, pageAt, plannedAt, lowestSlot, hasPage, nonePlanned, saidAt, allPlanned}
 use Rattle.plan.specs.Coded.{plannedOf}
-use Rattle.plan.specs.Parts.{nothing, counted, saidBy, Marked, Marks}
+use Rattle.plan.specs.Inner.{nothing, counted, saidBy, Marked, Marks}
 use Rattle.plan.proofs.Marks.{lowest-marked, some-marked}
 use Rattle.plan.proofs.Slots.{lowest-counted}
 

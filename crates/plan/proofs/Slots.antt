@@ -1,16 +1,10 @@
 -- Laws of the slots of a page. Of the sameness of pages they use only that it is decided, an equivalence, and keeps the identifier.
-use mathlib.Core.Path.{_≡_, refl, sym, _∙_}
-use mathlib.Core.Bool.{Bool, true, false, not, false≢true}
-use Prim.Native.Nat.{ℕ, suc, _≤_, _<_}
-use native.Mathlib.Omega.{arith}
-use lib.Dec.{eqb}
-use lib.ListN.{length, getD, length-take}
-use borrow.Author.Tests.{eqb-true, eq-eqb}
+use Rattle.laws.proofs.Base.{_≡_, refl, sym, _∙_, Bool, true, false, not, false≢true, ℕ, suc, _≤_, _<_, arith, eqb, length, getD, length-take, eqb-true, eq-eqb}
 use Rattle.laws.proofs.Search.{found-some, Found, none-passes, first-passes, searched, some-agree, first-agree}
 use Rattle.laws.proofs.Tests.{both}
 use Rattle.page.specs.Paper.{Name, samePage}
 use Rattle.page.proofs.Sameness.{Same, same-reflexive, same-symmetric, same-transitive, same-identifier}
-use Rattle.plan.specs.Paper.{Entry, Plan, free, within, pageOf, holds, lowestSlot, hasPage}
+use Rattle.plan.specs.Paper.{Entry, Plan, free, entriesWithin, pageOf, holds, lowestSlot, hasPage}
 
 -- an entry that holds a page is one of kind 2 whose page is the same
 pub holds-kind : (x : Name) (e : Entry) → holds x e ≡ true → (e .kind ≡ 2) × Same (pageOf e) x
@@ -45,17 +39,17 @@ module _ (x y : Name) (s : Same x y) where
   -- the same page has the same lowest slot, and is in the same plans
   pub lowest-same : (p : Plan) → lowestSlot p x ≡ lowestSlot p y
   unfolding lowestSlot
-  lowest-same p = first-agree (holds x) (holds y) holds-same 1 (within p)
+  lowest-same p = first-agree (holds x) (holds y) holds-same 1 (entriesWithin p)
 
   pub has-same : (p : Plan) → hasPage p x ≡ hasPage p y
   unfolding hasPage
-  has-same p = some-agree (holds x) (holds y) holds-same (within p)
+  has-same p = some-agree (holds x) (holds y) holds-same (entriesWithin p)
 
 module _ (p : Plan) (x : Name) where
   -- the slot after i others is within the count and holds the page
   pub record Has (i : ℕ) : Type 0 where
-    pub inside : i < length (within p)
-    pub holding : holds x (getD (within p) i free) ≡ true
+    pub inside : i < length (entriesWithin p)
+    pub holding : holds x (getD (entriesWithin p) i free) ≡ true
 
   -- no slot holds the page, or one does and none below it
   pub data Lowest (s : ℕ) : Type 0 where
@@ -64,9 +58,9 @@ module _ (p : Plan) (x : Name) where
 
   pub lowest-slot : Lowest (lowestSlot p x)
   unfolding lowestSlot
-  lowest-slot = go (searched (holds x) free 1 (within p))
+  lowest-slot = go (searched (holds x) free 1 (entriesWithin p))
     where
-      go : {s : ℕ} → Found (holds x) free 1 (within p) s → Lowest s
+      go : {s : ℕ} → Found (holds x) free 1 (entriesWithin p) s → Lowest s
       go (none-passes e each) = absent e (λ i h. false≢true (sym (each i (h .inside)) ∙ h .holding))
       go (first-passes i e h q each) =
           lowest i (omega arith) (record { inside = h; holding = q }) (λ j k o. false≢true (sym (each j k) ∙ o .holding))
@@ -84,7 +78,7 @@ module _ (p : Plan) (x : Name) where
   -- a plan has a page exactly where there is a lowest slot with it
   pub has-lowest : hasPage p x ≡ not (eqb (lowestSlot p x) 0)
   unfolding hasPage lowestSlot
-  has-lowest = sym (found-some (holds x) 0 (within p))
+  has-lowest = sym (found-some (holds x) 0 (entriesWithin p))
 
 -- the lowest slot of a page is within the count
 pub lowest-counted : (p : Plan) (x : Name) → lowestSlot p x ≤ p .count

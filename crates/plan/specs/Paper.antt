@@ -26,16 +26,16 @@ abbrev pub free : Entry
 free = record { kind = 0; serial = 0; id = 0; parameter = 0 }
 
 -- 01 The plan: forty-eight entries, the unused ones optional
-abbrev pub held : List Entry → Plan
-held es = record { count = length es; entries = es ++ replicate (48 - length es) free }
+abbrev pub filledPlan : List Entry → Plan
+filledPlan es = record { count = length es; entries = es ++ replicate (48 - length es) free }
 
 -- 01 Order: the empty plan, which stands beside a refusal
 abbrev pub empty : Plan
 empty = record { count = 0; entries = replicate 48 free }
 
 -- 01 The plan: the entries within the count; those past it mean nothing
-abbrev pub within : Plan → List Entry
-within p = take (p .count) (p .entries)
+abbrev pub entriesWithin : Plan → List Entry
+entriesWithin p = take (p .count) (p .entries)
 
 -- 01 The plan: all of serial number, message identifier and page parameter 0
 abbrev pub blank : Entry → Bool
@@ -47,7 +47,7 @@ bad e = ltb 2 (e .kind) || (ltb (e .kind) 2 && not (blank e))
 
 -- 01 The plan: what writer and checker say of a plan by value: a count over 48 gives 32, a bad entry within the count 33
 unfoldable pub planNumber : Plan → ℕ
-planNumber p = ruled (λ n. n) ((ltb 48 (p .count), 32) ∷ (some bad (within p), 33) ∷ []) 0
+planNumber p = ruled (λ n. n) ((ltb 48 (p .count), 32) ∷ (some bad (entriesWithin p), 33) ∷ []) 0
 
 -- 01 Page and text: 16 bits, high octet first, at octet n
 abbrev pub sixteen : List ℕ → ℕ → ℕ
@@ -91,7 +91,7 @@ faults f =
 
 -- 01 The plan, Order: reading a plan file
 unfoldable pub readPlan : List ℕ → Read
-readPlan f = ruled refusal (faults f) (record { number = 0; plan = held (listed f) })
+readPlan f = ruled refusal (faults f) (record { number = 0; plan = filledPlan (listed f) })
 
 -- 01 The plan: the six octets of an entry
 abbrev pub octetsOf : Entry → List ℕ
@@ -116,11 +116,11 @@ holds x e = eqb (e .kind) 2 && samePage (pageOf e) x
 
 -- 01 The plan: the lowest slot with a page, slots counted from 1; 0 for none
 unfoldable pub lowestSlot : Plan → Name → ℕ
-lowestSlot p x = firstFrom (holds x) 1 (within p)
+lowestSlot p x = firstFrom (holds x) 1 (entriesWithin p)
 
 -- 01 The plan: a plan has or lacks a page
 unfoldable pub hasPage : Plan → Name → Bool
-hasPage p x = some (holds x) (within p)
+hasPage p x = some (holds x) (entriesWithin p)
 
 -- 01 The plan: the entry of a slot, slots counted from 0 here as in the schedule
 abbrev pub entryAt : Plan → ℕ → Entry

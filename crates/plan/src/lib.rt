@@ -5,18 +5,16 @@ ghost use mathlib.Core.List.{_++_, map};
 ghost use Prim.Native.Nat.{_+_, _*_, _-_, _≤_};
 ghost use lib.Dec.{eqb};
 ghost use lib.ListN.{length, take, drop, replicate};
-ghost use Rattle.answer.specs.Number.{numberOf};
+ghost use Rattle.refusals.specs.Number.{numberOf};
 ghost use Rattle.laws.specs.Search.{some, firstFrom};
 ghost use Rattle.plan.specs.Paper.{free, empty, refusal, bad, planNumber, entryIn, entriesIn, readPlan, nonePlanned, allPlanned};
 ghost use Rattle.plan.specs.Coded.{entryOf, entriesOf, planOf, verdictOf, readingOf, plannedOf};
-ghost use Rattle.plan.specs.Parts.{counted, saidBy, Marked, Marks};
-use answer::Refusal;
+ghost use Rattle.plan.specs.Inner.{counted, saidBy, Marked, Marks};
 use page::MessageId;
 use page::PageName;
 use page::Serial;
-
-// 01 The plan: the slots that a plan has entries for.
-const SLOTS: usize = 48;
+use refusals::Refusal;
+use sizes::SLOTS;
 
 // 01 The plan: the octets of a file before its entries, and of an entry.
 const FRONT: usize = 6;

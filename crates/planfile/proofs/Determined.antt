@@ -1,14 +1,12 @@
 -- Two lines that meet the contract are equal, the text's memory included. What is read of a file no contract fixes.
-use mathlib.Core.Path.{_≡_, sym, _∙_}
-use mathlib.Core.List.{List}
-use Prim.Native.Nat.{ℕ}
-use Rattle.lines.specs.Paper.{Left, allBehind}
+use Rattle.laws.proofs.Base.{_≡_, sym, _∙_, List, ℕ}
+use Rattle.lines.specs.Paper.{PutLeft, allBehind}
 use Rattle.planfile.specs.Refused.{refused, beginRefused}
 
-pub determined-say-refused : (program about : List ℕ) (number : ℕ) (t : List ℕ) (a b : Left) → a ≡ allBehind (refused program about number) 0 t
+pub determined-say-refused : (program about : List ℕ) (number : ℕ) (t : List ℕ) (a b : PutLeft) → a ≡ allBehind (refused program about number) 0 t
     → b ≡ allBehind (refused program about number) 0 t → a ≡ b
 determined-say-refused program about number t a b p q = p ∙ sym q
 
-pub determined-say-begin : (program begin : List ℕ) (count : ℕ) (t : List ℕ) (a b : Left) → a ≡ allBehind (beginRefused program begin count) 0 t
+pub determined-say-begin : (program begin : List ℕ) (count : ℕ) (t : List ℕ) (a b : PutLeft) → a ≡ allBehind (beginRefused program begin count) 0 t
     → b ≡ allBehind (beginRefused program begin count) 0 t → a ≡ b
 determined-say-begin program begin count t a b p q = p ∙ sym q

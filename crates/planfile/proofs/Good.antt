@@ -1,11 +1,7 @@
 -- A plan that was taken is good, and so is the empty one.
-use mathlib.Core.Path.{_≡_, sym, ap, _∙_}
-use mathlib.Core.Bool.{true, false}
-use mathlib.Core.List.{List, []}
-use Prim.Native.Nat.{ℕ}
-use borrow.Author.Tests.{eq-eqb, ne-eqb}
-use Rattle.answer.proofs.Inverse.{numberOf-positive}
-use Rattle.answer.specs.declared.Refusal.{Refusal}
+use Rattle.laws.proofs.Base.{_≡_, sym, ap, _∙_, true, false, List, [], ℕ, eq-eqb, ne-eqb}
+use Rattle.refusals.proofs.Inverse.{numberOf-positive}
+use Rattle.refusals.specs.declared.Refusal.{Refusal}
 use Rattle.plan.specs.declared.Reading.{Reading}
 use Rattle.plan.specs.declared.Verdict.the-variants as verdicts
 use Rattle.plan.specs.Paper.{Read, planNumber, readPlan}

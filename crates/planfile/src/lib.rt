@@ -1,17 +1,17 @@
 // Plan files that a program's arguments name. What is wrong with one is said in a line on standard error.
 ghost use mathlib.Core.Path.{_≡_};
-ghost use Rattle.answer.specs.Number.{numberOf};
+ghost use Rattle.refusals.specs.Number.{numberOf};
 ghost use Rattle.lines.specs.Paper.{allBehind};
 ghost use Rattle.plan.specs.Paper.{planNumber};
 ghost use Rattle.plan.specs.Coded.{planOf};
 ghost use Rattle.planfile.specs.Refused.{numbered, refused, beginRefused};
 ghost use Rattle.planfile.specs.Taken.{takenOf, taken, untaken};
-use answer::Refusal;
 use libc::STDERR_FILENO;
 use lines::Filled;
 use lines::Opened;
 use plan::Plan;
 use plan::Verdict;
+use refusals::Refusal;
 
 // Room for the line of a refusal.
 pub const LINE: usize = 200;
@@ -27,7 +27,7 @@ fn put_refused(program: &[u8], about: &[u8], refusal: Refusal, text: &mut [u8], 
     ensures { λ r. ⌜ record { end = r; text = now (text .exit) } ≡ allBehind (refused (now (program .entry)) (now (about .entry)) (numberOf refusal)) at (now (text .entry)) ⌝ }
 {
     let named = lines::put(program, text, at);
-    let numbered = put_number(answer::number(refusal), text, named);
+    let numbered = put_number(refusals::number(refusal), text, named);
     let told = lines::put(about, text, numbered);
     let said = words::put_words(refusal, text, told);
     lines::put(b"\n", text, said)

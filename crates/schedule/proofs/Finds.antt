@@ -1,19 +1,10 @@
 -- What a group's descriptions are found to be, one after the other.
-use mathlib.Core.Path.{_≡_, refl, sym, ap, _∙_}
-use mathlib.Core.Bool.{Bool, true, false, and-false}
-use mathlib.Core.List.{List}
-use Prim.Native.Nat.{ℕ, _+_, _≤_, _<_}
-use native.Mathlib.Nat.{add-zero}
-use native.Mathlib.Omega.{arith}
-use lib.ListN.{length, getD, set}
-use lib.Seq.{getD-set-same, getD-set-other}
-use lib.Dec.{eqb}
-use borrow.Author.Tests.{lt-ltb, le-ltb, eqb-true, eqb-false}
+use Rattle.laws.proofs.Base.{_≡_, refl, sym, ap, _∙_, Bool, true, false, and-false, List, ℕ, _+_, _≤_, _<_, add-zero, arith, length, getD, set, getD-set-same, getD-set-other, eqb, lt-ltb, le-ltb, eqb-true, eqb-false}
 use Rattle.laws.specs.Upto.{count}
 use Rattle.laws.proofs.Tests.{below-other}
 use Rattle.laws.proofs.Upto.{count-none, count-yes, count-no, count-grows}
-use Rattle.schedule.specs.Paper.{Told, octet, width, told, place, end, grouped, base, tells, isFirst}
-use Rattle.schedule.specs.Parts.{took, past, step, over, Over, start, Finds}
+use Rattle.schedule.specs.Paper.{Told, octetAt, width, told, place, end, grouped, base, tells, isFirst}
+use Rattle.schedule.specs.Inner.{took, past, step, over, Over, start, Finds}
 use Rattle.schedule.proofs.News.{grouped-is}
 use Rattle.schedule.proofs.Places.{place-next, place-after, step-took, step-past}
 
@@ -70,7 +61,7 @@ module _ (m : List ℕ) (b : Bool) (s : List ℕ) (f : List Bool) where
           let before = base m b + count (grouped m b) j in
           let more : base m b + count (grouped m b) (j + 1) ≡ before + 1 = rw (count-yes (grouped m b) j inside) (omega arith) in (
             record {
-              reached = w .moves ∙ ap (λ (a : ℕ). a + width (octet m a)) (k .reached) ∙ sym (place-next m before) ∙ ap (place m) (sym more);
+              reached = w .moves ∙ ap (λ (a : ℕ). a + width (octetAt m a)) (k .reached) ∙ sym (place-next m before) ∙ ap (place m) (sym more);
               starts = over-take (start m) 0 m b s j t (k .starts) inside at there (omega arith);
               firsts = over-take (λ (i : ℕ). isFirst (tells m i)) false m b f j g (k .firsts) inside x (q ∙ ap isFirst (w .tells ∙ ap (told m) there)) (omega arith);
             },
@@ -83,5 +74,5 @@ module _ (m : List ℕ) (b : Bool) (s : List ℕ) (f : List Bool) where
           let before = base m b + count (grouped m b) j in
           let all = base m b + count (grouped m b) (end m) in
           let more : before < all = omega (arith, count-grows (grouped m b) (end m) j l inside) in
-          let up : at + width (octet m at) ≤ place m all = rw (k .reached) (place-after m before all more) in
+          let up : at + width (octetAt m at) ≤ place m all = rw (k .reached) (place-after m before all more) in
           omega (arith, step-past m received at e)

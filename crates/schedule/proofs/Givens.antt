@@ -1,22 +1,14 @@
 -- The reader and the reader of descriptions, told from the reader with all places.
-use mathlib.Core.Path.{_≡_, sym, ap, _∙_}
-use mathlib.Core.List.{List}
-use mathlib.Core.Logic.{inl, inr}
-use Prim.Native.Nat.{ℕ, _+_, _≤_, _<_}
-use native.Mathlib.Numerals.{add-one}
-use native.Mathlib.Omega.{arith}
-use lib.ListN.{length, getD}
-use lib.Dec.{eqb}
-use borrow.Author.Tests.{eqb-true, lt-ltb, le-ltb, not-false}
+use Rattle.laws.proofs.Base.{_≡_, sym, ap, _∙_, List, inl, inr, ℕ, _+_, _≤_, _<_, add-one, arith, length, getD, eqb, eqb-true, lt-ltb, le-ltb, not-false}
 use Rattle.laws.specs.Upto.{each}
 use Rattle.laws.proofs.Ruled.{Among, ruled-map}
 use Rattle.laws.proofs.Outcome.{Outcome, refuses, passes, outcome}
 use Rattle.laws.proofs.Upto.{each-at}
-use Rattle.answer.specs.Number.{numberOf}
-use Rattle.answer.proofs.Inverse.{numberOf-positive}
-use Rattle.answer.specs.declared.Refusal.{Refusal}
-use Rattle.schedule.specs.Paper.{end, new, place, rank, told, tells, placeAt, within, faults, Shown, shown, slotOf, Read, unread, read, Placed, unplaced, whole, placed, Given, next, noMore, refusal, givenAt, given}
-use Rattle.schedule.specs.Parts.{toldBy}
+use Rattle.refusals.specs.Number.{numberOf}
+use Rattle.refusals.proofs.Inverse.{numberOf-positive}
+use Rattle.refusals.specs.declared.Refusal.{Refusal}
+use Rattle.schedule.specs.Paper.{end, new, place, rank, told, tells, placeAt, inBounds, faults, Shown, shown, slotOf, Read, unread, read, Placed, unplaced, whole, placed, Given, next, noMore, refusal, givenAt, given}
+use Rattle.schedule.specs.Inner.{toldBy}
 use Rattle.schedule.proofs.Header.{within-end}
 
 -- no refusal has the number 0
@@ -78,7 +70,7 @@ module _ (m : List ℕ) (received : ℕ) where
             record {
               long = eqb-true (length m) 88 (not-false (eqb (length m) 88) (h .0));
               ends = ends;
-              last = rw ends (within-end m (not-false (within m) (h .1 .1 .1 .0)));
+              last = rw ends (within-end m (not-false (inBounds m) (h .1 .1 .1 .0)));
               places = ap (λ (l : Placed). l .places) all;
               gives = λ k. f Given refusal (givenAt m k);
             }

@@ -1,37 +1,30 @@
 -- The cases of the header: which of its tests answers.
-use mathlib.Core.Path.{_≡_}
-use mathlib.Core.Bool.{true, false, _&&_, and-false}
-use mathlib.Core.List.{List}
-use Prim.Native.Nat.{ℕ, _≤_, _<_}
-use native.Mathlib.Omega.{arith}
-use lib.ListN.{length}
-use lib.Dec.{leb}
-use borrow.Author.Tests.{eq-eqb, ne-eqb, le-leb, lt-leb, leb-true}
-use Rattle.laws.specs.Received.{wholeBlocks}
+use Rattle.laws.proofs.Base.{_≡_, true, false, _&&_, and-false, List, ℕ, _≤_, _<_, arith, length, leb, eq-eqb, ne-eqb, le-leb, lt-leb, leb-true}
+use Rattle.sizes.specs.Paper.{wholeBlocks}
 use Rattle.laws.specs.Upto.{some}
 use Rattle.laws.proofs.Tests.{both}
-use Rattle.schedule.specs.Paper.{octet, type, begin, end, within, newPast, Read, unread}
-use Rattle.schedule.specs.Parts.{headRead}
+use Rattle.schedule.specs.Paper.{octetAt, type, begin, end, inBounds, newPast, Read, unread}
+use Rattle.schedule.specs.Inner.{headRead}
 
-pub within-end : (m : List ℕ) → within m ≡ true → end m ≤ 48
+pub within-end : (m : List ℕ) → inBounds m ≡ true → end m ≤ 48
 within-end m w =
     let upper = both (leb 1 (begin m)) (leb (begin m) (end m) && leb (end m) 48) w .1 in
     leb-true (end m) 48 (both (leb (begin m) (end m)) (leb (end m) 48) upper .1)
 
 -- the rule of Begin and End by the first octet, where the type is 00
-module _ (m : List ℕ) (low : octet m 0 < 64) where
-  pub within-zero : octet m 0 ≡ 0 → within m ≡ false
+module _ (m : List ℕ) (low : octetAt m 0 < 64) where
+  pub within-zero : octetAt m 0 ≡ 0 → inBounds m ≡ false
   within-zero h = rw h
 
-  pub within-over : end m < octet m 0 → within m ≡ false
+  pub within-over : end m < octetAt m 0 → inBounds m ≡ false
   within-over h =
       let over : end m < begin m = omega arith in
       rw (lt-leb (begin m) (end m) over, and-false)
 
-  pub within-last : 48 < end m → within m ≡ false
+  pub within-last : 48 < end m → inBounds m ≡ false
   within-last h = rw (lt-leb (end m) 48 h, and-false, and-false)
 
-  pub within-good : (octet m 0 ≡ 0 → ⊥) → octet m 0 ≤ end m → end m ≤ 48 → within m ≡ true
+  pub within-good : (octetAt m 0 ≡ 0 → ⊥) → octetAt m 0 ≤ end m → end m ≤ 48 → inBounds m ≡ true
   within-good a b c =
       let some : 1 ≤ begin m = omega arith in
       let up : begin m ≤ end m = omega arith in
@@ -48,29 +41,29 @@ module _ (m : List ℕ) (received : ℕ) where
     head-received h = rw (eq-eqb (length m) 88 whole, h)
 
     module _ (sent : wholeBlocks received ≡ true) where
-      pub head-type : 64 ≤ octet m 0 → unread 20 ≡ headRead m received
+      pub head-type : 64 ≤ octetAt m 0 → unread 20 ≡ headRead m received
       unfolding headRead
       head-type h =
           let other : type m ≡ 0 → ⊥ = omega arith in
           rw (eq-eqb (length m) 88 whole, sent, ne-eqb (type m) 0 other)
 
-      module _ (low : octet m 0 < 64) where
+      module _ (low : octetAt m 0 < 64) where
         type-good : type m ≡ 0
         type-good = omega arith
 
-        pub head-range : within m ≡ false → unread 21 ≡ headRead m received
+        pub head-range : inBounds m ≡ false → unread 21 ≡ headRead m received
         unfolding headRead
         head-range h = rw (eq-eqb (length m) 88 whole, sent, eq-eqb (type m) 0 type-good, h)
 
-        module _ (ok : within m ≡ true) where
+        module _ (ok : inBounds m ≡ true) where
           pub head-new : some (newPast m) 48 ≡ true → unread 22 ≡ headRead m received
           unfolding headRead
           head-new h = rw (eq-eqb (length m) 88 whole, sent, eq-eqb (type m) 0 type-good, ok, h)
 
           pub head-good : some (newPast m) 48 ≡ false
-              → _≡_ {A = Read} (record { number = 0; begin = octet m 0; end = end m }) (headRead m received)
+              → _≡_ {A = Read} (record { number = 0; begin = octetAt m 0; end = end m }) (headRead m received)
           unfolding headRead
           head-good h =
-              let same : octet m 0 ≡ begin m = omega arith in
+              let same : octetAt m 0 ≡ begin m = omega arith in
               rw (eq-eqb (length m) 88 whole, sent, eq-eqb (type m) 0 type-good, ok, h)
               (λ i. record { number = 0; begin = same i; end = end m })

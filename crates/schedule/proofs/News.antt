@@ -1,15 +1,6 @@
 -- Laws of the new bits.
-use mathlib.Core.Path.{_≡_, refl, sym, ap, _∙_}
-use mathlib.Core.Bool.{Bool, true, false, not, Bool·beq, false≢true, true≢false}
-use mathlib.Core.List.{List}
-use Prim.Native.Nat.{ℕ, _+_, _-_, _/_, _%_, _^_, _≤_, _<_}
-use native.Mathlib.Nat.{zero-div, min-le-left}
-use native.Mathlib.Omega.{arith}
-use lib.ListN.{length, take, drop, length-take, List·getD-eq-default}
-use lib.Seq.{getD-take, getD-drop}
-use lib.Dec.{eqb}
-use borrow.Author.Tests.{le-leb, lt-leb}
-use Rattle.schedule.specs.Paper.{octet, end, new, newPast, grouped}
+use Rattle.laws.proofs.Base.{_≡_, refl, sym, ap, _∙_, Bool, true, false, not, Bool·beq, false≢true, true≢false, List, ℕ, _+_, _-_, _/_, _%_, _^_, _≤_, _<_, zero-div, min-le-left, arith, length, take, drop, length-take, List·getD-eq-default, getD-take, getD-drop, eqb, le-leb, lt-leb}
+use Rattle.schedule.specs.Paper.{octetAt, end, new, newPast, grouped}
 
 beq-same : (a b : Bool) → a ≡ b → Bool·beq a b ≡ true
 beq-same true true e = refl
@@ -35,7 +26,7 @@ beq-flip false = refl
 
 module _ (m : List ℕ) (i : ℕ) where
   -- a slot's new bit by the octet of the message that has it
-  pub new-octet : i < 48 → eqb (octet m (2 + i / 8) / 2 ^ (7 - i % 8) % 2) 1 ≡ new m i
+  pub new-octet : i < 48 → eqb (octetAt m (2 + i / 8) / 2 ^ (7 - i % 8) % 2) 1 ≡ new m i
   unfolding new
   new-octet h =
       let inside : i / 8 < 6 = omega arith in

@@ -1,16 +1,9 @@
 -- The order of the descriptions: the slots of one group after those of the other.
-use mathlib.Core.Path.{_≡_}
-use mathlib.Core.Bool.{Bool, true, false}
-use mathlib.Core.List.{List}
-use Prim.Native.Nat.{ℕ, _+_, _<_}
-use native.Mathlib.Nat.{zero-add}
-use native.Mathlib.Omega.{arith}
-use lib.ListN.{length, List·getD-append}
-use lib.Seq.{getD-append-add}
+use Rattle.laws.proofs.Base.{_≡_, Bool, true, false, List, ℕ, _+_, _<_, zero-add, arith, length, List·getD-append, getD-append-add}
 use Rattle.laws.specs.Upto.{count, picked}
 use Rattle.laws.proofs.Upto.{count-grows, count-rest, picked-length, picked-at}
 use Rattle.schedule.specs.Paper.{end, grouped, base, order, slotOf}
-use Rattle.schedule.specs.Parts.{Picks}
+use Rattle.schedule.specs.Inner.{Picks}
 use Rattle.schedule.proofs.News.{grouped-flip}
 
 module _ (m : List ℕ) where

@@ -1,26 +1,17 @@
 -- The cases of the reader with all places: refused by the header, by 23 or by 24, or the places of all descriptions.
-use mathlib.Core.Path.{_≡_, refl, sym, ap, _∙_}
-use mathlib.Core.Bool.{Bool, true, false}
-use mathlib.Core.List.{List}
-use mathlib.Core.Logic.{inl, inr}
-use Prim.Native.Nat.{ℕ, _+_, _≤_, _<_}
-use native.Mathlib.Omega.{arith}
-use lib.ListN.{length, getD, replicate, getD-replicate}
-use lib.Seq.{ext-getD}
-use lib.Dec.{eqb, ltb}
-use borrow.Author.Tests.{eqb-true, lt-ltb, le-ltb, ltb-true, not-false}
-use Rattle.laws.specs.Received.{wholeBlocks}
+use Rattle.laws.proofs.Base.{_≡_, refl, sym, ap, _∙_, Bool, true, false, List, inl, inr, ℕ, _+_, _≤_, _<_, arith, length, getD, replicate, getD-replicate, ext-getD, eqb, ltb, eqb-true, lt-ltb, le-ltb, ltb-true, not-false}
+use Rattle.sizes.specs.Paper.{wholeBlocks}
 use Rattle.laws.specs.Ruled.{ruled}
 use Rattle.laws.specs.Upto.{some, count, each}
-use Rattle.laws.proofs.Received.{whole-bounds}
+use Rattle.sizes.proofs.Received.{whole-bounds}
 use Rattle.laws.proofs.Ruled.{Among}
 use Rattle.laws.proofs.Outcome.{Outcome, refuses, passes, outcome, ruled-append}
 use Rattle.laws.proofs.Upto.{some-agree, each-length, each-at}
-use Rattle.answer.specs.Number.{numberOf}
-use Rattle.answer.proofs.Inverse.{numberOf-positive}
-use Rattle.answer.specs.declared.Refusal.{Refusal}
-use Rattle.schedule.specs.Paper.{end, place, grouped, base, told, tells, isFirst, placeAt, within, headFaults, bodyFaults, faults, falseRepeat, Read, unread, good, Placed, unplaced, whole, placed}
-use Rattle.schedule.specs.Parts.{Readable, headRead, over, Over, start, Finds, toldBy, Firsts}
+use Rattle.refusals.specs.Number.{numberOf}
+use Rattle.refusals.proofs.Inverse.{numberOf-positive}
+use Rattle.refusals.specs.declared.Refusal.{Refusal}
+use Rattle.schedule.specs.Paper.{end, place, grouped, base, told, tells, isFirst, placeAt, inBounds, headFaults, bodyFaults, faults, falseRepeat, Read, unread, good, Placed, unplaced, whole, placed}
+use Rattle.schedule.specs.Inner.{Readable, headRead, over, Over, start, Finds, toldBy, Firsts}
 use Rattle.schedule.proofs.Header.{within-end}
 use Rattle.schedule.proofs.News.{grouped-flip}
 use Rattle.schedule.proofs.Order.{groups-whole}
@@ -62,7 +53,7 @@ module _ (m : List ℕ) (received : ℕ) where
             room = sent .0;
             few = sent .1;
             ends = ends;
-            last = rw ends (within-end m (not-false (within m) (h .1 .1 .1 .0)));
+            last = rw ends (within-end m (not-false (inBounds m) (h .1 .1 .1 .0)));
             reads = reads;
             places = ruled-append unplaced (headFaults m received) (bodyFaults m received) (whole m) ∙ f Placed unplaced (ruled unplaced (bodyFaults m received) (whole m));
           }

@@ -1,12 +1,6 @@
 -- Laws of repeats: what makes one false, and what does not.
-use mathlib.Core.Path.{_≡_, refl, ap, _∙_}
-use mathlib.Core.Bool.{Bool, true, false, cond, or-true}
-use mathlib.Core.List.{List}
-use Prim.Native.Nat.{ℕ, suc, _+_, _-_, _≤_, _<_}
-use native.Mathlib.Omega.{arith}
-use lib.Dec.{eqb, leb}
-use borrow.Author.Tests.{eq-eqb, ne-eqb, le-leb, lt-leb, eqb-false, leb-false}
-use Rattle.schedule.specs.Paper.{octet, Told, first, again, optional, advised, long, told, isFirst, falseIn, falseRepeat}
+use Rattle.laws.proofs.Base.{_≡_, refl, ap, _∙_, Bool, true, false, cond, or-true, List, ℕ, suc, _+_, _-_, _≤_, _<_, arith, eqb, leb, eq-eqb, ne-eqb, le-leb, lt-leb, eqb-false, leb-false}
+use Rattle.schedule.specs.Paper.{octetAt, Told, first, again, optional, advised, long, told, isFirst, falseIn, falseRepeat}
 
 module _ (t : ℕ → Told) (i n : ℕ) (e : t i ≡ again n) where
   pub false-zero : n ≡ 0 → falseRepeat t i ≡ true
@@ -43,7 +37,7 @@ falseRepeat-agree t u e i h l = ap (falseIn t i) (h i l) ∙ go (u i)
     go advised = refl
 
 -- what a description is, by its first octet n
-module _ (m : List ℕ) (a n : ℕ) (e : n ≡ octet m a) where
+module _ (m : List ℕ) (a n : ℕ) (e : n ≡ octetAt m a) where
   pub told-repeat : n < 64 → told m a ≡ again n
   told-repeat l = rw (← e, lt-leb 128 n (omega arith), le-leb n 63 (omega arith))
 
@@ -62,7 +56,7 @@ module _ (m : List ℕ) (a n : ℕ) (e : n ≡ octet m a) where
   pub no-repeat : (t : ℕ → Told) (i : ℕ) → t i ≡ told m a → 64 ≤ n → falseRepeat t i ≡ false
   no-repeat t i q l = ap (falseIn t i) q ∙ rw (← e, lt-leb n 63 (omega arith)) (go (leb 128 n) (eqb n 65))
     where
-      go : (p q : Bool) → falseIn t i (cond p (long n (octet m (a + 1))) (cond q advised optional)) ≡ false
+      go : (p q : Bool) → falseIn t i (cond p (long n (octetAt m (a + 1))) (cond q advised optional)) ≡ false
       go true q = refl
       go false true = refl
       go false false = refl

@@ -1,5 +1,5 @@
 -- The code's values as document 01's numbers and lists.
-use Rattle.answer.specs.Number.{numberOf}
+use Rattle.refusals.specs.Number.{numberOf}
 use Rattle.schedule.specs.declared.Description.{Description}
 use Rattle.schedule.specs.declared.Description.the-variants.{First, Repeat, Optional, Advised}
 use Rattle.schedule.specs.declared.Slot.{Slot}

@@ -1,4 +1,4 @@
 -- What `schedule` defines.
 pub mod Paper
 pub mod Coded
-pub mod Parts
+pub mod Inner

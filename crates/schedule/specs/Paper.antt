@@ -4,25 +4,25 @@ use mathlib.Core.List.{List, [], _∷_, _++_}
 use Prim.Native.Nat.{ℕ, zero, suc, _+_, _*_, _-_, _/_, _%_, _^_}
 use lib.ListN.{length, take, drop, getD, replicate}
 use lib.Dec.{eqb, leb, ltb}
-use Rattle.laws.specs.Received.{wholeBlocks}
+use Rattle.sizes.specs.Paper.{wholeBlocks}
 use Rattle.laws.specs.Ruled.{ruled}
 use Rattle.laws.specs.Upto.{some, count, picked, each}
 
 -- an octet of a message
-abbrev pub octet : List ℕ → ℕ → ℕ
-octet m i = getD m i 0
+abbrev pub octetAt : List ℕ → ℕ → ℕ
+octetAt m i = getD m i 0
 
 -- 01 Schedule message, 000 3.5.1: bits 8 and 7 of octet 1, the type
 abbrev pub type : List ℕ → ℕ
-type m = octet m 0 / 64
+type m = octetAt m 0 / 64
 
 -- 01 Schedule message, 000 3.5.1: bits 6 to 1 of octet 1, Begin
 abbrev pub begin : List ℕ → ℕ
-begin m = octet m 0 % 64
+begin m = octetAt m 0 % 64
 
 -- 01 Schedule message, 000 3.5.1: bits 6 to 1 of octet 2, End; its bits 8 and 7 are spare
 abbrev pub end : List ℕ → ℕ
-end m = octet m 1 % 64
+end m = octetAt m 1 % 64
 
 -- 01 Schedule message, 000 3.5.2: octets 3 to 8, the new bits
 abbrev pub bitmap : List ℕ → List ℕ
@@ -30,7 +30,7 @@ bitmap m = take 6 (drop 2 m)
 
 -- 01 Schedule message, 000 3.5.2: one new bit for each slot, slot 1 in bit 8 of octet 3
 unfoldable pub new : List ℕ → ℕ → Bool
-new m i = eqb (octet (bitmap m) (i / 8) / 2 ^ (7 - i % 8) % 2) 1
+new m i = eqb (octetAt (bitmap m) (i / 8) / 2 ^ (7 - i % 8) % 2) 1
 
 -- 01 Schedule message, 000 3.5.5: what a description tells of its slot
 pub data Told : Type 0 where
@@ -56,12 +56,12 @@ long x y = first (256 * (x - 128) + y)
 
 -- 01 Schedule message: the description that starts at an octet
 abbrev pub told : List ℕ → ℕ → Told
-told m a = cond (leb 128 (octet m a)) (long (octet m a) (octet m (a + 1))) (short (octet m a))
+told m a = cond (leb 128 (octetAt m a)) (long (octetAt m a) (octetAt m (a + 1))) (short (octetAt m a))
 
 -- 01 Schedule message: where the description starts before which k others stand; the first starts after eight octets
 unfoldable pub place : List ℕ → ℕ → ℕ
 place m zero = 8
-place m (suc k) = place m k + width (octet m (place m k))
+place m (suc k) = place m k + width (octetAt m (place m k))
 
 -- 01 Schedule message: whether a slot's new bit is as given
 abbrev pub grouped : List ℕ → Bool → ℕ → Bool
@@ -102,8 +102,8 @@ abbrev pub falseRepeat : (ℕ → Told) → ℕ → Bool
 falseRepeat t i = falseIn t i (t i)
 
 -- 01 Schedule message: 1 ≤ Begin ≤ End ≤ 48
-abbrev pub within : List ℕ → Bool
-within m = leb 1 (begin m) && (leb (begin m) (end m) && leb (end m) 48)
+abbrev pub inBounds : List ℕ → Bool
+inBounds m = leb 1 (begin m) && (leb (begin m) (end m) && leb (end m) 48)
 
 -- 01 Numbers given, 22: the new bit of a slot past End is set
 abbrev pub newPast : List ℕ → ℕ → Bool
@@ -115,7 +115,7 @@ headFaults m received =
     (not (eqb (length m) 88), 16)
     ∷ (not (wholeBlocks received), 18)
     ∷ (not (eqb (type m) 0), 20)
-    ∷ (not (within m), 21)
+    ∷ (not (inBounds m), 21)
     ∷ (some (newPast m) 48, 22)
     ∷ []
 

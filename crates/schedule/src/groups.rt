@@ -5,7 +5,7 @@ ghost use Prim.Native.Nat.{_<_, _≤_};
 ghost use lib.ListN.{length};
 ghost use Rattle.laws.specs.Upto.{some, count};
 ghost use Rattle.schedule.specs.Paper.{new as newOf, end as endOf, newPast, grouped, slotOf};
-ghost use Rattle.schedule.specs.Parts.{Picks};
+ghost use Rattle.schedule.specs.Inner.{Picks};
 use super::SLOTS;
 use super::told::octet_at;
 

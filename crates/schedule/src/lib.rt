@@ -6,16 +6,12 @@ ghost use mathlib.Core.Path.{_≡_};
 ghost use Prim.Native.Nat.{_≤_};
 ghost use Rattle.schedule.specs.Paper.{new as newOf, told, place as placeOf, base, read, placed, given};
 ghost use Rattle.schedule.specs.Coded.{shownOf, readOf, placedOf, givenOf};
-ghost use Rattle.schedule.specs.Parts.{Readable, headRead, Group, unplacedBy};
-use answer::Refusal;
-use answer::whole_blocks;
+ghost use Rattle.schedule.specs.Inner.{Readable, headRead, Group, unplacedBy};
+use refusals::Refusal;
+use sizes::MESSAGE;
+use sizes::SLOTS;
+use sizes::whole_blocks;
 pub use told::told_at;
-
-// 000 3.3.1: the octets of a message.
-const MESSAGE: usize = 88;
-
-// 000 3.5.1: the slots that a message can describe.
-const SLOTS: usize = 48;
 
 // 000 3.5: the octets before the first description.
 const HEADER: usize = 8;

@@ -3,14 +3,14 @@ ghost use mathlib.Core.Path.{_≡_};
 ghost use Prim.Native.Nat.{_≤_};
 ghost use lib.ListN.{length};
 ghost use Rattle.laws.specs.Upto.{some};
-ghost use Rattle.schedule.specs.Paper.{octet, short, told, isFirst, falseRepeat};
+ghost use Rattle.schedule.specs.Paper.{octetAt, short, told, isFirst, falseRepeat};
 ghost use Rattle.schedule.specs.Coded.{toldOf};
-ghost use Rattle.schedule.specs.Parts.{steppedOf, step, toldBy, Firsts};
+ghost use Rattle.schedule.specs.Inner.{steppedOf, step, toldBy, Firsts};
 use super::Description;
 
 // An octet of a message, and 0 past its end.
 pub(crate) fn octet_at(message: &[u8], at: usize) -> u8
-    ensures { λ r. ⌜ r ≡ octet (now (message .entry)) at ⌝ }
+    ensures { λ r. ⌜ r ≡ octetAt (now (message .entry)) at ⌝ }
 {
     if at >= message.len() {
         return 0;

@@ -1,19 +1,13 @@
 -- What is packed into a slot's number, and that it fits.
-use mathlib.Core.Path.{_≡_, refl, ap}
-use mathlib.Core.Bool.{Bool, true, false, cond}
-use mathlib.Core.List.{List}
-use Prim.Native.Nat.{ℕ, _+_, _*_, _≤_, _<_}
-use native.Mathlib.Omega.{arith}
-use lib.Dec.{eqb, leb}
+use Rattle.laws.proofs.Base.{_≡_, refl, ap, Bool, true, false, cond, List, ℕ, _+_, _*_, _≤_, _<_, arith, eqb, leb, leb-true, lt-ltb, le-ltb}
 use mir.Val.{boolByte}
-use borrow.Author.Tests.{leb-true, lt-ltb, le-ltb}
 use Rattle.laws.specs.Radix.{Below}
 use Rattle.laws.proofs.Ruled.{Ruling, refuses, passes, ruling}
 use Rattle.schedule.specs.declared.Slot.{Slot}
-use Rattle.schedule.specs.Paper.{again, optional, advised, octet, short, told, new, Shown, faults, Read, unread, good, read}
+use Rattle.schedule.specs.Paper.{again, optional, advised, octetAt, short, told, new, Shown, faults, Read, unread, good, read}
 use Rattle.schedule.specs.Coded.{toldOf, shownOf}
 use Rattle.schedule_calls.specs.Paper.{codeOf, bitOf, packedShown}
-use Rattle.schedule_calls.specs.Parts.{packedBy}
+use Rattle.schedule_calls.specs.Inner.{packedBy}
 
 -- a bool as a number
 pub bit-byte : (b : Bool) → boolByte b ≡ bitOf b
@@ -43,11 +37,11 @@ short-small x = go (leb x 63) refl (eqb x 65)
     go false e false = omega arith
 
 pub code-small : (m : List ℕ) → Below 256 m → (at : ℕ) → codeOf (told m at) < 65536
-code-small m below at = go (leb 128 (octet m at)) refl
+code-small m below at = go (leb 128 (octetAt m at)) refl
   where
-    go : (b : Bool) → leb 128 (octet m at) ≡ b → codeOf (told m at) < 65536
+    go : (b : Bool) → leb 128 (octetAt m at) ≡ b → codeOf (told m at) < 65536
     go true e = rw e (omega (arith, below at, below (at + 1)))
-    go false e = rw e (short-small (octet m at))
+    go false e = rw e (short-small (octetAt m at))
 
 -- a slot's number by its description's place
 module _ (m : List ℕ) (e i at : ℕ) where

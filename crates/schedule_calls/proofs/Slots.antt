@@ -1,28 +1,19 @@
 -- Laws of the loop that tells all slots, and of what its numbers leave a C caller with.
-use mathlib.Core.Path.{_≡_, refl, sym, ap, _∙_}
-use mathlib.Core.Bool.{Bool, true, false, cond}
-use mathlib.Core.List.{List, [], _∷_, _++_}
-use Prim.Native.Nat.{ℕ, _+_, _*_, _<_}
-use native.Mathlib.Numerals.{add-one}
-use native.Mathlib.Omega.{arith}
-use lib.Dec.{ltb}
-use lib.ListN.{length, getD, take, set}
-use lib.Seq.{take-suc-set, take-all}
-use borrow.Author.Tests.{ltb-true, eq-eqb, ne-eqb}
+use Rattle.laws.proofs.Base.{_≡_, refl, sym, ap, _∙_, Bool, true, false, cond, List, [], _∷_, _++_, ℕ, _+_, _*_, _<_, add-one, arith, ltb, length, getD, take, set, take-suc-set, take-all, ltb-true, eq-eqb, ne-eqb}
 use Rattle.laws.specs.Ruled.{ruled}
 use Rattle.laws.specs.Upto.{each}
 use Rattle.laws.proofs.Outcome.{Outcome, refuses, passes, outcome}
-use Rattle.answer.specs.declared.Refusal.{Refusal}
-use Rattle.answer.specs.Number.{numberOf}
-use Rattle.answer.proofs.Inverse.{numberOf-positive}
+use Rattle.refusals.specs.declared.Refusal.{Refusal}
+use Rattle.refusals.specs.Number.{numberOf}
+use Rattle.refusals.proofs.Inverse.{numberOf-positive}
 use Rattle.schedule.specs.declared.Placed.{Placed as PlacedCode}
 use Rattle.schedule.specs.declared.Reading.the-variants.{Read, Refused}
 use Rattle.schedule.specs.Paper.{new, tells, faults, Placed, placed, Read as Reads, unread, good, read}
 use Rattle.schedule.specs.Coded.{readOf, placedOf}
-use Rattle.schedule.specs.Parts.{toldBy}
+use Rattle.schedule.specs.Inner.{toldBy}
 use Rattle.schedule.proofs.Givens.{faults-some, Good, read-placed, given-good, told-at}
-use Rattle.schedule_calls.specs.Paper.{Left, packedRead, packedShown, packedSlot, toldAll, slotsCall}
-use Rattle.schedule_calls.specs.Parts.{packedBy, Shows}
+use Rattle.schedule_calls.specs.Paper.{CallLeft, packedRead, packedShown, packedSlot, toldAll, slotsCall}
+use Rattle.schedule_calls.specs.Inner.{packedBy, Shows}
 use Rattle.schedule_calls.proofs.Packed.{ends-small}
 
 -- a slot's number at its place is that of the slot
@@ -48,7 +39,7 @@ module _ (m p : List ℕ) (e : ℕ) (s : Shows m p e) (o : List ℕ) (i : ℕ) (
 
 -- what the call leaves
 module _ (m : List ℕ) (received : ℕ) (o : List ℕ) where
-  abbrev refusal : ℕ → Left
+  abbrev refusal : ℕ → CallLeft
   refusal n = record { returned = n; memory = o }
 
   pub slots-length : (length o ≡ 48 → ⊥) → slotsCall m received o ≡ refusal 15
@@ -65,7 +56,7 @@ module _ (m : List ℕ) (received : ℕ) (o : List ℕ) where
     slots-refused n z e = past-length ∙ go (outcome (faults m received))
       where
         go : Outcome (faults m received) → ruled refusal (faults m received) (toldAll m) ≡ refusal n
-        go (refuses k w h) = h Left refusal (toldAll m) ∙ ap refusal (sym (ap (λ (x : Reads). x .number) (h Reads unread (good m))) ∙ e)
+        go (refuses k w h) = h CallLeft refusal (toldAll m) ∙ ap refusal (sym (ap (λ (x : Reads). x .number) (h Reads unread (good m))) ∙ e)
         go (passes w h) = absurd (z (sym e ∙ ap (λ (x : Reads). x .number) (h Reads unread (good m))))
 
     -- a message that is read
@@ -75,16 +66,16 @@ module _ (m : List ℕ) (received : ℕ) (o : List ℕ) where
       where
         go : Outcome (faults m received) → (slotsCall m received o ≡ toldAll m) × (read m received ≡ good m)
         go (refuses k w h) = absurd (faults-some m received k w (sym (ap (λ (x : Reads). x .number) (h Reads unread (good m))) ∙ e))
-        go (passes w h) = (past-length ∙ h Left refusal (toldAll m), h Reads unread (good m))
+        go (passes w h) = (past-length ∙ h CallLeft refusal (toldAll m), h Reads unread (good m))
 
     -- the call returns what the reader does
     pub slots-returned : slotsCall m received o .returned ≡ packedRead (read m received)
     unfolding read
-    slots-returned = ap (λ (l : Left). l .returned) past-length ∙ go (outcome (faults m received))
+    slots-returned = ap (λ (l : CallLeft). l .returned) past-length ∙ go (outcome (faults m received))
       where
         go : Outcome (faults m received) → ruled refusal (faults m received) (toldAll m) .returned ≡ packedRead (read m received)
-        go (refuses k w h) = omega (arith, ap (λ (l : Left). l .returned) (h Left refusal (toldAll m)), ap packedRead (h Reads unread (good m)))
-        go (passes w h) = ap (λ (l : Left). l .returned) (h Left refusal (toldAll m)) ∙ sym (ap packedRead (h Reads unread (good m)))
+        go (refuses k w h) = omega (arith, ap (λ (l : CallLeft). l .returned) (h CallLeft refusal (toldAll m)), ap packedRead (h Reads unread (good m)))
+        go (passes w h) = ap (λ (l : CallLeft). l .returned) (h CallLeft refusal (toldAll m)) ∙ sym (ap packedRead (h Reads unread (good m)))
 
     module _ (t : PlacedCode) (q : placedOf t ≡ placed m received) where
       same : readOf (t .answer) ≡ read m received
@@ -106,7 +97,7 @@ module _ (m : List ℕ) (received : ℕ) (o : List ℕ) where
             let w = rw a at same in
             (omega (arith, ends-small m received .0, ap (λ (x : Reads). x .begin) w), omega (arith, ends-small m received .1, ap (λ (x : Reads). x .end) w))
 
-        pub tells-slots : (x : List ℕ) → x ≡ each (packedSlot m) 48 → _≡_ {A = Left} (record { returned = 0x100 * b + 0x10000 * e; memory = x }) (slotsCall m received o)
+        pub tells-slots : (x : List ℕ) → x ≡ each (packedSlot m) 48 → _≡_ {A = CallLeft} (record { returned = 0x100 * b + 0x10000 * e; memory = x }) (slotsCall m received o)
         tells-slots x s =
             let w = rw a at same in
             let told = slots-told (sym (ap (λ (r : Reads). r .number) w)) in

@@ -1,3 +1,3 @@
 -- What `schedule_calls` defines.
 pub mod Paper
-pub mod Parts
+pub mod Inner

@@ -9,7 +9,7 @@ use Rattle.laws.specs.Upto.{each}
 use Rattle.schedule.specs.Paper.{Told, first, again, optional, advised, end, Shown, shown, Read, good, faults}
 
 -- what a call leaves: the number returned, and the memory that it was lent to write
-pub record Left : Type 0 where
+pub record CallLeft : Type 0 where
   pub returned : ℕ
   pub memory : List ℕ
 
@@ -37,10 +37,10 @@ abbrev pub packedSlot : List ℕ → ℕ → ℕ
 packedSlot m i = cond (ltb i (end m)) (packedShown (shown m i)) 0
 
 -- 01 Schedule message: what a message that is read leaves: its Begin and End, and the numbers of the 48 slots
-abbrev pub toldAll : List ℕ → Left
+abbrev pub toldAll : List ℕ → CallLeft
 toldAll m = record { returned = packedRead (good m); memory = each (packedSlot m) 48 }
 
 -- 01 Order: 15 where the slots' memory isn't 48 numbers, then the reader's refusals; with a refusal the memory s stays as it was
-unfoldable pub slotsCall : List ℕ → ℕ → List ℕ → Left
+unfoldable pub slotsCall : List ℕ → ℕ → List ℕ → CallLeft
 slotsCall m received s =
     ruled (λ (n : ℕ). record { returned = n; memory = s }) ((not (eqb (length s) 48), 15) ∷ faults m received) (toldAll m)

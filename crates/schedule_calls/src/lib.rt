@@ -4,13 +4,11 @@ ghost use lib.ListN.{length};
 ghost use Rattle.laws.specs.Upto.{each};
 ghost use Rattle.schedule.specs.Coded.{toldOf};
 ghost use Rattle.schedule_calls.specs.Paper.{codeOf, packedSlot, slotsCall};
-ghost use Rattle.schedule_calls.specs.Parts.{Shows, packedBy};
-use answer::Refusal;
+ghost use Rattle.schedule_calls.specs.Inner.{Shows, packedBy};
+use refusals::Refusal;
 use schedule::Description;
 use schedule::Reading;
-
-// 000 3.5.1: the slots that a message can describe.
-const SLOTS: usize = 48;
+use sizes::SLOTS;
 
 // A description as one number.
 pub fn code(description: Description) -> u32
@@ -54,12 +52,12 @@ pub extern "C" fn cb_slots(message: &[u8], received: usize, slots: &mut [u32]) -
     ensures { λ r. ⌜ record { returned = r; memory = now (slots .exit) } ≡ slotsCall (now (message .entry)) received (now (slots .entry)) ⌝ }
 {
     if slots.len() != SLOTS {
-        return answer::number(Refusal::OutputLength) as u32;
+        return refusals::number(Refusal::OutputLength) as u32;
     }
     let found = schedule::read_places(message, received);
     let answer = found.answer;
     match answer {
-        Reading::Refused(refusal) => answer::number(refusal) as u32,
+        Reading::Refused(refusal) => refusals::number(refusal) as u32,
         Reading::Read(begin, end) => {
             let places = found.places;
             tell(message, places, end, slots);

@@ -1,13 +1,8 @@
 -- A message depends only on what is told of its slots.
-use mathlib.Core.Path.{_≡_, refl, sym, _∙_}
-use mathlib.Core.Bool.{Bool, true, false}
-use Prim.Native.Nat.{ℕ, zero, suc, _+_, _*_, _<_}
-use native.Mathlib.Omega.{arith}
-use lib.Dec.{ltb}
-use borrow.Author.Tests.{ltb-true}
+use Rattle.laws.proofs.Base.{_≡_, refl, sym, _∙_, Bool, true, false, ℕ, zero, suc, _+_, _*_, _<_, arith, ltb, ltb-true}
 use Rattle.laws.specs.Upto.{each}
 use Rattle.schedule.specs.Paper.{Shown}
-use Rattle.sender.specs.Paper.{descriptions, newBit, newBits, bitmapOf, usedOctets, messageOf}
+use Rattle.sender.specs.Paper.{descriptions, newBit, newBits, bitmapOf, usedPart, messageOf}
 use Rattle.sender.specs.Coded.{AllLow}
 use Rattle.sender.proofs.Groups.{told, told-none, told-suc, descriptions-groups}
 
@@ -39,5 +34,5 @@ module _ (s t : ℕ → Shown) (n : ℕ) (h : (i : ℕ) → i < n → s i ≡ t 
   bitmap-agree = λ x. each (λ (j : ℕ). newBits-agree j 8 x) 6
 
   pub message-agree : (b : ℕ) → messageOf b s n ≡ messageOf b t n
-  unfolding usedOctets
+  unfolding usedPart
   message-agree b = rw (bitmap-agree, descriptions-agree)

@@ -1,13 +1,5 @@
 -- Each case of the writer's order, on plain facts; and what its acceptance means.
-use mathlib.Core.Path.{_≡_, sym, ap, _∙_}
-use mathlib.Core.Bool.{false, _&&_}
-use mathlib.Core.List.{List}
-use mathlib.Core.Logic.{_⊎_, inl, inr}
-use Prim.Native.Nat.{ℕ, _≤_, _<_}
-use native.Mathlib.Omega.{arith}
-use lib.ListN.{length}
-use lib.Dec.{leb}
-use borrow.Author.Tests.{eq-eqb, ne-eqb, lt-ltb, le-ltb, le-leb, eqb-true, eqb-false, leb-true, ltb-false, not-true, not-false}
+use Rattle.laws.proofs.Base.{_≡_, sym, ap, _∙_, false, _&&_, List, _⊎_, inl, inr, ℕ, _≤_, _<_, arith, length, leb, eq-eqb, ne-eqb, lt-ltb, le-ltb, le-leb, eqb-true, eqb-false, leb-true, ltb-false, not-true, not-false}
 use Rattle.laws.proofs.Ruled.{NoneHolds}
 use Rattle.laws.proofs.Outcome.{Outcome, refuses, passes, outcome, Because, ruled-because}
 use Rattle.laws.proofs.Tests.{both}

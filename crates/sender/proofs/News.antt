@@ -1,11 +1,5 @@
 -- Laws of the new bits.
-use mathlib.Core.Path.{_≡_, refl}
-use mathlib.Core.Bool.{Bool, true, false, cond, _&&_}
-use Prim.Native.Nat.{ℕ, zero, suc, _+_, _*_, _≤_, _<_, _^_}
-use native.Mathlib.Nat.{pow-zero, pow-succ', pow-le-pow-right, le-refl}
-use native.Mathlib.Numerals.{add-one}
-use native.Mathlib.Omega.{arith}
-use lib.Dec.{ltb}
+use Rattle.laws.proofs.Base.{_≡_, refl, Bool, true, false, cond, _&&_, ℕ, zero, suc, _+_, _*_, _≤_, _<_, _^_, pow-zero, pow-succ', pow-le-pow-right, le-refl, add-one, arith, ltb}
 use Rattle.schedule.specs.Paper.{Shown}
 use Rattle.sender.specs.Paper.{newBit, newBits}
 

@@ -1,12 +1,5 @@
 -- Laws of octets that are put one after the other over a message of 2B.
-use mathlib.Core.Path.{_≡_, sym, _∙_}
-use mathlib.Core.List.{List, [], _∷_, _++_}
-use Prim.Native.Nat.{ℕ, suc, _+_, _≤_}
-use native.Mathlib.Nat.{add-zero, add-suc, suc-add, zero-add}
-use native.Mathlib.Numerals.{add-one}
-use native.Mathlib.Omega.{arith}
-use lib.ListN.{length, set, replicate, length-replicate}
-use lib.Seq.{sets, sets-eq}
+use Rattle.laws.proofs.Base.{_≡_, sym, _∙_, List, [], _∷_, _++_, ℕ, suc, _+_, _≤_, add-zero, add-suc, suc-add, zero-add, add-one, arith, length, set, replicate, length-replicate, sets, sets-eq}
 use Rattle.laws.specs.Upto.{each}
 use Rattle.laws.proofs.Upto.{each-length}
 use Rattle.laws.proofs.Parts.{drop-replicate}

@@ -1,58 +1,49 @@
 -- What is told of a slot, case by case.
-use mathlib.Core.Path.{_≡_, refl, ap, _∙_}
-use mathlib.Core.Bool.{Bool, true, false, cond}
-use Prim.Native.Nat.{ℕ, suc, _+_, _≤_, _<_}
-use native.Mathlib.Nat.{mod-lt}
-use native.Mathlib.Omega.{arith}
-use mathlib.Core.List.{List, map}
-use lib.ListN.{length, getD, set}
-use lib.Seq.{getD-set-same, getD-set-other}
-use lib.Dec.{eqb}
-use borrow.Author.Tests.{eq-eqb, ne-eqb, eqb-true, eqb-false, lt-ltb}
+use Rattle.laws.proofs.Base.{_≡_, refl, ap, _∙_, Bool, true, false, cond, ℕ, suc, _+_, _≤_, _<_, mod-lt, arith, List, map, length, getD, set, getD-set-same, getD-set-other, eqb, eq-eqb, ne-eqb, eqb-true, eqb-false, lt-ltb}
 use Rattle.schedule.specs.declared.Slot.{Slot}
 use Rattle.schedule.specs.Coded.{shownOf}
-use Rattle.schedule.specs.Parts.{zeroed}
+use Rattle.schedule.specs.Inner.{zeroed}
 use Rattle.schedule.specs.Paper.{Told, first, again, optional, advised, Shown}
 use Rattle.plan.specs.declared.Planned.{Planned as PlannedCode}
-use Rattle.plan.specs.Paper.{Plan, Planned, entryAt, lowestAt, low15At, plannedAt as plannedBy, nonePlanned, saidAt, allPlanned}
+use Rattle.plan.specs.Paper.{Plan, Planned, entryAt, lowestAt, low15At, plannedAt, nonePlanned, saidAt, allPlanned}
 use Rattle.plan.specs.Coded.{plannedOf}
-use Rattle.plan.specs.Parts.{nothing}
+use Rattle.plan.specs.Inner.{nothing}
 use Rattle.plan.proofs.Said.{says-at, said-counted}
-use Rattle.sender.specs.Paper.{plannedAt, newAt, planned}
-use Rattle.sender.specs.Coded.{shownIn, toldBy, Low, AllLow}
+use Rattle.sender.specs.Paper.{plannedTold, newAt, planned}
+use Rattle.sender.specs.Coded.{shownIn, shownBy, Low, AllLow}
 
 abbrev shown : Bool → Told → Shown
 shown n t = record { new = n; told = t }
 
 module _ (v : Planned) (i : ℕ) where
-  pub tells-advised : v .kind ≡ 1 → shown true advised ≡ toldBy v i
-  unfolding toldBy
+  pub tells-advised : v .kind ≡ 1 → shown true advised ≡ shownBy v i
+  unfolding shownBy
   tells-advised k = rw (ne-eqb (v .kind) 2 (omega arith), eq-eqb (v .kind) 1 k)
 
-  pub tells-optional : (v .kind ≡ 1 → ⊥) → (v .kind ≡ 2 → ⊥) → shown false optional ≡ toldBy v i
-  unfolding toldBy
+  pub tells-optional : (v .kind ≡ 1 → ⊥) → (v .kind ≡ 2 → ⊥) → shown false optional ≡ shownBy v i
+  unfolding shownBy
   tells-optional j k = rw (ne-eqb (v .kind) 2 k, ne-eqb (v .kind) 1 j)
 
-  pub tells-first : v .kind ≡ 2 → v .lowest ≡ suc i → shown (v .fresh) (first (v .low)) ≡ toldBy v i
-  unfolding toldBy
+  pub tells-first : v .kind ≡ 2 → v .lowest ≡ suc i → shown (v .fresh) (first (v .low)) ≡ shownBy v i
+  unfolding shownBy
   tells-first k l = rw (eq-eqb (v .kind) 2 k, eq-eqb (v .lowest) (suc i) l)
 
-  pub tells-again : v .kind ≡ 2 → (v .lowest ≡ suc i → ⊥) → shown (v .fresh) (again (v .lowest)) ≡ toldBy v i
-  unfolding toldBy
+  pub tells-again : v .kind ≡ 2 → (v .lowest ≡ suc i → ⊥) → shown (v .fresh) (again (v .lowest)) ≡ shownBy v i
+  unfolding shownBy
   tells-again k l = rw (eq-eqb (v .kind) 2 k, ne-eqb (v .lowest) (suc i) l)
 
 -- what is told by what the plans say is what is planned
-told-said : (c p : Plan) (i : ℕ) → i < c .count → toldBy (saidAt c p i) i ≡ planned c p i
-unfolding toldBy saidAt plannedAt newAt
+told-said : (c p : Plan) (i : ℕ) → i < c .count → shownBy (saidAt c p i) i ≡ planned c p i
+unfolding shownBy saidAt plannedTold newAt
 told-said c p i l = go (eqb (entryAt c i .kind) 2) refl
   where
-    go : (b : Bool) → eqb (entryAt c i .kind) 2 ≡ b → toldBy (saidAt c p i) i ≡ planned c p i
+    go : (b : Bool) → eqb (entryAt c i .kind) 2 ≡ b → shownBy (saidAt c p i) i ≡ planned c p i
     go true k =
-        let page : saidAt c p i ≡ plannedBy c p i = rw (lt-ltb i (c .count) l, k) in
-        ap (λ (v : Planned). toldBy v i) page ∙ rw k
+        let page : saidAt c p i ≡ plannedAt c p i = rw (lt-ltb i (c .count) l, k) in
+        ap (λ (v : Planned). shownBy v i) page ∙ rw k
     go false k =
         let none : saidAt c p i ≡ nonePlanned (entryAt c i .kind) = rw (lt-ltb i (c .count) l, k) in
-        ap (λ (v : Planned). toldBy v i) none ∙ rw k
+        ap (λ (v : Planned). shownBy v i) none ∙ rw k
 
 module _ (c p : Plan) (xs : List PlannedCode) (q : map plannedOf xs ≡ allPlanned c p) (few : c .count ≤ 48) (i : ℕ) (l : i < c .count) where
   -- a slot that an array of all that the plans say names is within the count
@@ -62,8 +53,8 @@ module _ (c p : Plan) (xs : List PlannedCode) (q : map plannedOf xs ≡ allPlann
       omega (arith, said-counted c p i)
 
   -- and what it tells is what is planned
-  pub all-told : toldBy (plannedOf (getD xs i nothing)) i ≡ planned c p i
-  all-told = ap (λ (v : Planned). toldBy v i) (says-at c p xs q i (omega arith)) ∙ told-said c p i l
+  pub all-told : shownBy (plannedOf (getD xs i nothing)) i ≡ planned c p i
+  all-told = ap (λ (v : Planned). shownBy v i) (says-at c p xs q i (omega arith)) ∙ told-said c p i l
 
 -- a turn of the loop that fills an array with what is told
 pub told-more : (f : ℕ → Shown) (slots : List Slot) (i : ℕ) (x : Slot) → i < length slots
@@ -78,7 +69,7 @@ told-more f slots i x room h own k l = go (eqb k i) refl
 
 -- what is told as planned has 15 bits where it is a first transmission
 pub planned-low : (c p : Plan) (n : ℕ) → AllLow (planned c p) n
-unfolding plannedAt
+unfolding plannedTold
 planned-low c p n i l = go (eqb (entryAt c i .kind) 2) (eqb (lowestAt c i) (suc i)) (eqb (entryAt c i .kind) 1)
   where
     go : (a b d : Bool) → Low (cond a (cond b (first (low15At c i)) (again (lowestAt c i))) (cond d advised optional))

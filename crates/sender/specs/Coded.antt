@@ -4,11 +4,11 @@ use mathlib.Core.List.{List}
 use Prim.Native.Nat.{ℕ, suc, _<_}
 use lib.Dec.{eqb}
 use lib.ListN.{getD}
-use Rattle.answer.specs.Number.{numberOf}
+use Rattle.refusals.specs.Number.{numberOf}
 use Rattle.schedule.specs.declared.Slot.{Slot}
 use Rattle.schedule.specs.Paper.{Told, first, again, optional, advised, Shown}
 use Rattle.schedule.specs.Coded.{shownOf}
-use Rattle.schedule.specs.Parts.{zeroed}
+use Rattle.schedule.specs.Inner.{zeroed}
 use Rattle.plan.specs.Paper.{Planned}
 use Rattle.sender.specs.Paper.{Writing}
 use Rattle.sender.specs.declared.Writing.{Writing as WritingCode}
@@ -24,8 +24,8 @@ abbrev pub shownIn : List Slot → ℕ → Shown
 shownIn slots i = shownOf (getD slots i zeroed)
 
 -- what is told of slot i by what the plans say of it
-unfoldable pub toldBy : Planned → ℕ → Shown
-toldBy v i =
+unfoldable pub shownBy : Planned → ℕ → Shown
+shownBy v i =
     record {
       new = cond (eqb (v .kind) 2) (v .fresh) (eqb (v .kind) 1);
       told = cond (eqb (v .kind) 2)

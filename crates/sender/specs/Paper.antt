@@ -10,8 +10,8 @@ use Rattle.schedule.specs.Paper.{Told, first, again, optional, advised, Shown}
 use Rattle.plan.specs.Paper.{Plan, planNumber, hasPage, entryAt, pageAt, lowestAt, low15At}
 
 -- 01 The plan, our writer: first, repeat, 40 and 41 as planned: a page's lowest slot is a first transmission, a later one a repeat that names it
-unfoldable pub plannedAt : Plan → ℕ → Told
-plannedAt c i =
+unfoldable pub plannedTold : Plan → ℕ → Told
+plannedTold c i =
     cond (eqb (entryAt c i .kind) 2)
     (cond (eqb (lowestAt c i) (suc i)) (first (low15At c i)) (again (lowestAt c i)))
     (cond (eqb (entryAt c i .kind) 1) advised optional)
@@ -22,7 +22,7 @@ newAt c p i = cond (eqb (entryAt c i .kind) 2) (not (hasPage p (pageAt c i))) (e
 
 -- 01 The plan, our writer: what is told of a slot, beside the plan before
 abbrev pub planned : Plan → Plan → ℕ → Shown
-planned c p i = record { new = newAt c p i; told = plannedAt c i }
+planned c p i = record { new = newAt c p i; told = plannedTold c i }
 
 -- 01 Schedule message, 000 3.5.5: the octets of a description: two with bit 8 set and 15 bits, high part first, for a first transmission; else one
 abbrev pub octetsOf : Told → List ℕ
@@ -62,8 +62,8 @@ abbrev pub bitmapOf : (ℕ → Shown) → ℕ → List ℕ
 bitmapOf s n = each (λ (j : ℕ). newBits s n j 8) 6
 
 -- 01 Schedule message: the octets that are used: Begin with type 00, End with spare bits 0, the new bits, the descriptions
-unfoldable pub usedOctets : ℕ → (ℕ → Shown) → ℕ → List ℕ
-usedOctets b s n = (b ∷ n ∷ []) ++ (bitmapOf s n ++ descriptions s n)
+unfoldable pub usedPart : ℕ → (ℕ → Shown) → ℕ → List ℕ
+usedPart b s n = (b ∷ n ∷ []) ++ (bitmapOf s n ++ descriptions s n)
 
 -- 01 Schedule message: after that 2B, up to 88 octets
 unfoldable pub padded : List ℕ → List ℕ
@@ -71,7 +71,7 @@ padded o = o ++ replicate (88 - length o) 43
 
 -- 01 Schedule message: the message that tells n slots
 abbrev pub messageOf : ℕ → (ℕ → Shown) → ℕ → List ℕ
-messageOf b s n = padded (usedOctets b s n)
+messageOf b s n = padded (usedPart b s n)
 
 -- 01 Order: the writer's number, the used octets it reports, and the lent output as it leaves it
 pub record Writing : Type 0 where

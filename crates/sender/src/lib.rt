@@ -8,22 +8,18 @@ ghost use lib.Seq.{sets};
 ghost use Rattle.schedule.specs.Coded.{toldOf, shownOf};
 ghost use Rattle.plan.specs.Coded.{planOf, plannedOf};
 ghost use Rattle.sender.specs.Paper.{planned, octetsOf, octetsOfAll, group, descriptions, newBits, bitmapOf, messageOf, write};
-ghost use Rattle.sender.specs.Coded.{writingOf, shownIn, toldBy, Low, AllLow};
-use answer::Refusal;
+ghost use Rattle.sender.specs.Coded.{writingOf, shownIn, shownBy, Low, AllLow};
 use plan::Plan;
 use plan::Planned;
 use plan::Verdict;
+use refusals::Refusal;
 use schedule::Description;
 use schedule::Slot;
-
-// 000 3.3.1: the octets of a message.
-const MESSAGE: usize = 88;
+use sizes::FILLER;
+use sizes::MESSAGE;
 
 // 000 3.5: the octets before the first description.
 const HEADER: usize = 8;
-
-// 01 Schedule message: what stands after the last description.
-const FILLER: u8 = 0x2B;
 
 // What the writer answers: the used octets, or a refusal.
 pub enum Writing {
@@ -34,7 +30,7 @@ pub enum Writing {
 // What is told of slot i, counted from 0, by what the plans say of it.
 fn tell(said: Planned, i: usize) -> Slot
     requires { ⌜ (i < 48) × (said .lowest ≤ 48) ⌝ }
-    ensures { λ r. ⌜ shownOf r ≡ toldBy (plannedOf said) i ⌝ }
+    ensures { λ r. ⌜ shownOf r ≡ shownBy (plannedOf said) i ⌝ }
 {
     if said.kind == 1 {
         return Slot {

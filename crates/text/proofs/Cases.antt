@@ -1,15 +1,9 @@
 -- Each case of the writer's and the reader's order, on plain facts.
-use mathlib.Core.Path.{_≡_, sym, ap, _∙_}
-use mathlib.Core.Bool.{true, false}
-use mathlib.Core.List.{List}
-use Prim.Native.Nat.{ℕ, _<_, _≤_}
-use native.Mathlib.Omega.{arith}
-use lib.ListN.{length}
-use borrow.Author.Tests.{eq-eqb, ne-eqb, lt-ltb, le-ltb}
-use Rattle.laws.specs.Received.{wholeBlocks}
+use Rattle.laws.proofs.Base.{_≡_, sym, ap, _∙_, true, false, List, ℕ, _<_, _≤_, arith, length, eq-eqb, ne-eqb, lt-ltb, le-ltb}
+use Rattle.sizes.specs.Paper.{wholeBlocks}
 use Rattle.page.specs.Paper.{Heading, octet, handedNumber}
 use Rattle.page.proofs.Received.{Handled, length-wrong, received-wrong, all-right, handled}
-use Rattle.text.specs.Paper.{Writing, Reading, badParameter, foreign, endsInCr, usedOctets, pageOf, written, received, trimmed, shown, reading}
+use Rattle.text.specs.Paper.{Writing, Reading, badParameter, foreign, endsInCr, usedOctets, pageOf, written, septetsReceived, trimmed, shown, reading}
 
 -- a refusal by n leaves the page p
 abbrev pub unwritten : ℕ → List ℕ → Writing
@@ -72,7 +66,7 @@ module _ (p : List ℕ) (n : ℕ) (t : List ℕ) where
         unfolding reading
         reading-13 l = simp (eq-eqb (length t) 93 e, eq-eqb (length p) 88 k, w, lt-ltb 15 (octet p 5) l)
 
-        pub reading-0 : octet p 5 ≤ 15 → reading p n t ≡ shown (trimmed (received p n))
+        pub reading-0 : octet p 5 ≤ 15 → reading p n t ≡ shown (trimmed (septetsReceived p n))
         unfolding reading
         reading-0 l = simp (eq-eqb (length t) 93 e, eq-eqb (length p) 88 k, w, le-ltb 15 (octet p 5) l)
 

@@ -1,8 +1,6 @@
 -- Two answers that meet a public contract of this crate are equal, lent memory included.
-use mathlib.Core.Path.{_≡_, sym, ap, _∙_}
-use mathlib.Core.List.{List}
-use Prim.Native.Nat.{ℕ}
-use Rattle.answer.proofs.Inverse.{numberOf-injective, numberOf-positive}
+use Rattle.laws.proofs.Base.{_≡_, sym, ap, _∙_, List, ℕ}
+use Rattle.refusals.proofs.Inverse.{numberOf-injective, numberOf-positive}
 use Rattle.page.specs.declared.Serial.{Serial}
 use Rattle.page.specs.declared.MessageId.{MessageId}
 use Rattle.text.specs.Paper.{Writing, Reading, written, reading}

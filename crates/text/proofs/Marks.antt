@@ -1,13 +1,5 @@
 -- Laws of the mark for none among septets, and of characters that have none.
-use mathlib.Core.Path.{_≡_, refl, sym}
-use mathlib.Core.Bool.{true, false, _||_, or-assoc, or-true, or-false}
-use mathlib.Core.List.{List, [], _∷_, _++_, map}
-use Prim.Native.Nat.{ℕ, zero, suc, _+_, _<_}
-use native.Mathlib.Numerals.{add-one}
-use lib.Dec.{eqb}
-use lib.ListN.{length, getD, take, replicate}
-use lib.Seq.{take-suc}
-use borrow.Author.Tests.{ne-eqb}
+use Rattle.laws.proofs.Base.{_≡_, refl, sym, true, false, _||_, or-assoc, or-true, or-false, List, [], _∷_, _++_, map, ℕ, zero, suc, _+_, _<_, add-one, eqb, length, getD, take, replicate, take-suc, ne-eqb}
 use Rattle.alphabet.specs.Paper.{septetOf, noSeptet}
 use Rattle.text.specs.Paper.{cr, foreign}
 use Rattle.text.specs.Inner.{marks}

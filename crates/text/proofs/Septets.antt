@@ -1,13 +1,5 @@
 -- Laws of a text's septets: how many they are, that they are septets, and how the writer's array comes to hold them.
-use mathlib.Core.Path.{_≡_, ap, _∙_}
-use mathlib.Core.Bool.{false}
-use mathlib.Core.List.{List, [], _∷_, _++_, map}
-use mathlib.Core.Logic.{_⊎_, inl, inr}
-use Prim.Native.Nat.{ℕ, _-_, _≤_}
-use native.Mathlib.Omega.{arith}
-use lib.Dec.{eqb, lit<}
-use lib.ListN.{length, replicate, length-append, length-map, length-replicate}
-use borrow.Author.Tests.{eqb-false}
+use Rattle.laws.proofs.Base.{_≡_, ap, _∙_, false, List, [], _∷_, _++_, map, _⊎_, inl, inr, ℕ, _-_, _≤_, arith, eqb, lit<, length, replicate, length-append, length-map, length-replicate, eqb-false}
 use Rattle.laws.specs.Radix.{Below}
 use Rattle.laws.specs.Table.{onto}
 use Rattle.laws.proofs.Parts.{drop-replicate}

@@ -1,11 +1,5 @@
 -- How the reader's arrays come to hold what is shown.
-use mathlib.Core.Path.{_≡_, sym, ap, _∙_}
-use mathlib.Core.List.{List, [], _++_, map, append-nil}
-use Prim.Native.Nat.{ℕ, _-_, _≤_}
-use native.Mathlib.Nat.{le-refl}
-use native.Mathlib.Omega.{arith}
-use lib.ListN.{length, take, drop, replicate, length-drop, length-map, drop-of-length-le}
-use lib.Seq.{take-at, take-append-le, length-take-le}
+use Rattle.laws.proofs.Base.{_≡_, sym, ap, _∙_, List, [], _++_, map, append-nil, ℕ, _-_, _≤_, le-refl, arith, length, take, drop, replicate, length-drop, length-map, drop-of-length-le, take-at, take-append-le, length-take-le}
 use Rattle.laws.specs.Table.{onto}
 use Rattle.laws.proofs.Table.{onto-room, length-onto}
 use Rattle.alphabet.specs.Paper.{codePoint}

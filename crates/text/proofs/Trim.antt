@@ -1,14 +1,5 @@
 -- Laws of dropping the CRs at the end of some septets.
-use mathlib.Core.Path.{_≡_, refl, ap, _∙_}
-use mathlib.Core.Bool.{Bool, true, false, _&&_, and-false}
-use mathlib.Core.List.{List, [], _∷_, _++_}
-use Prim.Native.Nat.{ℕ, suc, _-_, _<_, _≤_}
-use native.Mathlib.Nat.{sub-zero, suc-sub-suc}
-use native.Mathlib.Omega.{arith}
-use lib.Dec.{eqb}
-use lib.ListN.{length, getD, take, replicate, length-append}
-use lib.Seq.{take-suc, take-at}
-use borrow.Author.Tests.{ne-eqb, eqb-true}
+use Rattle.laws.proofs.Base.{_≡_, refl, ap, _∙_, Bool, true, false, _&&_, and-false, List, [], _∷_, _++_, ℕ, suc, _-_, _<_, _≤_, sub-zero, suc-sub-suc, arith, eqb, length, getD, take, replicate, length-append, take-suc, take-at, ne-eqb, eqb-true}
 use Rattle.laws.proofs.Tests.{both}
 use Rattle.text.specs.Paper.{cr, trimmed}
 

@@ -1,9 +1,5 @@
 -- Parts of digits whose number is a machine word.
-use mathlib.Core.List.{List}
-use Prim.Native.Nat.{ℕ, _^_, _≤_}
-use native.Mathlib.Nat.{le-trans, pow-le-pow-right, min-le-left}
-use native.Mathlib.Omega.{arith}
-use lib.ListN.{length, take, drop, length-take}
+use Rattle.laws.proofs.Base.{List, ℕ, _^_, _≤_, le-trans, pow-le-pow-right, min-le-left, arith, length, take, drop, length-take}
 use Rattle.laws.specs.Radix.{Below}
 use Rattle.laws.proofs.Radix.{below-take, below-drop}
 use Rattle.text.specs.Inner.{Word}

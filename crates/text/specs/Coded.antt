@@ -1,7 +1,7 @@
 -- The code's answers as the paper's numbers, each with what it leaves in lent memory.
 use Prim.Native.Nat.{ℕ}
 use mathlib.Core.List.{List}
-use Rattle.answer.specs.Number.{numberOf}
+use Rattle.refusals.specs.Number.{numberOf}
 use Rattle.page.specs.Paper.{Heading}
 use Rattle.page.specs.declared.Serial.{Serial}
 use Rattle.page.specs.declared.MessageId.{MessageId}

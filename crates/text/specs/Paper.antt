@@ -4,7 +4,7 @@ use mathlib.Core.Bool.{Bool, false, cond, not, _&&_, _||_}
 use mathlib.Core.List.{List, [], _∷_, _++_, map}
 use lib.Dec.{eqb, ltb}
 use lib.ListN.{length, getD, take, drop, replicate}
-use Rattle.laws.specs.Received.{wholeBlocks}
+use Rattle.sizes.specs.Paper.{wholeBlocks}
 use Rattle.laws.specs.Ruled.{ruled}
 use Rattle.laws.specs.Radix.{value, digits}
 use Rattle.alphabet.specs.Paper.{codePoint, septetOf, noSeptet}
@@ -73,8 +73,8 @@ unfoldable pub wholeOf : List ℕ → List ℕ
 wholeOf o = digits 128 (8 * length o / 7) (value 256 o)
 
 -- 01 Page and text: the septets received, those of octets 7 to n
-abbrev pub received : List ℕ → ℕ → List ℕ
-received p n = wholeOf (take (n - 6) (drop 6 p))
+abbrev pub septetsReceived : List ℕ → ℕ → List ℕ
+septetsReceived p n = wholeOf (take (n - 6) (drop 6 p))
 
 -- 01 Page and text: the CRs at the end dropped
 unfoldable pub trimmed : List ℕ → List ℕ
@@ -102,4 +102,4 @@ readerTests p n t =
 
 -- 01 Page and text: what the text reader leaves of the text t; a refusal leaves it as it was
 unfoldable pub reading : List ℕ → ℕ → List ℕ → Reading
-reading p n t = ruled (λ m. record { number = m; characters = 0; text = t }) (readerTests p n t) (shown (trimmed (received p n)))
+reading p n t = ruled (λ m. record { number = m; characters = 0; text = t }) (readerTests p n t) (shown (trimmed (septetsReceived p n)))

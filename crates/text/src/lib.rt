@@ -7,11 +7,11 @@ ghost use lib.ListN.{length, replicate};
 ghost use Rattle.text.specs.Paper.{badParameter, endsInCr, trimmed, written, wholeOf, shown, reading};
 ghost use Rattle.text.specs.Coded.{headed, writingOf, readingOf};
 ghost use Rattle.text.specs.Inner.{marks};
-use answer::Refusal;
 use page::Handing;
 use page::Header;
 use page::MessageId;
 use page::Serial;
+use refusals::Refusal;
 
 // The used octets of a page that was written.
 pub enum Written {

@@ -1,2 +1,2 @@
 -- What the contracts of `trial` cite.
-pub mod Within
+pub mod Inner

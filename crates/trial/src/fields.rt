@@ -1,7 +1,7 @@
 // What a line of stored results gives its call, read field by field: the format of tests/second/README.md, "Stored results".
 ghost use Prim.Native.Nat.{_≤_};
 ghost use lib.ListN.{length};
-ghost use Rattle.trial.specs.Within.{Within};
+ghost use Rattle.trial.specs.Inner.{Within};
 use crate::told;
 
 // The place after a field that cannot be read: past every line.

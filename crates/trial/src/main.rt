@@ -11,7 +11,7 @@ mod told;
 ghost use mathlib.Core.Path.{_≡_};
 ghost use Prim.Native.Nat.{_≤_, _<_};
 ghost use lib.ListN.{length};
-ghost use Rattle.trial.specs.Within.{Within};
+ghost use Rattle.trial.specs.Inner.{Within};
 use fields::UNREAD;
 use libc::STDOUT_FILENO;
 

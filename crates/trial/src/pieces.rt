@@ -9,15 +9,11 @@ use crate::told::NO_ANSWER;
 use block::Answer;
 use block::Reply;
 use block::State;
+use sizes::FILLER;
+use sizes::MESSAGE;
 
 // Octets of a lent state.
 const STATE: usize = 90;
-
-// Octets of a message.
-const MESSAGE: usize = 88;
-
-// What stands in a reply that hands out no message.
-const FILLER: u8 = 0x2B;
 
 // Characters of a field with a state: a space, and two digits for each of 90 octets.
 const STATE_FIELD: usize = 181;
@@ -219,6 +215,6 @@ fn number(answer: Answer) -> u8 {
         Answer::Page => 0,
         Answer::Taken => 1,
         Answer::Schedule => 7,
-        Answer::Refused(refusal) => answer::number(refusal),
+        Answer::Refused(refusal) => refusals::number(refusal),
     }
 }

@@ -13,9 +13,7 @@ use descriptions::Stepped;
 use page::MessageId;
 use schedule::Given;
 use schedule::Slot;
-
-// Octets of a message.
-const MESSAGE: usize = 88;
+use sizes::MESSAGE;
 
 // The most identifiers that are wanted.
 const WANTED: usize = 64;
@@ -98,7 +96,7 @@ fn gives(step: Stepped, place: usize, returned: u64) -> bool {
             if step.place != place {
                 return false;
             }
-            returned == answer::number(refusal) as u64
+            returned == refusals::number(refusal) as u64
         }
     }
 }
@@ -354,6 +352,6 @@ fn number(decision: Decision) -> u32 {
     match decision {
         Decision::Read => 256,
         Decision::Skip => 0,
-        Decision::Refused(refusal) => answer::number(refusal) as u32,
+        Decision::Refused(refusal) => refusals::number(refusal) as u32,
     }
 }

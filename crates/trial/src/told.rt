@@ -1,5 +1,5 @@
 // Results as a line tells them, character by character. Each function answers the place after what it was given.
-ghost use Rattle.trial.specs.Within.{Within};
+ghost use Rattle.trial.specs.Inner.{Within};
 use crate::fields;
 use crate::fields::LENT;
 use crate::fields::LENT_NUMBER;

@@ -1,13 +1,6 @@
 -- The room that the words of a refusal need.
-use mathlib.Core.Path.{_≡_, refl}
-use mathlib.Core.Bool.{Bool, true, false, cond, _&&_}
-use mathlib.Core.List.{List, [], _∷_}
-use Prim.Native.Nat.{ℕ, _≤_}
+use Rattle.laws.proofs.Base.{_≡_, refl, Bool, true, false, cond, _&&_, List, [], _∷_, ℕ, _≤_, arith, length, eqb, leb, ltb, leb-true}
 use Prim.Native.String.{String}
-use native.Mathlib.Omega.{arith}
-use lib.ListN.{length}
-use lib.Dec.{eqb, leb, ltb}
-use borrow.Author.Tests.{leb-true}
 use Rattle.laws.proofs.Tests.{both}
 use Rattle.lines.specs.Paper.{ascii}
 use Rattle.words.specs.Words.{find, words, ofIntake, ofText, ofLength, ofSchedule, ofPlan, ofSlot}

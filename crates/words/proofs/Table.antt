@@ -1,19 +1,11 @@
 -- Laws of the words: which table has a number's, that those of a known number are put, and none of one that no table has.
-use mathlib.Core.Path.{_≡_, refl, sym, ap, _∙_}
-use mathlib.Core.Bool.{Bool, true, false, cond}
-use mathlib.Core.List.{List, [], _∷_, _++_}
-use Prim.Native.Nat.{ℕ, _+_, _≤_, _<_}
+use Rattle.laws.proofs.Base.{_≡_, refl, sym, ap, _∙_, Bool, true, false, cond, List, [], _∷_, _++_, ℕ, _+_, _≤_, _<_, add-zero, arith, length, take, drop, take-append-drop, leb, ne-eqb, lt-ltb, le-ltb}
 use Prim.Native.String.{String}
-use native.Mathlib.Nat.{add-zero}
-use native.Mathlib.Omega.{arith}
-use lib.ListN.{length, take, drop, take-append-drop}
-use lib.Dec.{leb}
-use borrow.Author.Tests.{ne-eqb, lt-ltb, le-ltb}
-use Rattle.lines.specs.Paper.{Left, behind}
+use Rattle.lines.specs.Paper.{PutLeft, behind}
 use Rattle.words.specs.Words.{find, words, ofIntake, ofText, ofLength, ofSchedule, ofPlan, ofSlot}
 
 -- the words of a known number are put
-pub says : (f : ℕ → List ℕ) (number known : ℕ) (w : List ℕ) (at : ℕ) (t : List ℕ) (left : Left) → number ≡ known → f known ≡ w → left ≡ behind w at t
+pub says : (f : ℕ → List ℕ) (number known : ℕ) (w : List ℕ) (at : ℕ) (t : List ℕ) (left : PutLeft) → number ≡ known → f known ≡ w → left ≡ behind w at t
     → left ≡ behind (f number) at t
 says f number known w at t left told e put = put ∙ ap (λ (x : List ℕ). behind x at t) (sym (ap f told ∙ e))
 
@@ -63,7 +55,7 @@ behind-none at t = go (leb (at + 0) (length t))
     whole : t ≡ take at t ++ drop (at + 0) t
     whole = sym (take-append-drop at t) ∙ ap (λ (k : ℕ). take at t ++ drop k t) (sym (add-zero at))
 
-    go : (b : Bool) → _≡_ {A = Left} (record { end = at; text = t })
+    go : (b : Bool) → _≡_ {A = PutLeft} (record { end = at; text = t })
         (cond b (record { end = at + 0; text = take at t ++ drop (at + 0) t }) (record { end = at; text = t }))
     go true = λ i. record { end = sym (add-zero at) i; text = whole i }
     go false = refl

@@ -1,15 +1,15 @@
 // The refusals of document 01's table of numbers in words, for whoever does not have the table at hand.
 ghost use mathlib.Core.Path.{_≡_};
-ghost use Rattle.answer.specs.Number.{numberOf};
+ghost use Rattle.refusals.specs.Number.{numberOf};
 ghost use Rattle.lines.specs.Paper.{behind};
 ghost use Rattle.words.specs.Words.{find, words, ofIntake, ofText, ofLength, ofSchedule, ofPlan, ofSlot};
-use answer::Refusal;
+use refusals::Refusal;
 
 // Puts the words of a refusal behind the first octets of a text, and answers where they end. Where they do not fit, nothing is put.
 pub fn put_words(refusal: Refusal, text: &mut [u8], at: usize) -> usize
     ensures { λ r. ⌜ record { end = r; text = now (text .exit) } ≡ behind (words (numberOf refusal)) at (now (text .entry)) ⌝ }
 {
-    put_numbered(answer::number(refusal), text, at)
+    put_numbered(refusals::number(refusal), text, at)
 }
 
 fn put_numbered(number: u8, text: &mut [u8], at: usize) -> usize

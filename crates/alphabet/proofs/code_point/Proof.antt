@@ -1,6 +1,5 @@
 -- `alphabet::code_point` meets its contract: its constant is computed to be the paper's alphabet.
-use mathlib.Core.Path.{refl}
-use borrow.Author.Needs.{needs}
+use Rattle.laws.proofs.Base.{refl, needs}
 use Rattle.alphabet.specs.Paper.{alphabet}
 use Rattle.alphabet.proofs.code_point.Statement.{statement}
 use Rattle.alphabet.proofs.code_point.Tie as tie

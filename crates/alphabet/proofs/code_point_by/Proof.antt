@@ -1,5 +1,5 @@
 -- `alphabet::code_point_by` meets its contract: the table lent is the paper's alphabet.
-use borrow.Author.Needs.{needs}
+use Rattle.laws.proofs.Base.{needs}
 use Rattle.alphabet.specs.Paper.{codePoint}
 use Rattle.alphabet.proofs.code_point_by.Statement.{statement}
 use Rattle.alphabet.proofs.code_point_by.Tie as tie

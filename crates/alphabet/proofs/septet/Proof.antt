@@ -1,6 +1,5 @@
 -- `alphabet::septet` meets its contract: its constant is computed to list what each code point is found as.
-use mathlib.Core.Path.{refl}
-use borrow.Author.Needs.{needs}
+use Rattle.laws.proofs.Base.{refl, needs}
 use Rattle.alphabet.specs.Paper.{alphabet, septetOf}
 use Rattle.alphabet.proofs.septet.Statement.{statement}
 use Rattle.alphabet.proofs.septet.Tie as tie

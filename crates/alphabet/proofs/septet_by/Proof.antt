@@ -1,6 +1,5 @@
 -- `alphabet::septet_by` meets its contract: the table lent lists what each code point is found as.
-use mathlib.Core.Path.{sym}
-use borrow.Author.Needs.{needs}
+use Rattle.laws.proofs.Base.{sym, needs}
 use Rattle.laws.proofs.Table.{listed-at}
 use Rattle.alphabet.specs.Paper.{septetOf}
 use Rattle.alphabet.proofs.Laws.{past-table}

@@ -1,6 +1,5 @@
 -- `alphabet::septets` meets its contract: its constant is computed to be the list of what each code point is found as.
-use mathlib.Core.Path.{refl}
-use borrow.Author.Needs.{needs}
+use Rattle.laws.proofs.Base.{refl, needs}
 use Rattle.alphabet.specs.Paper.{alphabet, septetOf}
 use Rattle.alphabet.proofs.septets.Statement.{statement}
 use Rattle.alphabet.proofs.septets.Tie as tie

@@ -1,10 +1,5 @@
 -- `alphabet::septets_by` meets its contract: after i turns the first i places are written.
-use mathlib.Core.Path.{_≡_, refl, _∙_}
-use Prim.Native.Nat.{_≤_, _<_, _-_, min}
-use native.Mathlib.Omega.{arith}
-use borrow.Author.Needs.{needs}
-use denote.Ref.{now}
-use lib.ListN.{length, length-set, take}
+use Rattle.laws.proofs.Base.{_≡_, refl, _∙_, _≤_, _<_, _-_, min, arith, needs, now, length, length-set, take}
 use Rattle.laws.specs.Table.{onto}
 use Rattle.laws.proofs.Table.{onto-turn, onto-end}
 use Rattle.alphabet.specs.Paper.{septetOf}
@@ -41,16 +36,6 @@ pub septets-by-spec : {M : Type 1} → statement M
 septets-by-spec =
     tie.close
     (tie.spec
-    Inv-loop
-    μ-loop
-    (λ c κs. search needs)
-    loop-holds
-    (λ c. search needs)
-    (λ c. search needs)
-    (λ c κs. search needs)
-    (λ c. search needs)
-    (λ c. search needs)
-    (λ c. search needs)
-    loop-again
-    (λ c. search needs)
-    returns)
+    Inv-loop μ-loop (λ c κs. search needs) loop-holds (λ c. search needs) (λ c. search needs)
+    (λ c κs. search needs) (λ c. search needs) (λ c. search needs) (λ c. search needs) loop-again
+    (λ c. search needs) returns)

@@ -1,22 +1,9 @@
 -- `block::block_type` meets its contract: the mark by the test, the code by its leaf.
-use mathlib.Core.Path.{ap}
-use Prim.Native.Nat.{ℕ, suc, _+_, _/_, _≤_, _<_}
-use native.Mathlib.Omega.{arith}
-use borrow.Author.Needs.{needs}
-use borrow.Author.Tests.{le-leb, lt-leb}
+use Rattle.laws.proofs.Base.{ap, ℕ, suc, _+_, _/_, _≤_, _<_, arith, needs, le-leb, lt-leb}
 use Rattle.block.specs.Coded.{kindOf}
 use Rattle.block.proofs.Write.{codeOf-small}
 use Rattle.block.proofs.block_type.Statement.{statement}
 use Rattle.block.proofs.block_type.Tie as tie
-
-sequence-code-requires : tie.Need-sequence-code-requires
-sequence-code-requires c κs = search needs
-
-add-if1 : tie.Need-add-if1
-add-if1 c = search needs
-
-add-if1-2 : tie.Need-add-if1-2
-add-if1-2 c = search needs
 
 add-result : tie.Need-add-result
 add-result c =
@@ -43,4 +30,4 @@ returns-2 c =
 pub block-type-spec : {M : Type 1} → statement M
 block-type-spec =
     tie.close
-    (tie.spec sequence-code-requires add-if1 add-if1-2 add-result returns add-result-2 returns-2)
+    (tie.spec (λ c κs. search needs) (λ c. search needs) (λ c. search needs) add-result returns add-result-2 returns-2)

@@ -1,27 +1,12 @@
 -- `block::intake` meets its contract: an improper state is refused, and for a proper one the place of the piece gives the answer.
-use mathlib.Core.Path.{_≡_, refl, sym, ap, _∙_}
-use mathlib.Core.Bool.{true}
-use borrow.Author.Needs.{needs}
-use borrow.Author.Tests.{not-true, not-false}
+use Rattle.laws.proofs.Base.{_≡_, refl, sym, ap, _∙_, true, needs, not-true, not-false}
 use Rattle.block.specs.declared.Place.{Place}
 use Rattle.block.specs.Paper.{proper}
-use Rattle.block.specs.Place.{placeOf}
+use Rattle.block.specs.Inner.{placeOf}
 use Rattle.block.specs.Coded.{heldOf, placed, leaving}
 use Rattle.block.proofs.Steps.{step-improper, step-by, adds-first, adds-next}
 use Rattle.block.proofs.intake.Statement.{statement}
 use Rattle.block.proofs.intake.Tie as tie
-
-slice-aggregate-is-proper : tie.Need-slice-aggregate-is-proper
-slice-aggregate-is-proper c = search needs
-
-start-requires : tie.Need-start-requires
-start-requires c κs = search needs
-
-is-proper-requires : tie.Need-is-proper-requires
-is-proper-requires c κs = search needs
-
-refused-requires : tie.Need-refused-requires
-refused-requires c κs = search needs
 
 returns : tie.Need-returns
 returns c =
@@ -37,29 +22,11 @@ found : (c : tie.After-place-of) (x : Place) → c .place-of .result ≡ x
     → placeOf (c .before .before .before .before .before .before .before .args .state .taken) (c .before .before .before .before .before .before .before .args .piece .now) ≡ placed x
 found c x e = sym (c .place-of .ensures) ∙ ap placed e
 
-place-of-requires : tie.Need-place-of-requires
-place-of-requires c κs = search needs
-
-enum-known-place : tie.Need-enum-known-place
-enum-known-place c = search needs
-
-refused-requires-2 : tie.Need-refused-requires-2
-refused-requires-2 c κs = search needs
-
-enum-known-place-2 : tie.Need-enum-known-place-2
-enum-known-place-2 c = search needs
-
-kind-number-requires : tie.Need-kind-number-requires
-kind-number-requires c κs = search needs
-
 add-requires : tie.Need-add-requires
 add-requires c κs =
     let b = c .before .before .before .before in
     let a = b .before .before .before .before .before .before .before .args in
     adds-first (a .state .taken) (a .piece .now) _ (found b _ (c .before .before .place2 .given .1)) refl
-
-enum-known-place-3 : tie.Need-enum-known-place-3
-enum-known-place-3 c = search needs
 
 add-requires-2 : tie.Need-add-requires-2
 add-requires-2 c κs =
@@ -91,19 +58,7 @@ pub intake-spec : {M : Type 1} → statement M
 intake-spec =
     tie.close
     (tie.spec
-    start-requires
-    slice-aggregate-is-proper
-    is-proper-requires
-    refused-requires
-    returns
-    place-of-requires
-    enum-known-place
-    refused-requires-2
-    enum-known-place-2
-    kind-number-requires
-    add-requires
-    enum-known-place-3
-    add-requires-2
-    returns-2
-    returns-3
+    (λ c κs. search needs) (λ c. search needs) (λ c κs. search needs) (λ c κs. search needs) returns
+    (λ c κs. search needs) (λ c. search needs) (λ c κs. search needs) (λ c. search needs)
+    (λ c κs. search needs) add-requires (λ c. search needs) add-requires-2 returns-2 returns-3
     returns-4)

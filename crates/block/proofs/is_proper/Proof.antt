@@ -1,9 +1,5 @@
 -- `block::is_proper` meets its contract: the tests that led to each answer decide the parts of `proper`.
-use Prim.Native.Nat.{_≤_}
-use mathlib.Core.Bool.{and-false}
-use borrow.Author.Needs.{needs}
-use borrow.Author.Tests.{eq-eqb, ne-eqb, le-leb, lt-leb}
-use native.Mathlib.Omega.{arith}
+use Rattle.laws.proofs.Base.{_≤_, and-false, needs, eq-eqb, ne-eqb, le-leb, lt-leb, arith}
 use Rattle.block.specs.Paper.{proper}
 use Rattle.block.proofs.is_proper.Statement.{statement}
 use Rattle.block.proofs.is_proper.Tie as tie
@@ -15,9 +11,6 @@ returns c = simp (ne-eqb _ _ (c .if1 .taken))
 returns-2 : tie.Need-returns-2
 unfolding proper
 returns-2 c = simp (eq-eqb _ _ (c .before .before .if1 .left), eq-eqb _ _ (c .before .if2 .taken), ne-eqb _ _ (c .if3 .taken))
-
-is-blank-requires : tie.Need-is-blank-requires
-is-blank-requires c κs = search needs
 
 returns-3 : tie.Need-returns-3
 unfolding proper
@@ -48,12 +41,6 @@ returns-6 c =
       and-false,
     )
 
-mul-is-blank : tie.Need-mul-is-blank
-mul-is-blank c = search needs
-
-is-blank-requires-2 : tie.Need-is-blank-requires-2
-is-blank-requires-2 c κs = search needs
-
 returns-7 : tie.Need-returns-7
 unfolding proper
 returns-7 c =
@@ -71,13 +58,5 @@ pub is-proper-spec : {M : Type 1} → statement M
 is-proper-spec =
     tie.close
     (tie.spec
-    returns
-    returns-2
-    is-blank-requires
-    returns-3
-    returns-4
-    returns-5
-    returns-6
-    mul-is-blank
-    is-blank-requires-2
-    returns-7)
+    returns returns-2 (λ c κs. search needs) returns-3 returns-4 returns-5 returns-6
+    (λ c. search needs) (λ c κs. search needs) returns-7)

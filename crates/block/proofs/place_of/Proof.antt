@@ -1,21 +1,12 @@
 -- `block::place_of` meets its contract: the tests that led to each answer decide those of `placeOf`.
-use mathlib.Core.Path.{_≡_}
-use mathlib.Core.Bool.{or-false, or-true}
-use Prim.Native.Nat.{_≤_, suc, _%_}
-use lib.ListN.{getD}
-use borrow.Author.Needs.{needs}
-use borrow.Author.Tests.{eq-eqb, ne-eqb, le-leb, lt-leb}
-use native.Mathlib.Omega.{arith}
-use Rattle.block.specs.Place.{placeOf}
+use Rattle.laws.proofs.Base.{_≡_, or-false, or-true, _≤_, suc, _%_, getD, needs, eq-eqb, ne-eqb, le-leb, lt-leb, arith}
+use Rattle.block.specs.Inner.{placeOf}
 use Rattle.block.proofs.place_of.Statement.{statement}
 use Rattle.block.proofs.place_of.Tie as tie
 
 returns : tie.Need-returns
 unfolding placeOf
 returns c = simp (ne-eqb _ _ (c .if1 .taken))
-
-shared-slice-read-head : tie.Need-shared-slice-read-head
-shared-slice-read-head c = search needs
 
 returns-2 : tie.Need-returns-2
 unfolding placeOf
@@ -93,13 +84,5 @@ pub place-of-spec : {M : Type 1} → statement M
 place-of-spec =
     tie.close
     (tie.spec
-    returns
-    shared-slice-read-head
-    returns-2
-    returns-3
-    returns-4
-    returns-5
-    returns-6
-    returns-7
-    returns-8
-    returns-9)
+    returns (λ c. search needs) returns-2 returns-3 returns-4 returns-5 returns-6 returns-7
+    returns-8 returns-9)

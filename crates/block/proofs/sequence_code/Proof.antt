@@ -1,23 +1,12 @@
 -- `block::sequence_code` meets its contract: block 0 has the code of its kind, any other its own number.
-use mathlib.Core.Path.{sym, ap}
-use borrow.Author.Needs.{needs}
-use borrow.Author.Tests.{eq-eqb, ne-eqb}
+use Rattle.laws.proofs.Base.{sym, ap, needs, eq-eqb, ne-eqb}
 use Rattle.block.specs.Paper.{firstCode}
 use Rattle.block.specs.Coded.{kindOf}
 use Rattle.block.proofs.sequence_code.Statement.{statement}
 use Rattle.block.proofs.sequence_code.Tie as tie
 
-cast-result : tie.Need-cast-result
-cast-result c = search needs
-
 returns : tie.Need-returns
 returns c = simp (ne-eqb _ _ (c .if1 .taken))
-
-enum-told : tie.Need-enum-told
-enum-told c = search needs
-
-enum-told-2 : tie.Need-enum-told-2
-enum-told-2 c = search needs
 
 returns-2 : tie.Need-returns-2
 returns-2 c =
@@ -29,4 +18,4 @@ returns-3 c =
 
 pub sequence-code-spec : {M : Type 1} → statement M
 sequence-code-spec =
-    tie.close (tie.spec cast-result returns enum-told enum-told-2 returns-2 returns-3)
+    tie.close (tie.spec (λ c. search needs) returns (λ c. search needs) (λ c. search needs) returns-2 returns-3)

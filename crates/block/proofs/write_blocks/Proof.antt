@@ -1,11 +1,5 @@
 -- `block::write_blocks` meets its contract. The invariant: the blocks so far stand at the front, and the rest is as it was.
-use mathlib.Core.Path.{_≡_, refl, sym, _∙_}
-use mathlib.Core.List.{_++_}
-use Prim.Native.Nat.{_+_, _*_, _-_, _≤_}
-use lib.ListN.{length, drop, length-set}
-use native.Mathlib.Omega.{arith}
-use borrow.Author.Needs.{needs}
-use borrow.Author.Tests.{eq-eqb, ne-eqb, le-ltb, lt-ltb}
+use Rattle.laws.proofs.Base.{_≡_, refl, sym, _∙_, _++_, _+_, _*_, _-_, _≤_, length, drop, length-set, arith, needs, eq-eqb, ne-eqb, le-ltb, lt-ltb}
 use Rattle.block.specs.Paper.{blocks, written}
 use Rattle.block.specs.Coded.{kindOf}
 use Rattle.block.proofs.Write.{write-turn, length-written, written-all}
@@ -42,62 +36,8 @@ loop-holds : tie.Need-loop-holds Inv-loop μ-loop
 unfolding blocks
 loop-holds c = (omega arith, refl, c .before .before .before .if1 .left)
 
-block-type-requires : tie.Need-block-type-requires Inv-loop μ-loop
-block-type-requires c κs = search needs
-
-mul-out : tie.Need-mul-out Inv-loop μ-loop
-mul-out c = search needs
-
-slice-write-out : tie.Need-slice-write-out Inv-loop μ-loop
-slice-write-out c = search needs
-
-mul-copy : tie.Need-mul-copy Inv-loop μ-loop
-mul-copy c = search needs
-
-mul-copy-2 : tie.Need-mul-copy-2 Inv-loop μ-loop
-mul-copy-2 c = search needs
-
-add-copy : tie.Need-add-copy Inv-loop μ-loop
-add-copy c = search needs
-
-sub-copy : tie.Need-sub-copy Inv-loop μ-loop
-sub-copy c = search needs
-
-part-copy-start : tie.Need-part-copy-start Inv-loop μ-loop
-part-copy-start c = search needs
-
-part-copy-end : tie.Need-part-copy-end Inv-loop μ-loop
-part-copy-end c = search needs
-
-mul-copy-3 : tie.Need-mul-copy-3 Inv-loop μ-loop
-mul-copy-3 c = search needs
-
-add-copy-2 : tie.Need-add-copy-2 Inv-loop μ-loop
-add-copy-2 c = search needs
-
-mul-copy-4 : tie.Need-mul-copy-4 Inv-loop μ-loop
-mul-copy-4 c = search needs
-
-add-copy-3 : tie.Need-add-copy-3 Inv-loop μ-loop
-add-copy-3 c = search needs
-
-sub-copy-2 : tie.Need-sub-copy-2 Inv-loop μ-loop
-sub-copy-2 c = search needs
-
-part-copy-start-2 : tie.Need-part-copy-start-2 Inv-loop μ-loop
-part-copy-start-2 c = search needs
-
 part-copy-end-2 : tie.Need-part-copy-end-2 Inv-loop μ-loop
 part-copy-end-2 c = simp length-set (omega arith)
-
-copy-requires : tie.Need-copy-requires Inv-loop μ-loop
-copy-requires c κs = search needs
-
-add-i : tie.Need-add-i Inv-loop μ-loop
-add-i c = search needs
-
-loop-less : tie.Need-loop-less Inv-loop μ-loop
-loop-less c = search needs
 
 loop-again : tie.Need-loop-again Inv-loop μ-loop
 loop-again c =
@@ -134,32 +74,9 @@ pub write-blocks-spec : {M : Type 1} → statement M
 write-blocks-spec =
     tie.close
     (tie.spec
-    Inv-loop
-    μ-loop
-    returns
-    returns-2
-    returns-3
-    returns-4
-    loop-holds
-    block-type-requires
-    mul-out
-    slice-write-out
-    mul-copy
-    mul-copy-2
-    add-copy
-    sub-copy
-    part-copy-start
-    part-copy-end
-    mul-copy-3
-    add-copy-2
-    mul-copy-4
-    add-copy-3
-    sub-copy-2
-    part-copy-start-2
-    part-copy-end-2
-    copy-requires
-    add-i
-    loop-less
-    loop-again
-    same-length
-    returns-5)
+    Inv-loop μ-loop returns returns-2 returns-3 returns-4 loop-holds (λ c κs. search needs)
+    (λ c. search needs) (λ c. search needs) (λ c. search needs) (λ c. search needs)
+    (λ c. search needs) (λ c. search needs) (λ c. search needs) (λ c. search needs)
+    (λ c. search needs) (λ c. search needs) (λ c. search needs) (λ c. search needs)
+    (λ c. search needs) (λ c. search needs) part-copy-end-2 (λ c κs. search needs)
+    (λ c. search needs) (λ c. search needs) loop-again same-length returns-5)

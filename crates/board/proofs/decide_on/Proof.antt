@@ -1,9 +1,5 @@
 -- `board::decide_on` meets its contract: each answer is told from the places of the descriptions.
-use mathlib.Core.Path.{sym, _∙_}
-use mathlib.Core.Bool.{true, false}
-use native.Mathlib.Omega.{arith}
-use borrow.Author.Needs.{needs}
-use borrow.Author.Tests.{not-true, not-false}
+use Rattle.laws.proofs.Base.{sym, _∙_, true, false, arith, needs, not-true, not-false}
 use Rattle.board.specs.Coded.{wantedOf, lentSchedule}
 use Rattle.board.proofs.Cases.{decide-low, decide-high, decide-many, decided-as, reads-untold, tells-unknown}
 use Rattle.board.proofs.Telling.{telling, tells-by, decided-slots}
@@ -25,12 +21,6 @@ returns-4 c =
     let s = lentSchedule (a .known) (a .message .now) (a .received) in
     decided-as s (a .slot) (wantedOf (a .wanted)) (a .held .0) (record { some = search needs; low = search needs }) true (search needs)
     (reads-untold s (a .slot) (wantedOf (a .wanted)) (a .held .0) (tells-unknown s (a .slot) (not-true _ (c .if4 .taken))))
-
-read-places-requires : tie.Need-read-places-requires
-read-places-requires c κs = search needs
-
-tells-of-requires : tie.Need-tells-of-requires
-tells-of-requires c κs = search needs
 
 returns-5 : tie.Need-returns-5
 returns-5 c =
@@ -67,13 +57,5 @@ pub decide-on-spec : {M : Type 1} → statement M
 decide-on-spec =
     tie.close
     (tie.spec
-    returns
-    returns-2
-    returns-3
-    returns-4
-    read-places-requires
-    tells-of-requires
-    returns-5
-    reads-for-requires
-    returns-6
-    returns-7)
+    returns returns-2 returns-3 returns-4 (λ c κs. search needs) (λ c κs. search needs) returns-5
+    reads-for-requires returns-6 returns-7)

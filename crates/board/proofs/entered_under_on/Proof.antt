@@ -1,9 +1,5 @@
 -- `board::entered_under_on` meets its contract: the entry is told from the places of the descriptions.
-use mathlib.Core.Path.{sym, ap, _∙_}
-use mathlib.Core.Bool.{false}
-use native.Mathlib.Omega.{arith}
-use borrow.Author.Needs.{needs}
-use borrow.Author.Tests.{not-true, not-false}
+use Rattle.laws.proofs.Base.{sym, ap, _∙_, false, arith, needs, not-true, not-false}
 use Rattle.board.specs.Paper.{entryFor}
 use Rattle.board.specs.Coded.{lentSchedule}
 use Rattle.board.proofs.Cases.{entered-untold, tells-unknown}
@@ -16,12 +12,6 @@ returns c =
     let a = c .before .before .args in
     let s = lentSchedule (a .known) (a .message .now) (a .received) in
     sym (entered-untold s (a .slot) (tells-unknown s (a .slot) (not-true _ (c .if1 .taken))))
-
-read-places-requires : tie.Need-read-places-requires
-read-places-requires c κs = search needs
-
-tells-of-requires : tie.Need-tells-of-requires
-tells-of-requires c κs = search needs
 
 returns-2 : tie.Need-returns-2
 returns-2 c =
@@ -47,12 +37,6 @@ mul-told-at c = omega (arith, tells c .low)
 array-read-told-at : tie.Need-array-read-told-at
 array-read-told-at c = omega (arith, tells c .some, tells c .low)
 
-told-at-requires : tie.Need-told-at-requires
-told-at-requires c κs = search needs
-
-entry-for-requires : tie.Need-entry-for-requires
-entry-for-requires c κs = search needs
-
 returns-3 : tie.Need-returns-3
 returns-3 c =
     let a = c .before .before .before .before .before .before .before .before .args in
@@ -65,13 +49,5 @@ pub entered-under-on-spec : {M : Type 1} → statement M
 entered-under-on-spec =
     tie.close
     (tie.spec
-    returns
-    read-places-requires
-    tells-of-requires
-    returns-2
-    sub-told-at
-    mul-told-at
-    array-read-told-at
-    told-at-requires
-    entry-for-requires
-    returns-3)
+    returns (λ c κs. search needs) (λ c κs. search needs) returns-2 sub-told-at mul-told-at
+    array-read-told-at (λ c κs. search needs) (λ c κs. search needs) returns-3)

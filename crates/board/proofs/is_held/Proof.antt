@@ -1,6 +1,5 @@
 -- `board::is_held` meets its contract: the shift divides by the power of two that the definition has.
-use mathlib.Core.Path.{sym}
-use borrow.Author.Needs.{needs}
+use Rattle.laws.proofs.Base.{sym, needs}
 use Rattle.board.proofs.Sets.{held-low, held-high, held-bit}
 use Rattle.board.proofs.is_held.Statement.{statement}
 use Rattle.board.proofs.is_held.Tie as tie
@@ -11,11 +10,8 @@ returns c = sym (held-low _ _ (c .if1 .taken))
 returns-2 : tie.Need-returns-2
 returns-2 c = sym (held-high _ _ (c .if2 .taken))
 
-shr-result : tie.Need-shr-result
-shr-result c = search needs
-
 returns-3 : tie.Need-returns-3
 returns-3 c = sym (held-bit _ _ (record { some = search needs; low = search needs }))
 
 pub is-held-spec : {M : Type 1} → statement M
-is-held-spec = tie.close (tie.spec returns returns-2 shr-result returns-3)
+is-held-spec = tie.close (tie.spec returns returns-2 (λ c. search needs) returns-3)

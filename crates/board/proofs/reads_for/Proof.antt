@@ -1,30 +1,12 @@
 -- `board::reads_for` meets its contract: a repeat of a message that is read names a slot below its own.
-use mathlib.Core.Path.{_≡_, ap, _∙_}
-use Prim.Native.Nat.{_+_}
-use native.Mathlib.Omega.{arith}
-use borrow.Author.Needs.{needs}
-use Rattle.schedule.specs.Parts.{toldBy}
+use Rattle.laws.proofs.Base.{_≡_, ap, _∙_, _+_, arith, needs}
+use Rattle.schedule.specs.Inner.{toldBy}
 use Rattle.board.specs.Paper.{firstMatches, entryFor}
-use Rattle.board.specs.Parts.{readsBy}
+use Rattle.board.specs.Inner.{readsBy}
 use Rattle.board.specs.Coded.{wantedOf}
 use Rattle.board.proofs.Telling.{Named, entry-named, reads-by-entry}
 use Rattle.board.proofs.reads_for.Statement.{statement}
 use Rattle.board.proofs.reads_for.Tie as tie
-
-mul-told-at : tie.Need-mul-told-at
-mul-told-at c = search needs
-
-array-read-told-at : tie.Need-array-read-told-at
-array-read-told-at c = search needs
-
-told-at-requires : tie.Need-told-at-requires
-told-at-requires c κs = search needs
-
-add-entry-for : tie.Need-add-entry-for
-add-entry-for c = search needs
-
-entry-for-requires : tie.Need-entry-for-requires
-entry-for-requires c κs = search needs
 
 -- the slot that the page is entered under, by what is told at the slot's place
 under : (c : tie.After-entry-for) → let a = c .before .before .before .args in c .entry-for .result ≡ entryFor (a .i + 1) (toldBy (a .message .now) (a .t2) (a .i))
@@ -45,18 +27,6 @@ mul-told-at-2 c = omega (arith, lower c .low)
 array-read-told-at-2 : tie.Need-array-read-told-at-2
 array-read-told-at-2 c = omega (arith, lower c .some, lower c .low)
 
-told-at-requires-2 : tie.Need-told-at-requires-2
-told-at-requires-2 c κs = search needs
-
-first-matches-requires : tie.Need-first-matches-requires
-first-matches-requires c κs = search needs
-
-unless-held-requires : tie.Need-unless-held-requires
-unless-held-requires c κs = search needs
-
-reads-by-requires : tie.Need-reads-by-requires
-reads-by-requires c κs = search needs
-
 returns : tie.Need-returns
 returns c =
     let entered = c .before .before .before .before in
@@ -72,16 +42,6 @@ pub reads-for-spec : {M : Type 1} → statement M
 reads-for-spec =
     tie.close
     (tie.spec
-    mul-told-at
-    array-read-told-at
-    told-at-requires
-    add-entry-for
-    entry-for-requires
-    sub-told-at
-    mul-told-at-2
-    array-read-told-at-2
-    told-at-requires-2
-    first-matches-requires
-    unless-held-requires
-    reads-by-requires
-    returns)
+    (λ c. search needs) (λ c. search needs) (λ c κs. search needs) (λ c. search needs)
+    (λ c κs. search needs) sub-told-at mul-told-at-2 array-read-told-at-2 (λ c κs. search needs)
+    (λ c κs. search needs) (λ c κs. search needs) (λ c κs. search needs) returns)

@@ -1,18 +1,10 @@
 -- `board::tells_of` meets its contract.
-use mathlib.Core.Path.{sym, ap, _∙_}
-use borrow.Author.Needs.{needs}
-use borrow.Author.Tests.{le-leb, lt-leb}
+use Rattle.laws.proofs.Base.{sym, ap, _∙_, needs, le-leb, lt-leb}
 use Rattle.schedule.specs.declared.Reading.{Reading}
 use Rattle.schedule.specs.Coded.{readOf}
 use Rattle.board.proofs.Telling.{answers, refused-answers}
 use Rattle.board.proofs.tells_of.Statement.{statement}
 use Rattle.board.proofs.tells_of.Tie as tie
-
-enum-known-answer : tie.Need-enum-known-answer
-enum-known-answer c = search needs
-
-enum-told : tie.Need-enum-told
-enum-told c = search needs
 
 returns : tie.Need-returns
 returns c =
@@ -30,4 +22,4 @@ returns-3 c =
     sym (ap (λ (r : Reading). answers (readOf r) slot) (c .before .before .answer .given .1) ∙ rw (le-leb 1 slot (c .if1 .left)))
 
 pub tells-of-spec : {M : Type 1} → statement M
-tells-of-spec = tie.close (tie.spec enum-known-answer enum-told returns returns-2 returns-3)
+tells-of-spec = tie.close (tie.spec (λ c. search needs) (λ c. search needs) returns returns-2 returns-3)

@@ -1,25 +1,10 @@
 -- `capi::cb_check_schedule` meets its contract: the files, then the checker's answer, packed.
-use mathlib.Core.Path.{sym, ap, _∙_}
-use Prim.Native.Nat.{_≤_, _<_}
-use native.Mathlib.Omega.{arith}
-use borrow.Author.Needs.{needs}
-use Rattle.answer.proofs.Inverse.{numberOf-positive}
+use Rattle.laws.proofs.Base.{sym, ap, _∙_, _≤_, _<_, arith, needs}
+use Rattle.refusals.proofs.Inverse.{numberOf-positive}
 use Rattle.plan.specs.Coded.{verdictOf}
 use Rattle.capi.proofs.Filed.{refuses-both, named-small, checks-true, checks-refused}
 use Rattle.capi.proofs.cb_check_schedule.Statement.{statement}
 use Rattle.capi.proofs.cb_check_schedule.Tie as tie
-
-read-plans-requires : tie.Need-read-plans-requires
-read-plans-requires c κs = search needs
-
-enum-known-verdict : tie.Need-enum-known-verdict
-enum-known-verdict c = search needs
-
-number-requires : tie.Need-number-requires
-number-requires c κs = search needs
-
-cast-result : tie.Need-cast-result
-cast-result c = search needs
 
 returns : tie.Need-returns
 returns c =
@@ -27,24 +12,6 @@ returns c =
     let a = f .before .before .before .before .args in
     let why = c .before .before .verdict .given in
     refuses-both (a .current .now) (a .previous .now) (a .message .now) (a .received) _ (c .number .result) (numberOf-positive (why .0 .0)) (sym (ap verdictOf (why .1)) ∙ f .read-plans .ensures .0) (c .number .ensures)
-
-enum-told : tie.Need-enum-told
-enum-told c = search needs
-
-check-schedule-requires : tie.Need-check-schedule-requires
-check-schedule-requires c κs = search needs
-
-enum-told-2 : tie.Need-enum-told-2
-enum-told-2 c = search needs
-
-enum-known-answer : tie.Need-enum-known-answer
-enum-known-answer c = search needs
-
-number-requires-2 : tie.Need-number-requires-2
-number-requires-2 c κs = search needs
-
-cast-result-2 : tie.Need-cast-result-2
-cast-result-2 c = search needs
 
 -- the slot that is named is small
 few : (c : tie.After-number2) → c .before .before .answer .given .0 .1 .0 ≤ 48
@@ -92,19 +59,7 @@ pub cb-check-schedule-spec : {M : Type 1} → statement M
 cb-check-schedule-spec =
     tie.close
     (tie.spec
-    read-plans-requires
-    enum-known-verdict
-    number-requires
-    cast-result
-    returns
-    enum-told
-    check-schedule-requires
-    enum-told-2
-    enum-known-answer
-    number-requires-2
-    cast-result-2
-    cast-result-3
-    mul-result
-    add-result
-    returns-2
+    (λ c κs. search needs) (λ c. search needs) (λ c κs. search needs) (λ c. search needs) returns
+    (λ c. search needs) (λ c κs. search needs) (λ c. search needs) (λ c. search needs)
+    (λ c κs. search needs) (λ c. search needs) cast-result-3 mul-result add-result returns-2
     returns-3)

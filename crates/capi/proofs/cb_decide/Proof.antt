@@ -1,29 +1,8 @@
 -- `capi::cb_decide` meets its contract: the board's decision for the list's identifiers, packed.
-use borrow.Author.Needs.{needs}
+use Rattle.laws.proofs.Base.{needs}
 use Rattle.capi.proofs.Decided.{decides-read, decides-skip, decides-refused}
 use Rattle.capi.proofs.cb_decide.Statement.{statement}
 use Rattle.capi.proofs.cb_decide.Tie as tie
-
-wanted-of-requires : tie.Need-wanted-of-requires
-wanted-of-requires c κs = search needs
-
-decide-on-requires : tie.Need-decide-on-requires
-decide-on-requires c κs = search needs
-
-enum-told : tie.Need-enum-told
-enum-told c = search needs
-
-enum-told-2 : tie.Need-enum-told-2
-enum-told-2 c = search needs
-
-enum-known-answer : tie.Need-enum-known-answer
-enum-known-answer c = search needs
-
-number-requires : tie.Need-number-requires
-number-requires c κs = search needs
-
-cast-result : tie.Need-cast-result
-cast-result c = search needs
 
 returns : tie.Need-returns
 returns c =
@@ -53,13 +32,5 @@ pub cb-decide-spec : {M : Type 1} → statement M
 cb-decide-spec =
     tie.close
     (tie.spec
-    wanted-of-requires
-    decide-on-requires
-    enum-told
-    enum-told-2
-    enum-known-answer
-    number-requires
-    cast-result
-    returns
-    returns-2
-    returns-3)
+    (λ c κs. search needs) (λ c κs. search needs) (λ c. search needs) (λ c. search needs)
+    (λ c. search needs) (λ c κs. search needs) (λ c. search needs) returns returns-2 returns-3)

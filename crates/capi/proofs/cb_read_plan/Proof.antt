@@ -1,15 +1,8 @@
 -- `capi::cb_read_plan` meets its contract: the plan room's answer, packed.
-use native.Mathlib.Omega.{arith}
-use borrow.Author.Needs.{needs}
+use Rattle.laws.proofs.Base.{arith, needs}
 use Rattle.capi.proofs.Planned.{count-small, reads-plan, refuses-plan}
 use Rattle.capi.proofs.cb_read_plan.Statement.{statement}
 use Rattle.capi.proofs.cb_read_plan.Tie as tie
-
-read-plan-requires : tie.Need-read-plan-requires
-read-plan-requires c κs = search needs
-
-enum-told : tie.Need-enum-told
-enum-told c = search needs
 
 cast-result : tie.Need-cast-result
 cast-result c =
@@ -22,15 +15,6 @@ mul-result c =
     let b = c .before .before .before in
     let a = b .before .before .args in
     omega (arith, count-small (a .file .now) (b .read-plan .result) (b .read-plan .ensures))
-
-enum-known-verdict : tie.Need-enum-known-verdict
-enum-known-verdict c = search needs
-
-number-requires : tie.Need-number-requires
-number-requires c κs = search needs
-
-cast-result-2 : tie.Need-cast-result-2
-cast-result-2 c = search needs
 
 returns : tie.Need-returns
 returns c =
@@ -48,12 +32,5 @@ pub cb-read-plan-spec : {M : Type 1} → statement M
 cb-read-plan-spec =
     tie.close
     (tie.spec
-    read-plan-requires
-    enum-told
-    cast-result
-    mul-result
-    enum-known-verdict
-    number-requires
-    cast-result-2
-    returns
-    returns-2)
+    (λ c κs. search needs) (λ c. search needs) cast-result mul-result (λ c. search needs)
+    (λ c κs. search needs) (λ c. search needs) returns returns-2)

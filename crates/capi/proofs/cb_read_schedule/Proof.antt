@@ -1,16 +1,8 @@
 -- `capi::cb_read_schedule` meets its contract: the schedule room's answer, packed.
-use Prim.Native.Nat.{_<_}
-use native.Mathlib.Omega.{arith}
-use borrow.Author.Needs.{needs}
+use Rattle.laws.proofs.Base.{_<_, arith, needs}
 use Rattle.capi.proofs.Scheduled.{begin-end-small, reads-schedule, refuses-schedule}
 use Rattle.capi.proofs.cb_read_schedule.Statement.{statement}
 use Rattle.capi.proofs.cb_read_schedule.Tie as tie
-
-read-schedule-requires : tie.Need-read-schedule-requires
-read-schedule-requires c κs = search needs
-
-enum-known-answer : tie.Need-enum-known-answer
-enum-known-answer c = search needs
 
 -- Begin and End are small
 few : (c : tie.After-known-told) → (c .before .answer .given .0 .0 < 64) × (c .before .answer .given .0 .1 .0 < 64)
@@ -34,15 +26,6 @@ mul-result-2 c = omega (arith, few c .0, few c .1)
 add-result : tie.Need-add-result
 add-result c = omega (arith, few c .0, few c .1)
 
-enum-known-answer-2 : tie.Need-enum-known-answer-2
-enum-known-answer-2 c = search needs
-
-number-requires : tie.Need-number-requires
-number-requires c κs = search needs
-
-cast-result-3 : tie.Need-cast-result-3
-cast-result-3 c = search needs
-
 returns : tie.Need-returns
 returns c =
     let b = c .before .before .before in
@@ -59,15 +42,5 @@ pub cb-read-schedule-spec : {M : Type 1} → statement M
 cb-read-schedule-spec =
     tie.close
     (tie.spec
-    read-schedule-requires
-    enum-known-answer
-    cast-result
-    mul-result
-    cast-result-2
-    mul-result-2
-    add-result
-    enum-known-answer-2
-    number-requires
-    cast-result-3
-    returns
-    returns-2)
+    (λ c κs. search needs) (λ c. search needs) cast-result mul-result cast-result-2 mul-result-2
+    add-result (λ c. search needs) (λ c κs. search needs) (λ c. search needs) returns returns-2)

@@ -1,16 +1,8 @@
 -- `capi::cb_read_text` meets its contract: the text room's answer, packed.
-use Prim.Native.Nat.{_≤_}
-use native.Mathlib.Omega.{arith}
-use borrow.Author.Needs.{needs}
+use Rattle.laws.proofs.Base.{_≤_, arith, needs}
 use Rattle.capi.proofs.Packed.{characters-small, reads-characters, reads-refused}
 use Rattle.capi.proofs.cb_read_text.Statement.{statement}
 use Rattle.capi.proofs.cb_read_text.Tie as tie
-
-read-text-requires : tie.Need-read-text-requires
-read-text-requires c κs = search needs
-
-enum-known-answer : tie.Need-enum-known-answer
-enum-known-answer c = search needs
 
 -- what the answer counts is small
 few : (c : tie.After-known-told) → c .before .answer .given .0 .0 ≤ 93
@@ -25,26 +17,11 @@ cast-result c = omega (arith, few c)
 mul-result : tie.Need-mul-result
 mul-result c = omega (arith, few c)
 
-enum-known-answer-2 : tie.Need-enum-known-answer-2
-enum-known-answer-2 c = search needs
-
-number-requires : tie.Need-number-requires
-number-requires c κs = search needs
-
-cast-result-2 : tie.Need-cast-result-2
-cast-result-2 c = search needs
-
-same-length : tie.Need-same-length
-same-length c = search needs
-
 returns : tie.Need-returns
 returns c =
     let b = c .before .before .before .before .before in
     let a = b .before .before .before .before .args in
     reads-characters (a .page .now) (a .received) (a .text .now) (b .read-text .last .1 .1 .0) (b .read-text .result) (b .read-text .ensures) _ (c .before .answer .given .1)
-
-same-length-2 : tie.Need-same-length-2
-same-length-2 c = search needs
 
 returns-2 : tie.Need-returns-2
 returns-2 c =
@@ -56,14 +33,6 @@ pub cb-read-text-spec : {M : Type 1} → statement M
 cb-read-text-spec =
     tie.close
     (tie.spec
-    read-text-requires
-    enum-known-answer
-    cast-result
-    mul-result
-    enum-known-answer-2
-    number-requires
-    cast-result-2
-    same-length
-    returns
-    same-length-2
+    (λ c κs. search needs) (λ c. search needs) cast-result mul-result (λ c. search needs)
+    (λ c κs. search needs) (λ c. search needs) (λ c. search needs) returns (λ c. search needs)
     returns-2)

@@ -1,36 +1,15 @@
 -- `capi::cb_write_schedule` meets its contract: the output's length, then the files, then the writer's answer, packed.
-use mathlib.Core.Path.{sym, ap, _∙_}
-use Prim.Native.Nat.{_≤_}
-use native.Mathlib.Omega.{arith}
-use borrow.Author.Needs.{needs}
-use Rattle.answer.proofs.Inverse.{numberOf-positive}
+use Rattle.laws.proofs.Base.{sym, ap, _∙_, _≤_, arith, needs}
+use Rattle.refusals.proofs.Inverse.{numberOf-positive}
 use Rattle.plan.specs.Coded.{verdictOf}
 use Rattle.capi.proofs.Filed.{refuses-output, refuses-files, message-small, writes-message, refuses-message}
 use Rattle.capi.proofs.cb_write_schedule.Statement.{statement}
 use Rattle.capi.proofs.cb_write_schedule.Tie as tie
 
-number-requires : tie.Need-number-requires
-number-requires c κs = search needs
-
-cast-result : tie.Need-cast-result
-cast-result c = search needs
-
 returns : tie.Need-returns
 returns c =
     let a = c .before .before .before .before .before .args in
     refuses-output (a .current .now) (a .previous .now) (a .begin) (a .out .now) (c .number .result) (c .number .ensures) (c .before .if1 .taken)
-
-read-plans-requires : tie.Need-read-plans-requires
-read-plans-requires c κs = search needs
-
-enum-known-verdict : tie.Need-enum-known-verdict
-enum-known-verdict c = search needs
-
-number-requires-2 : tie.Need-number-requires-2
-number-requires-2 c κs = search needs
-
-cast-result-2 : tie.Need-cast-result-2
-cast-result-2 c = search needs
 
 returns-2 : tie.Need-returns-2
 returns-2 c =
@@ -38,15 +17,6 @@ returns-2 c =
     let a = f .before .before .before .before .before .args in
     let why = c .before .before .verdict .given in
     refuses-files (a .current .now) (a .previous .now) (a .begin) (a .out .now) (f .before .if1 .left) _ (c .number2 .result) (numberOf-positive (why .0 .0)) (sym (ap verdictOf (why .1)) ∙ f .read-plans .ensures .0) (c .number2 .ensures)
-
-enum-told : tie.Need-enum-told
-enum-told c = search needs
-
-write-schedule-requires : tie.Need-write-schedule-requires
-write-schedule-requires c κs = search needs
-
-enum-known-answer : tie.Need-enum-known-answer
-enum-known-answer c = search needs
 
 -- what the answer counts is small
 few : (c : tie.After-known-told2) → c .before .answer .given .0 .0 ≤ 88
@@ -65,18 +35,6 @@ cast-result-3 c = omega (arith, few c)
 mul-result : tie.Need-mul-result
 mul-result c = omega (arith, few c)
 
-enum-known-answer-2 : tie.Need-enum-known-answer-2
-enum-known-answer-2 c = search needs
-
-number-requires-3 : tie.Need-number-requires-3
-number-requires-3 c κs = search needs
-
-cast-result-4 : tie.Need-cast-result-4
-cast-result-4 c = search needs
-
-same-length : tie.Need-same-length
-same-length c = search needs
-
 returns-3 : tie.Need-returns-3
 returns-3 c =
     let w = c .before .before .before .before .before in
@@ -86,9 +44,6 @@ returns-3 c =
     writes-message (a .current .now) (a .previous .now) (a .begin) (a .out .now) (f .before .if1 .left) (sym (ap verdictOf (g .enum-told .given .1)) ∙ f .read-plans .ensures .0)
     (f .read-plans .result .current) (f .read-plans .result .previous) (f .read-plans .ensures .1) (f .read-plans .ensures .2)
     (w .write-schedule .last .1 .1 .1 .0) (w .write-schedule .result) (w .write-schedule .ensures) _ (c .before .answer .given .1)
-
-same-length-2 : tie.Need-same-length-2
-same-length-2 c = search needs
 
 returns-4 : tie.Need-returns-4
 returns-4 c =
@@ -104,23 +59,7 @@ pub cb-write-schedule-spec : {M : Type 1} → statement M
 cb-write-schedule-spec =
     tie.close
     (tie.spec
-    number-requires
-    cast-result
-    returns
-    read-plans-requires
-    enum-known-verdict
-    number-requires-2
-    cast-result-2
-    returns-2
-    enum-told
-    write-schedule-requires
-    enum-known-answer
-    cast-result-3
-    mul-result
-    enum-known-answer-2
-    number-requires-3
-    cast-result-4
-    same-length
-    returns-3
-    same-length-2
-    returns-4)
+    (λ c κs. search needs) (λ c. search needs) returns (λ c κs. search needs) (λ c. search needs)
+    (λ c κs. search needs) (λ c. search needs) returns-2 (λ c. search needs) (λ c κs. search needs)
+    (λ c. search needs) cast-result-3 mul-result (λ c. search needs) (λ c κs. search needs)
+    (λ c. search needs) (λ c. search needs) returns-3 (λ c. search needs) returns-4)

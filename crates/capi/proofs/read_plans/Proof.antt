@@ -1,24 +1,11 @@
 -- `capi::read_plans` meets its contract: the current file's refusal comes first, and the plans are as read.
-use mathlib.Core.Path.{sym, ap, _∙_}
-use borrow.Author.Needs.{needs}
-use Rattle.answer.proofs.Inverse.{numberOf-positive}
+use Rattle.laws.proofs.Base.{sym, ap, _∙_, needs}
+use Rattle.refusals.proofs.Inverse.{numberOf-positive}
 use Rattle.plan.specs.Paper.{Read}
 use Rattle.plan.specs.Coded.{verdictOf}
 use Rattle.capi.proofs.Filed.{current-good, current-refused}
 use Rattle.capi.proofs.read_plans.Statement.{statement}
 use Rattle.capi.proofs.read_plans.Tie as tie
-
-read-plan-requires : tie.Need-read-plan-requires
-read-plan-requires c κs = search needs
-
-read-plan-requires-2 : tie.Need-read-plan-requires-2
-read-plan-requires-2 c κs = search needs
-
-enum-told : tie.Need-enum-told
-enum-told c = search needs
-
-enum-known-verdict : tie.Need-enum-known-verdict
-enum-known-verdict c = search needs
 
 returns : tie.Need-returns
 returns c =
@@ -47,9 +34,5 @@ pub read-plans-spec : {M : Type 1} → statement M
 read-plans-spec =
     tie.close
     (tie.spec
-    read-plan-requires
-    read-plan-requires-2
-    enum-told
-    enum-known-verdict
-    returns
+    (λ c κs. search needs) (λ c κs. search needs) (λ c. search needs) (λ c. search needs) returns
     returns-2)

@@ -1,9 +1,5 @@
 -- `capi::wanted_of` meets its contract. The invariant: the first i identifiers are those of the list.
-use mathlib.Core.Path.{_≡_, refl, _∙_}
-use Prim.Native.Nat.{_-_, _≤_}
-use native.Mathlib.Omega.{arith}
-use lib.ListN.{length, take, length-set}
-use borrow.Author.Needs.{needs}
+use Rattle.laws.proofs.Base.{_≡_, refl, _∙_, _-_, _≤_, arith, length, take, length-set, needs}
 use Rattle.board.specs.Coded.{idsOf}
 use Rattle.capi.proofs.Decided.{ids-turn, ids-end}
 use Rattle.capi.proofs.wanted_of.Statement.{statement}
@@ -23,24 +19,6 @@ returns c =
     let l = c .before .before .loop in
     let a = c .before .before .before .args in
     (refl, λ few. ids-end (a .list .now) (l .ids) (l .i) (l .inv .2) (omega arith))
-
-mul-t6 : tie.Need-mul-t6 Inv-loop μ-loop
-mul-t6 c = search needs
-
-shared-slice-read-t10 : tie.Need-shared-slice-read-t10 Inv-loop μ-loop
-shared-slice-read-t10 c = search needs
-
-mul-ids : tie.Need-mul-ids Inv-loop μ-loop
-mul-ids c = search needs
-
-array-set-from-ids : tie.Need-array-set-from-ids Inv-loop μ-loop
-array-set-from-ids c = search needs
-
-add-i : tie.Need-add-i Inv-loop μ-loop
-add-i c = search needs
-
-loop-less : tie.Need-loop-less Inv-loop μ-loop
-loop-less c = search needs
 
 loop-again : tie.Need-loop-again Inv-loop μ-loop
 loop-again c =
@@ -62,15 +40,5 @@ pub wanted-of-spec : {M : Type 1} → statement M
 wanted-of-spec =
     tie.close
     (tie.spec
-    Inv-loop
-    μ-loop
-    loop-holds
-    returns
-    mul-t6
-    shared-slice-read-t10
-    mul-ids
-    array-set-from-ids
-    add-i
-    loop-less
-    loop-again
-    returns-2)
+    Inv-loop μ-loop loop-holds returns (λ c. search needs) (λ c. search needs) (λ c. search needs)
+    (λ c. search needs) (λ c. search needs) (λ c. search needs) loop-again returns-2)

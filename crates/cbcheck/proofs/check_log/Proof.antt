@@ -1,10 +1,5 @@
 -- `cbcheck::check_log` is safe: the log's name lies in the memory for it.
-use mathlib.Core.Path.{sym, ap}
-use Prim.Native.Nat.{_≤_}
-use native.Mathlib.Omega.{arith}
-use lib.ListN.{length}
-use lib.Seq.{length-take-le}
-use borrow.Author.Needs.{needs}
+use Rattle.laws.proofs.Base.{sym, ap, _≤_, arith, length, length-take-le, needs}
 use Rattle.lines.specs.Asked.{named}
 use Rattle.cbcheck.proofs.check_log.Statement.{statement}
 use Rattle.cbcheck.proofs.check_log.Tie as tie
@@ -24,14 +19,6 @@ pub check-log-spec : {M : Type 1} → statement M
 check-log-spec =
     tie.close
     (tie.spec
-    (λ c κs. search needs)
-    (λ c. search needs)
-    (λ c. search needs)
-    (λ c κs. search needs)
-    (λ c. search needs)
-    array-share-prefix-name
-    slice-aggregate-list-opened
-    (λ c κs. search needs)
-    (λ c. search needs)
-    (λ c. search needs)
-    (λ c. search needs))
+    (λ c κs. search needs) (λ c. search needs) (λ c. search needs) (λ c κs. search needs)
+    (λ c. search needs) array-share-prefix-name slice-aggregate-list-opened (λ c κs. search needs)
+    (λ c. search needs) (λ c. search needs) (λ c. search needs))

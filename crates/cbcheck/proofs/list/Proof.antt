@@ -1,10 +1,5 @@
 -- `cbcheck::list` meets its contract. The invariant: the text so far and the lines to come are those of the schedule messages.
-use mathlib.Core.Path.{_≡_, _∙_}
-use Prim.Native.Nat.{_-_}
-use native.Mathlib.Omega.{arith}
-use borrow.Author.Needs.{needs}
-use denote.Ref.{now}
-use lib.ListN.{length, take, drop}
+use Rattle.laws.proofs.Base.{_≡_, _∙_, _-_, arith, needs, now, length, take, drop}
 use Rattle.firmware.specs.Paper.{heldIn}
 use Rattle.checker.specs.Coded.{plansOf}
 use Rattle.block.specs.Paper.{schedule}
@@ -73,19 +68,7 @@ pub list-spec : {M : Type 1} → statement M
 list-spec =
     tie.close
     (tie.spec
-    Inv-loop
-    μ-loop
-    loop-holds
-    (λ c κs. search needs)
-    (λ c. search needs)
-    (λ c. search needs)
-    (λ c. search needs)
-    (λ c κs. search needs)
-    put-answer-requires
-    (λ c. search needs)
-    (λ c. search needs)
-    loop-again
-    (λ c. search needs)
-    (λ c. search needs)
-    (λ c. search needs)
+    Inv-loop μ-loop loop-holds (λ c κs. search needs) (λ c. search needs) (λ c. search needs)
+    (λ c. search needs) (λ c κs. search needs) put-answer-requires (λ c. search needs)
+    (λ c. search needs) loop-again (λ c. search needs) (λ c. search needs) (λ c. search needs)
     returns)

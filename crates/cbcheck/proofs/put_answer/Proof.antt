@@ -1,9 +1,5 @@
 -- `cbcheck::put_answer` meets its contract: only the number 7 has a line.
-use Prim.Native.Nat.{_%_}
-use native.Mathlib.Omega.{arith}
-use borrow.Author.Needs.{needs}
-use borrow.Author.Tests.{eq-eqb, ne-eqb}
-use denote.Ref.{now}
+use Rattle.laws.proofs.Base.{_%_, arith, needs, eq-eqb, ne-eqb, now}
 use Rattle.lines.proofs.Behind.{puts-none, puts-wider}
 use Rattle.cbcheck.proofs.put_answer.Statement.{statement}
 use Rattle.cbcheck.proofs.put_answer.Tie as tie

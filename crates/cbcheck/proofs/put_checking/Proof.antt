@@ -1,6 +1,5 @@
 -- `cbcheck::put_checking` meets its contract: the checker's answer decides.
-use native.Mathlib.Omega.{arith}
-use borrow.Author.Needs.{needs}
+use Rattle.laws.proofs.Base.{arith, needs}
 use Rattle.lines.specs.Inner.{Puts}
 use Rattle.lines.proofs.Behind.{puts-behind, puts-then, puts-wider}
 use Rattle.cbcheck.specs.Listing.{trueWord}
@@ -28,13 +27,6 @@ pub put-checking-spec : {M : Type 1} → statement M
 put-checking-spec =
     tie.close
     (tie.spec
-    (λ c. search needs)
-    (λ c κs. search needs)
-    (λ c. search needs)
-    (λ c κs. search needs)
-    (λ c. search needs)
-    (λ c κs. search needs)
-    (λ c. search needs)
-    returns
-    (λ c. search needs)
+    (λ c. search needs) (λ c κs. search needs) (λ c. search needs) (λ c κs. search needs)
+    (λ c. search needs) (λ c κs. search needs) (λ c. search needs) returns (λ c. search needs)
     returns-2)

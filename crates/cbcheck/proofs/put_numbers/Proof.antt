@@ -1,9 +1,5 @@
 -- `cbcheck::put_numbers` meets its contract: three numbers, each behind the text so far, and the octets between them.
-use mathlib.Core.Path.{_≡_, _∙_}
-use Prim.Native.Nat.{_+_, _<_}
-use native.Mathlib.Omega.{arith}
-use lib.ListN.{length, set, length-set}
-use borrow.Author.Needs.{needs}
+use Rattle.laws.proofs.Base.{_≡_, _∙_, _+_, _<_, arith, length, set, length-set, needs}
 use Rattle.lines.specs.Paper.{decimal}
 use Rattle.lines.specs.Inner.{Puts}
 use Rattle.lines.proofs.Behind.{puts-behind, puts-none, puts-marked}
@@ -91,14 +87,5 @@ pub put-numbers-spec : {M : Type 1} → statement M
 put-numbers-spec =
     tie.close
     (tie.spec
-    (λ c κs. search needs)
-    slice-write-out
-    add-put-number
-    (λ c κs. search needs)
-    slice-write-out-2
-    add-put-number-2
-    (λ c κs. search needs)
-    slice-write-out-3
-    add-result
-    same-length
-    returns)
+    (λ c κs. search needs) slice-write-out add-put-number (λ c κs. search needs) slice-write-out-2
+    add-put-number-2 (λ c κs. search needs) slice-write-out-3 add-result same-length returns)

@@ -1,7 +1,6 @@
 -- `cbcheck::put_reason` meets its contract: the words of the refusal, or the slot between two words.
-use native.Mathlib.Omega.{arith}
-use borrow.Author.Needs.{needs}
-use Rattle.answer.specs.Number.{numberOf}
+use Rattle.laws.proofs.Base.{arith, needs}
+use Rattle.refusals.specs.Number.{numberOf}
 use Rattle.lines.specs.Paper.{decimal}
 use Rattle.lines.specs.Inner.{Puts}
 use Rattle.lines.proofs.Behind.{puts-behind, puts-then, puts-wider}
@@ -51,13 +50,5 @@ pub put-reason-spec : {M : Type 1} → statement M
 put-reason-spec =
     tie.close
     (tie.spec
-    (λ c κs. search needs)
-    (λ c. search needs)
-    returns
-    (λ c. search needs)
-    (λ c κs. search needs)
-    (λ c κs. search needs)
-    (λ c. search needs)
-    (λ c κs. search needs)
-    (λ c. search needs)
-    returns-2)
+    (λ c κs. search needs) (λ c. search needs) returns (λ c. search needs) (λ c κs. search needs)
+    (λ c κs. search needs) (λ c. search needs) (λ c κs. search needs) (λ c. search needs) returns-2)

@@ -1,11 +1,7 @@
 -- `cbcheck::put_refused` meets its contract: the numbers, the words, and the line's end.
-use mathlib.Core.Path.{_≡_, _∙_}
-use Prim.Native.Nat.{_<_}
-use native.Mathlib.Omega.{arith}
-use lib.ListN.{length, length-set}
-use borrow.Author.Needs.{needs}
-use Rattle.answer.specs.Number.{numberOf}
-use Rattle.answer.proofs.Inverse.{numberOf-positive}
+use Rattle.laws.proofs.Base.{_≡_, _∙_, _<_, arith, length, length-set, needs}
+use Rattle.refusals.specs.Number.{numberOf}
+use Rattle.refusals.proofs.Inverse.{numberOf-positive}
 use Rattle.lines.proofs.Behind.{puts-then, puts-octet}
 use Rattle.cbcheck.proofs.Said.{said-refused}
 use Rattle.cbcheck.proofs.put_refused.Statement.{statement}
@@ -34,11 +30,5 @@ pub put-refused-spec : {M : Type 1} → statement M
 put-refused-spec =
     tie.close
     (tie.spec
-    (λ c κs. search needs)
-    (λ c. search needs)
-    (λ c κs. search needs)
-    (λ c κs. search needs)
-    (λ c. search needs)
-    (λ c. search needs)
-    same-length
-    returns)
+    (λ c κs. search needs) (λ c. search needs) (λ c κs. search needs) (λ c κs. search needs)
+    (λ c. search needs) (λ c. search needs) same-length returns)

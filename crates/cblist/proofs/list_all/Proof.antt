@@ -1,11 +1,5 @@
 -- `cblist::list_all` meets its contract. The invariant: state, number and text are those that the log so far leaves.
-use mathlib.Core.Path.{_≡_, sym, ap, _∙_}
-use Prim.Native.Nat.{_-_}
-use native.Mathlib.Omega.{arith}
-use lib.ListN.{length, take, length-take}
-use lib.Seq.{length-take-le}
-use borrow.Author.Needs.{needs}
-use borrow.Author.Tests.{not-false}
+use Rattle.laws.proofs.Base.{_≡_, sym, ap, _∙_, _-_, arith, length, take, length-take, length-take-le, needs, not-false}
 use Rattle.lines.proofs.Read.{long-chunk, goes-on}
 use Rattle.lines.proofs.Turns.{Going, going-start, turn-told, turn-going}
 use Rattle.cblist.specs.Listing.{lineOf}
@@ -82,14 +76,8 @@ same-length c =
     let l = k .before .before .before .before .before .before .before .before in
     k .list .kept .0 ∙ l .loop .inv .1 ∙ sym (ap length (l .before .before .before .before .before .pre .0))
 
-same-length-2 : tie.Need-same-length-2 Inv-loop μ-loop
-same-length-2 c = search needs
-
 same-length-3 : tie.Need-same-length-3 Inv-loop μ-loop
 same-length-3 c = c .before .loop .inv .1 ∙ sym (ap length (c .before .before .before .before .before .before .pre .0))
-
-same-length-4 : tie.Need-same-length-4 Inv-loop μ-loop
-same-length-4 c = search needs
 
 returns-2 : tie.Need-returns-2 Inv-loop μ-loop
 returns-2 c = c .before .loop .inv .0 .told
@@ -98,22 +86,7 @@ pub list-all-spec : {M : Type 1} → statement M
 list-all-spec =
     tie.close
     (tie.spec
-    Inv-loop
-    μ-loop
-    loop-holds
-    (λ c κs. search needs)
-    array-share-prefix-log
-    slice-aggregate-list
-    (λ c. search needs)
-    list-requires
-    slice-reshare-prefix-write-chunk
-    slice-aggregate-write-chunk
-    (λ c κs. search needs)
-    same-length
-    same-length-2
-    returns
-    loop-less
-    loop-again
-    same-length-3
-    same-length-4
-    returns-2)
+    Inv-loop μ-loop loop-holds (λ c κs. search needs) array-share-prefix-log slice-aggregate-list
+    (λ c. search needs) list-requires slice-reshare-prefix-write-chunk slice-aggregate-write-chunk
+    (λ c κs. search needs) same-length (λ c. search needs) returns loop-less loop-again
+    same-length-3 (λ c. search needs) returns-2)

@@ -1,10 +1,5 @@
 -- `cblist::list_named` is safe: the log's name lies in the memory for it.
-use mathlib.Core.Path.{sym, ap}
-use Prim.Native.Nat.{_≤_}
-use native.Mathlib.Omega.{arith}
-use lib.ListN.{length}
-use lib.Seq.{length-take-le}
-use borrow.Author.Needs.{needs}
+use Rattle.laws.proofs.Base.{sym, ap, _≤_, arith, length, length-take-le, needs}
 use Rattle.lines.specs.Asked.{named}
 use Rattle.cblist.proofs.list_named.Statement.{statement}
 use Rattle.cblist.proofs.list_named.Tie as tie
@@ -24,14 +19,6 @@ pub list-named-spec : {M : Type 1} → statement M
 list-named-spec =
     tie.close
     (tie.spec
-    (λ c κs. search needs)
-    (λ c. search needs)
-    (λ c. search needs)
-    (λ c κs. search needs)
-    (λ c. search needs)
-    array-share-prefix-name
-    slice-aggregate-list-opened
-    (λ c κs. search needs)
-    (λ c. search needs)
-    (λ c. search needs)
-    (λ c. search needs))
+    (λ c κs. search needs) (λ c. search needs) (λ c. search needs) (λ c κs. search needs)
+    (λ c. search needs) array-share-prefix-name slice-aggregate-list-opened (λ c κs. search needs)
+    (λ c. search needs) (λ c. search needs) (λ c. search needs))

@@ -1,9 +1,5 @@
 -- `cblist::put_line` meets its contract: three numbers, each behind the text so far, and the octets between them.
-use mathlib.Core.Path.{_≡_, _∙_}
-use Prim.Native.Nat.{_+_, _/_, _%_, _<_}
-use native.Mathlib.Omega.{arith}
-use lib.ListN.{length, set, length-set}
-use borrow.Author.Needs.{needs}
+use Rattle.laws.proofs.Base.{_≡_, _∙_, _+_, _/_, _%_, _<_, arith, length, set, length-set, needs}
 use Rattle.lines.specs.Paper.{decimal}
 use Rattle.lines.specs.Inner.{Puts}
 use Rattle.lines.proofs.Behind.{puts-behind, puts-none, puts-marked}
@@ -91,16 +87,6 @@ pub put-line-spec : {M : Type 1} → statement M
 put-line-spec =
     tie.close
     (tie.spec
-    (λ c κs. search needs)
-    slice-write-text
-    (λ c. search needs)
-    add-put-number
-    (λ c κs. search needs)
-    slice-write-text-2
-    (λ c. search needs)
-    add-put-number-2
-    (λ c κs. search needs)
-    slice-write-text-3
-    add-result
-    same-length
-    returns)
+    (λ c κs. search needs) slice-write-text (λ c. search needs) add-put-number
+    (λ c κs. search needs) slice-write-text-2 (λ c. search needs) add-put-number-2
+    (λ c κs. search needs) slice-write-text-3 add-result same-length returns)

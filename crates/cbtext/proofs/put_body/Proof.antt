@@ -1,16 +1,8 @@
 -- `cbtext::put_body` meets its contract: the text reader's answer tells which form the line has.
-use mathlib.Core.Path.{_≡_, sym, ap, _∙_}
-use mathlib.Core.List.{List}
-use Prim.Native.Nat.{ℕ, _+_, _*_, _-_, _≤_}
-use native.Mathlib.Nat.{min-le-left}
-use native.Mathlib.Omega.{arith}
-use borrow.Author.Needs.{needs}
-use denote.Ref.{now}
-use lib.ListN.{length, take, drop, replicate, length-take, length-replicate}
-use lib.Seq.{length-take-le}
-use Rattle.answer.specs.Number.{numberOf}
-use Rattle.answer.proofs.Inverse.{numberOf-positive}
-use Rattle.laws.proofs.Received.{whole-bounds}
+use Rattle.laws.proofs.Base.{_≡_, sym, ap, _∙_, List, ℕ, _+_, _*_, _-_, _≤_, min-le-left, arith, needs, now, length, take, drop, replicate, length-take, length-replicate, length-take-le}
+use Rattle.refusals.specs.Number.{numberOf}
+use Rattle.refusals.proofs.Inverse.{numberOf-positive}
+use Rattle.sizes.proofs.Received.{whole-bounds}
 use Rattle.page.specs.Paper.{Part}
 use Rattle.page.specs.Coded.{partOf}
 use Rattle.page.proofs.Received.{handed-content}
@@ -107,16 +99,6 @@ pub put-body-spec : {M : Type 1} → statement M
 put-body-spec =
     tie.close
     (tie.spec
-    (λ c. search needs)
-    (λ c κs. search needs)
-    (λ c. search needs)
-    array-share-prefix-points
-    slice-aggregate-put-text
-    put-text-requires
-    (λ c. search needs)
-    returns
-    (λ c. search needs)
-    (λ c κs. search needs)
-    put-content-requires
-    (λ c. search needs)
-    returns-2)
+    (λ c. search needs) (λ c κs. search needs) (λ c. search needs) array-share-prefix-points
+    slice-aggregate-put-text put-text-requires (λ c. search needs) returns (λ c. search needs)
+    (λ c κs. search needs) put-content-requires (λ c. search needs) returns-2)

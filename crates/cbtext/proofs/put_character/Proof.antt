@@ -1,7 +1,5 @@
 -- `cbtext::put_character` meets its contract: the tests that led to each answer decide those of `character`.
-use native.Mathlib.Omega.{arith}
-use lib.ListN.{length-set}
-use borrow.Author.Needs.{needs}
+use Rattle.laws.proofs.Base.{arith, length-set, needs}
 use Rattle.cbtext.proofs.Characters.{puts-two, character-lf, character-cr, character-other}
 use Rattle.cbtext.proofs.put_character.Statement.{statement}
 use Rattle.cbtext.proofs.put_character.Tie as tie
@@ -29,18 +27,7 @@ pub put-character-spec : {M : Type 1} → statement M
 put-character-spec =
     tie.close
     (tie.spec
-    (λ c. search needs)
-    (λ c. search needs)
-    slice-write-out-2
-    (λ c. search needs)
-    (λ c. search needs)
-    returns
-    (λ c. search needs)
-    (λ c. search needs)
-    slice-write-out-4
-    (λ c. search needs)
-    (λ c. search needs)
-    returns-2
-    (λ c κs. search needs)
-    (λ c. search needs)
+    (λ c. search needs) (λ c. search needs) slice-write-out-2 (λ c. search needs)
+    (λ c. search needs) returns (λ c. search needs) (λ c. search needs) slice-write-out-4
+    (λ c. search needs) (λ c. search needs) returns-2 (λ c κs. search needs) (λ c. search needs)
     returns-3)

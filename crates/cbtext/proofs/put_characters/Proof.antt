@@ -1,8 +1,5 @@
 -- `cbtext::put_characters` meets its contract. The invariant: the characters so far are put.
-use Prim.Native.Nat.{_-_}
-use native.Mathlib.Omega.{arith}
-use lib.ListN.{length}
-use borrow.Author.Needs.{needs}
+use Rattle.laws.proofs.Base.{_-_, arith, length, needs}
 use Rattle.cbtext.specs.Listing.{character}
 use Rattle.cbtext.proofs.Characters.{Joins, joins-start, joins-turn, joins-end}
 use Rattle.cbtext.proofs.put_characters.Statement.{statement}
@@ -39,14 +36,5 @@ pub put-characters-spec : {M : Type 1} → statement M
 put-characters-spec =
     tie.close
     (tie.spec
-    Inv-loop
-    μ-loop
-    loop-holds
-    (λ c. search needs)
-    (λ c. search needs)
-    put-character-requires
-    (λ c. search needs)
-    (λ c. search needs)
-    loop-again
-    (λ c. search needs)
-    returns)
+    Inv-loop μ-loop loop-holds (λ c. search needs) (λ c. search needs) put-character-requires
+    (λ c. search needs) (λ c. search needs) loop-again (λ c. search needs) returns)

@@ -1,10 +1,5 @@
 -- `cbtext::put_heading` meets its contract: the names and the parameter, each behind the text so far, and the octet between them.
-use mathlib.Core.Path.{_≡_, _∙_}
-use Prim.Native.Nat.{_<_}
-use native.Mathlib.Omega.{arith}
-use borrow.Author.Needs.{needs}
-use denote.Ref.{now}
-use lib.ListN.{length, length-set}
+use Rattle.laws.proofs.Base.{_≡_, _∙_, _<_, arith, needs, now, length, length-set}
 use Rattle.page.specs.Paper.{header}
 use Rattle.page.specs.Coded.{headingOf}
 use Rattle.lines.proofs.Behind.{puts-marked}
@@ -45,16 +40,6 @@ pub put-heading-spec : {M : Type 1} → statement M
 put-heading-spec =
     tie.close
     (tie.spec
-    (λ c. search needs)
-    (λ c. search needs)
-    (λ c. search needs)
-    (λ c. search needs)
-    (λ c. search needs)
-    (λ c. search needs)
-    (λ c κs. search needs)
-    (λ c κs. search needs)
-    (λ c. search needs)
-    (λ c. search needs)
-    put-parameter-requires
-    same-length
-    returns)
+    (λ c. search needs) (λ c. search needs) (λ c. search needs) (λ c. search needs)
+    (λ c. search needs) (λ c. search needs) (λ c κs. search needs) (λ c κs. search needs)
+    (λ c. search needs) (λ c. search needs) put-parameter-requires same-length returns)

@@ -1,9 +1,5 @@
 -- `cbtext::put_names` meets its contract: three numbers, each behind the text so far, and the octets between them.
-use mathlib.Core.Path.{_≡_, _∙_}
-use Prim.Native.Nat.{_+_}
-use native.Mathlib.Omega.{arith}
-use lib.ListN.{length, set, length-set}
-use borrow.Author.Needs.{needs}
+use Rattle.laws.proofs.Base.{_≡_, _∙_, _+_, arith, length, set, length-set, needs}
 use Rattle.lines.specs.Paper.{decimal, hexadecimal}
 use Rattle.lines.specs.Inner.{Puts}
 use Rattle.lines.proofs.Behind.{puts-behind, puts-marked}
@@ -71,14 +67,5 @@ pub put-names-spec : {M : Type 1} → statement M
 put-names-spec =
     tie.close
     (tie.spec
-    (λ c κs. search needs)
-    slice-write-out
-    (λ c. search needs)
-    add-put-hex
-    (λ c κs. search needs)
-    slice-write-out-2
-    (λ c. search needs)
-    add-put-hex-2
-    (λ c κs. search needs)
-    same-length
-    returns)
+    (λ c κs. search needs) slice-write-out (λ c. search needs) add-put-hex (λ c κs. search needs)
+    slice-write-out-2 (λ c. search needs) add-put-hex-2 (λ c κs. search needs) same-length returns)

@@ -1,8 +1,5 @@
 -- `cbtext::put_octets` meets its contract. The invariant: the octets so far are put.
-use Prim.Native.Nat.{_-_, _+_, _≤_}
-use native.Mathlib.Omega.{arith}
-use lib.ListN.{length, getD}
-use borrow.Author.Needs.{needs}
+use Rattle.laws.proofs.Base.{_-_, _+_, _≤_, arith, length, getD, needs}
 use Rattle.lines.specs.Paper.{hexadecimal}
 use Rattle.lines.proofs.Behind.{puts-behind}
 use Rattle.lines.proofs.Numbers.{length-hexadecimal}
@@ -44,14 +41,5 @@ pub put-octets-spec : {M : Type 1} → statement M
 put-octets-spec =
     tie.close
     (tie.spec
-    Inv-loop
-    μ-loop
-    loop-holds
-    (λ c. search needs)
-    cast-put-hex
-    (λ c κs. search needs)
-    (λ c. search needs)
-    (λ c. search needs)
-    loop-again
-    (λ c. search needs)
-    returns)
+    Inv-loop μ-loop loop-holds (λ c. search needs) cast-put-hex (λ c κs. search needs)
+    (λ c. search needs) (λ c. search needs) loop-again (λ c. search needs) returns)

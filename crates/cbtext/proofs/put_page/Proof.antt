@@ -1,10 +1,5 @@
 -- `cbtext::put_page` meets its contract: the heading and the body, each behind the text so far, and the line's end.
-use mathlib.Core.Path.{_≡_, _∙_}
-use Prim.Native.Nat.{_+_, _<_}
-use native.Mathlib.Omega.{arith}
-use borrow.Author.Needs.{needs}
-use denote.Ref.{now}
-use lib.ListN.{length, set, length-set}
+use Rattle.laws.proofs.Base.{_≡_, _∙_, _+_, _<_, arith, needs, now, length, set, length-set}
 use Rattle.lines.proofs.Behind.{puts-none, puts-then, puts-marked}
 use Rattle.cbtext.proofs.put_page.Statement.{statement}
 use Rattle.cbtext.proofs.put_page.Tie as tie
@@ -31,9 +26,5 @@ pub put-page-spec : {M : Type 1} → statement M
 put-page-spec =
     tie.close
     (tie.spec
-    (λ c κs. search needs)
-    (λ c κs. search needs)
-    (λ c. search needs)
-    (λ c. search needs)
-    same-length
-    returns)
+    (λ c κs. search needs) (λ c κs. search needs) (λ c. search needs) (λ c. search needs)
+    same-length returns)

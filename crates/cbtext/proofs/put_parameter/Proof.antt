@@ -1,9 +1,5 @@
 -- `cbtext::put_parameter` meets its contract: two numbers, each behind the text so far, and the octet between them.
-use mathlib.Core.Path.{_≡_, _∙_}
-use Prim.Native.Nat.{_+_, _/_, _%_}
-use native.Mathlib.Omega.{arith}
-use lib.ListN.{length, set, length-set}
-use borrow.Author.Needs.{needs}
+use Rattle.laws.proofs.Base.{_≡_, _∙_, _+_, _/_, _%_, arith, length, set, length-set, needs}
 use Rattle.lines.specs.Paper.{decimal}
 use Rattle.lines.specs.Inner.{Puts}
 use Rattle.lines.proofs.Behind.{puts-behind, puts-marked}
@@ -50,11 +46,5 @@ pub put-parameter-spec : {M : Type 1} → statement M
 put-parameter-spec =
     tie.close
     (tie.spec
-    (λ c. search needs)
-    (λ c κs. search needs)
-    slice-write-out
-    (λ c. search needs)
-    add-put-number
-    (λ c κs. search needs)
-    same-length
-    returns)
+    (λ c. search needs) (λ c κs. search needs) slice-write-out (λ c. search needs) add-put-number
+    (λ c κs. search needs) same-length returns)

@@ -1,9 +1,5 @@
 -- `cbtext::put_text` meets its contract: the word is put, and the rest behind it.
-use mathlib.Core.List.{List, [], _∷_}
-use Prim.Native.Nat.{ℕ}
-use native.Mathlib.Omega.{arith}
-use borrow.Author.Needs.{needs}
-use denote.Ref.{now}
+use Rattle.laws.proofs.Base.{List, [], _∷_, ℕ, arith, needs, now}
 use Rattle.lines.specs.Inner.{Puts}
 use Rattle.lines.proofs.Behind.{puts-behind, puts-then}
 use Rattle.cbtext.proofs.put_text.Statement.{statement}
@@ -29,8 +25,4 @@ pub put-text-spec : {M : Type 1} → statement M
 put-text-spec =
     tie.close
     (tie.spec
-    (λ c. search needs)
-    (λ c κs. search needs)
-    put-characters-requires
-    (λ c. search needs)
-    returns)
+    (λ c. search needs) (λ c κs. search needs) put-characters-requires (λ c. search needs) returns)

@@ -1,8 +1,5 @@
 -- `cbtext::put_utf8` meets its contract: the tests that led to each answer decide those of `utf8`.
-use Prim.Native.Nat.{_+_, _/_, _%_}
-use native.Mathlib.Omega.{arith}
-use lib.ListN.{length-set}
-use borrow.Author.Needs.{needs}
+use Rattle.laws.proofs.Base.{_+_, _/_, _%_, arith, length-set, needs}
 use Rattle.cbtext.proofs.Characters.{puts-one, puts-two, puts-three, utf8-one, utf8-two, utf8-three}
 use Rattle.cbtext.proofs.put_utf8.Statement.{statement}
 use Rattle.cbtext.proofs.put_utf8.Tie as tie
@@ -37,32 +34,10 @@ pub put-utf8-spec : {M : Type 1} → statement M
 put-utf8-spec =
     tie.close
     (tie.spec
-    (λ c. search needs)
-    (λ c. search needs)
-    (λ c. search needs)
-    (λ c. search needs)
-    returns
-    (λ c. search needs)
-    (λ c. search needs)
-    (λ c. search needs)
-    (λ c. search needs)
-    (λ c. search needs)
-    (λ c. search needs)
-    slice-write-out-3
-    (λ c. search needs)
-    (λ c. search needs)
-    returns-2
-    (λ c. search needs)
-    (λ c. search needs)
-    (λ c. search needs)
-    (λ c. search needs)
-    (λ c. search needs)
-    (λ c. search needs)
-    slice-write-out-5
-    (λ c. search needs)
-    (λ c. search needs)
-    (λ c. search needs)
-    slice-write-out-6
-    (λ c. search needs)
-    (λ c. search needs)
-    returns-3)
+    (λ c. search needs) (λ c. search needs) (λ c. search needs) (λ c. search needs) returns
+    (λ c. search needs) (λ c. search needs) (λ c. search needs) (λ c. search needs)
+    (λ c. search needs) (λ c. search needs) slice-write-out-3 (λ c. search needs)
+    (λ c. search needs) returns-2 (λ c. search needs) (λ c. search needs) (λ c. search needs)
+    (λ c. search needs) (λ c. search needs) (λ c. search needs) slice-write-out-5
+    (λ c. search needs) (λ c. search needs) (λ c. search needs) slice-write-out-6
+    (λ c. search needs) (λ c. search needs) returns-3)

@@ -1,6 +1,5 @@
 -- `cbwrite::compose` meets its contract: the schedule writer's answer decides.
-use mathlib.Core.Path.{_∙_}
-use borrow.Author.Needs.{needs}
+use Rattle.laws.proofs.Base.{_∙_, needs}
 use Rattle.plan.specs.Coded.{planOf}
 use Rattle.cbwrite.proofs.Composed.{written-composed, refused-composed}
 use Rattle.cbwrite.proofs.compose.Statement.{statement}
@@ -24,12 +23,5 @@ pub compose-spec : {M : Type 1} → statement M
 compose-spec =
     tie.close
     (tie.spec
-    (λ c. search needs)
-    (λ c κs. search needs)
-    (λ c. search needs)
-    (λ c. search needs)
-    (λ c κs. search needs)
-    (λ c. search needs)
-    (λ c. search needs)
-    returns
-    returns-2)
+    (λ c. search needs) (λ c κs. search needs) (λ c. search needs) (λ c. search needs)
+    (λ c κs. search needs) (λ c. search needs) (λ c. search needs) returns returns-2)

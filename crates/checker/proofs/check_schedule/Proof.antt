@@ -1,9 +1,8 @@
 -- `checker::check_schedule` meets its contract: what is found for the plans checks the message as they do.
-use mathlib.Core.Path.{ap, _∙_}
+use Rattle.laws.proofs.Base.{ap, _∙_, needs}
 use Rattle.plan.specs.Coded.{planOf}
-use Rattle.checker.specs.Beside.{Plans, checkBeside}
+use Rattle.checker.specs.Inner.{Plans, checkBeside}
 use Rattle.checker.proofs.Telling.{check-beside}
-use borrow.Author.Needs.{needs}
 use Rattle.checker.proofs.check_schedule.Statement.{statement}
 use Rattle.checker.proofs.check_schedule.Tie as tie
 

@@ -1,17 +1,8 @@
 -- `checker::compare` meets its contract: each answer is told from the places of the message's descriptions.
 use Rattle.checker.proofs.Comparing.{found-refused, found-last, found-differs, found-true, found-untrue}
-use borrow.Author.Needs.{needs}
+use Rattle.laws.proofs.Base.{needs}
 use Rattle.checker.proofs.compare.Statement.{statement}
 use Rattle.checker.proofs.compare.Tie as tie
-
-read-places-requires : tie.Need-read-places-requires
-read-places-requires c κs = search needs
-
-enum-known-answer : tie.Need-enum-known-answer
-enum-known-answer c = search needs
-
-enum-known-answer-2 : tie.Need-enum-known-answer-2
-enum-known-answer-2 c = search needs
 
 returns : tie.Need-returns
 returns c =
@@ -49,11 +40,5 @@ pub compare-spec : {M : Type 1} → statement M
 compare-spec =
     tie.close
     (tie.spec
-    read-places-requires
-    enum-known-answer
-    enum-known-answer-2
-    returns
-    first-untrue-requires
-    returns-2
-    returns-3
-    returns-4)
+    (λ c κs. search needs) (λ c. search needs) (λ c. search needs) returns first-untrue-requires
+    returns-2 returns-3 returns-4)

@@ -1,15 +1,9 @@
 -- `checker::first_untrue` meets its contract. The invariant: no slot passed so far is untrue.
-use mathlib.Core.Path.{_≡_, sym, ap, _∙_}
-use mathlib.Core.Bool.{false, not}
-use Prim.Native.Nat.{ℕ, _-_, _≤_, _<_}
-use native.Mathlib.Numerals.{add-one}
-use native.Mathlib.Omega.{arith}
-use lib.ListN.{getD}
+use Rattle.laws.proofs.Base.{_≡_, sym, ap, _∙_, false, not, ℕ, _-_, _≤_, _<_, add-one, arith, getD, needs}
 use borrow.Author.Count.{below-none, below-more}
-use borrow.Author.Needs.{needs}
 use Rattle.laws.proofs.Lowest.{lowest-at, lowest-none}
 use Rattle.plan.specs.Coded.{plannedOf}
-use Rattle.plan.specs.Parts.{nothing}
+use Rattle.plan.specs.Inner.{nothing}
 use Rattle.checker.specs.Paper.{trueBy}
 use Rattle.checker.specs.Coded.{untrueBy}
 use Rattle.checker.proofs.first_untrue.Statement.{statement}
@@ -24,24 +18,6 @@ abbrev μ-loop : tie.MeasureT-loop
 loop-holds : tie.Need-loop-holds Inv-loop μ-loop
 loop-holds c = (omega arith, below-none _)
 
-mul-shown : tie.Need-mul-shown Inv-loop μ-loop
-mul-shown c = search needs
-
-array-read-shown : tie.Need-array-read-shown Inv-loop μ-loop
-array-read-shown c = search needs
-
-shown-requires : tie.Need-shown-requires Inv-loop μ-loop
-shown-requires c κs = search needs
-
-mul-said : tie.Need-mul-said Inv-loop μ-loop
-mul-said c = search needs
-
-array-copy-out-said : tie.Need-array-copy-out-said Inv-loop μ-loop
-array-copy-out-said c = search needs
-
-is-true-requires : tie.Need-is-true-requires Inv-loop μ-loop
-is-true-requires c κs = search needs
-
 -- whether the slot is told truly is answered by its description
 told : (c : tie.After-is-true Inv-loop μ-loop) → let b = c .before .before .before .before in let a = b .before .before .args in not (c .is-true .result) ≡ untrueBy (a .t1) (a .message .now) (a .t3) (b .loop .i)
 told c =
@@ -50,21 +26,12 @@ told c =
     (c .is-true .ensures
     ∙ ap (trueBy (plannedOf (getD (b .before .before .args .t1) (b .loop .i) nothing)) (b .loop .i)) (c .before .before .shown .ensures))
 
-add-result : tie.Need-add-result Inv-loop μ-loop
-add-result c = search needs
-
 returns : tie.Need-returns Inv-loop μ-loop
 returns c =
     let b = c .before .before .before .before .before in
     let a = b .before .before .args in
     rw add-one
     (sym (lowest-at (untrueBy (a .t1) (a .message .now) (a .t3)) (a .count) (b .loop .i) (omega arith) (sym (told (c .before)) ∙ c .if1 .taken) (b .loop .inv .1)))
-
-add-i : tie.Need-add-i Inv-loop μ-loop
-add-i c = search needs
-
-loop-less : tie.Need-loop-less Inv-loop μ-loop
-loop-less c = search needs
 
 loop-again : tie.Need-loop-again Inv-loop μ-loop
 loop-again c =
@@ -82,18 +49,6 @@ pub first-untrue-spec : {M : Type 1} → statement M
 first-untrue-spec =
     tie.close
     (tie.spec
-    Inv-loop
-    μ-loop
-    loop-holds
-    mul-shown
-    array-read-shown
-    shown-requires
-    mul-said
-    array-copy-out-said
-    is-true-requires
-    add-result
-    returns
-    add-i
-    loop-less
-    loop-again
-    returns-2)
+    Inv-loop μ-loop loop-holds (λ c. search needs) (λ c. search needs) (λ c κs. search needs)
+    (λ c. search needs) (λ c. search needs) (λ c κs. search needs) (λ c. search needs) returns
+    (λ c. search needs) (λ c. search needs) loop-again returns-2)

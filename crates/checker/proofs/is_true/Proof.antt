@@ -1,20 +1,12 @@
 -- `checker::is_true` meets its contract: the description decides, and else the new bit.
-use mathlib.Core.Path.{sym, _∙_}
-use borrow.Author.Tests.{not-true, not-false}
-use borrow.Author.Needs.{needs}
+use Rattle.laws.proofs.Base.{sym, _∙_, not-true, not-false, needs}
 use Rattle.checker.proofs.is_true.Statement.{statement}
 use Rattle.checker.proofs.is_true.Tie as tie
-
-may-tell-requires : tie.Need-may-tell-requires
-may-tell-requires c κs = search needs
 
 returns : tie.Need-returns
 returns c =
     let e = sym (c .before .may-tell .ensures) ∙ not-true (c .before .may-tell .result) (c .if1 .taken) in
     rw e
-
-new-for-requires : tie.Need-new-for-requires
-new-for-requires c κs = search needs
 
 returns-2 : tie.Need-returns-2
 returns-2 c =
@@ -23,4 +15,4 @@ returns-2 c =
     rw (e, c .new-for .ensures)
 
 pub is-true-spec : {M : Type 1} → statement M
-is-true-spec = tie.close (tie.spec may-tell-requires returns new-for-requires returns-2)
+is-true-spec = tie.close (tie.spec (λ c κs. search needs) returns (λ c κs. search needs) returns-2)

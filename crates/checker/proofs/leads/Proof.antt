@@ -1,18 +1,13 @@
 -- `checker::leads` meets its contract: another kind decides it, and else the lowest slot.
-use native.Mathlib.Numerals.{add-one}
-use borrow.Author.Tests.{eq-eqb, ne-eqb}
-use borrow.Author.Needs.{needs}
+use Rattle.laws.proofs.Base.{add-one, eq-eqb, ne-eqb, needs}
 use Rattle.checker.proofs.leads.Statement.{statement}
 use Rattle.checker.proofs.leads.Tie as tie
 
 returns : tie.Need-returns
 returns c = simp (ne-eqb _ _ (c .if1 .taken))
 
-add-result : tie.Need-add-result
-add-result c = search needs
-
 returns-2 : tie.Need-returns-2
 returns-2 c = simp (eq-eqb _ _ (c .before .if1 .left), add-one)
 
 pub leads-spec : {M : Type 1} → statement M
-leads-spec = tie.close (tie.spec returns add-result returns-2)
+leads-spec = tie.close (tie.spec returns (λ c. search needs) returns-2)

@@ -1,8 +1,5 @@
 -- `descriptions::all_given` meets its contract. The invariant: the slots given so far stand in their places, and none of the answers was the last.
-use mathlib.Core.Logic.{inl, inr}
-use Prim.Native.Nat.{_≤_, _-_}
-use native.Mathlib.Omega.{arith}
-use borrow.Author.Needs.{needs}
+use Rattle.laws.proofs.Base.{inl, inr, _≤_, _-_, arith, needs}
 use Rattle.descriptions.proofs.Stepping.{step-gave, step-left}
 use Rattle.descriptions.proofs.Giving.{Gave, gave-none, gave-next, gave-refused, gave-all}
 use Rattle.descriptions.proofs.all_given.Statement.{statement}
@@ -60,17 +57,6 @@ pub all-given-spec : {M : Type 1} → statement M
 all-given-spec =
     tie.close
     (tie.spec
-    Inv-loop
-    μ-loop
-    loop-holds
-    (λ c κs. search needs)
-    (λ c. search needs)
-    (λ c. search needs)
-    (λ c. search needs)
-    (λ c. search needs)
-    returns
-    (λ c. search needs)
-    returns-2
-    loop-less
-    loop-again
-    returns-3)
+    Inv-loop μ-loop loop-holds (λ c κs. search needs) (λ c. search needs) (λ c. search needs)
+    (λ c. search needs) (λ c. search needs) returns (λ c. search needs) returns-2 loop-less
+    loop-again returns-3)

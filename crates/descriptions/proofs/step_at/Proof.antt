@@ -1,5 +1,5 @@
 -- `descriptions::step_at` meets its contract: it gives what `description_at` gives, and passes what `passed` says.
-use borrow.Author.Needs.{needs}
+use Rattle.laws.proofs.Base.{needs}
 use Rattle.descriptions.proofs.Stepping.{step-fits, step-made}
 use Rattle.descriptions.proofs.step_at.Statement.{statement}
 use Rattle.descriptions.proofs.step_at.Tie as tie

@@ -1,6 +1,5 @@
 -- `firmware::cb_intake` meets its contract: the lengths are refused in order, and the rest is `take_in`'s.
-use borrow.Author.Needs.{needs}
-use borrow.Author.Tests.{eq-eqb, ne-eqb}
+use Rattle.laws.proofs.Base.{needs, eq-eqb, ne-eqb}
 use Rattle.firmware.specs.Paper.{intakeCall}
 use Rattle.firmware.proofs.cb_intake.Statement.{statement}
 use Rattle.firmware.proofs.cb_intake.Tie as tie
@@ -13,15 +12,6 @@ returns-2 : tie.Need-returns-2
 unfolding intakeCall
 returns-2 c = simp (eq-eqb _ _ (c .before .if1 .left), ne-eqb _ _ (c .if2 .taken))
 
-take-in-requires : tie.Need-take-in-requires
-take-in-requires c κs = search needs
-
-same-length : tie.Need-same-length
-same-length c = search needs
-
-same-length-2 : tie.Need-same-length-2
-same-length-2 c = search needs
-
 returns-3 : tie.Need-returns-3
 unfolding intakeCall
 returns-3 c =
@@ -30,4 +20,4 @@ returns-3 c =
 
 pub cb-intake-spec : {M : Type 1} → statement M
 cb-intake-spec =
-    tie.close (tie.spec returns returns-2 take-in-requires same-length same-length-2 returns-3)
+    tie.close (tie.spec returns returns-2 (λ c κs. search needs) (λ c. search needs) (λ c. search needs) returns-3)

@@ -1,15 +1,8 @@
 -- `firmware::cb_start` meets its contract.
-use borrow.Author.Needs.{needs}
-use borrow.Author.Tests.{eq-eqb, ne-eqb}
+use Rattle.laws.proofs.Base.{needs, eq-eqb, ne-eqb}
 use Rattle.firmware.specs.Paper.{startCall}
 use Rattle.firmware.proofs.cb_start.Statement.{statement}
 use Rattle.firmware.proofs.cb_start.Tie as tie
-
-clear-requires : tie.Need-clear-requires
-clear-requires c κs = search needs
-
-same-length : tie.Need-same-length
-same-length c = search needs
 
 returns : tie.Need-returns
 unfolding startCall
@@ -22,4 +15,4 @@ unfolding startCall
 returns-2 c = simp (ne-eqb _ _ (c .if1 .left))
 
 pub cb-start-spec : {M : Type 1} → statement M
-cb-start-spec = tie.close (tie.spec clear-requires same-length returns returns-2)
+cb-start-spec = tie.close (tie.spec (λ c κs. search needs) (λ c. search needs) returns returns-2)

@@ -1,12 +1,6 @@
 -- `firmware::fill` meets its contract. The invariant: the octets so far are the given one, and the rest is as it was.
-use mathlib.Core.Path.{_≡_}
-use mathlib.Core.List.{_++_, append-nil}
-use Prim.Native.Nat.{_-_, _≤_, _<_}
-use native.Mathlib.Omega.{arith}
-use lib.ListN.{length, drop, replicate, length-set}
-use lib.Seq.{drop-length}
+use Rattle.laws.proofs.Base.{_≡_, _++_, append-nil, _-_, _≤_, _<_, arith, length, drop, replicate, length-set, drop-length, needs}
 use borrow.Author.Fill.{fill-none, fill-more}
-use borrow.Author.Needs.{needs}
 use Rattle.firmware.proofs.fill.Statement.{statement}
 use Rattle.firmware.proofs.fill.Tie as tie
 
@@ -19,15 +13,6 @@ abbrev μ-loop : tie.MeasureT-loop
 
 loop-holds : tie.Need-loop-holds Inv-loop μ-loop
 loop-holds c = (omega arith, fill-none (c .args .memory .now) (c .args .octet), search needs)
-
-slice-write-memory : tie.Need-slice-write-memory Inv-loop μ-loop
-slice-write-memory c = search needs
-
-add-i : tie.Need-add-i Inv-loop μ-loop
-add-i c = search needs
-
-loop-less : tie.Need-loop-less Inv-loop μ-loop
-loop-less c = search needs
 
 loop-again : tie.Need-loop-again Inv-loop μ-loop
 loop-again c =
@@ -52,4 +37,4 @@ returns c =
 pub fill-spec : {M : Type 1} → statement M
 fill-spec =
     tie.close
-    (tie.spec Inv-loop μ-loop loop-holds slice-write-memory add-i loop-less loop-again same-length returns)
+    (tie.spec Inv-loop μ-loop loop-holds (λ c. search needs) (λ c. search needs) (λ c. search needs) loop-again same-length returns)

@@ -1,6 +1,5 @@
 -- `lines::asked_for` meets its contract: a law for each answer.
-use mathlib.Core.Path.{sym, _∙_}
-use borrow.Author.Needs.{needs}
+use Rattle.laws.proofs.Base.{sym, _∙_, needs}
 use Rattle.lines.proofs.Arguments.{asks-for-help, asks-too-few, asks-too-many, asks-work}
 use Rattle.lines.proofs.asked_for.Statement.{statement}
 use Rattle.lines.proofs.asked_for.Tie as tie

@@ -1,6 +1,5 @@
 -- `lines::asks_help` meets its contract.
-use borrow.Author.Needs.{needs}
-use borrow.Author.Tests.{eq-eqb, ne-eqb}
+use Rattle.laws.proofs.Base.{needs, eq-eqb, ne-eqb}
 use Rattle.lines.specs.Paper.{ascii}
 use Rattle.lines.specs.Asked.{helpAsked}
 use Rattle.lines.proofs.Same.{same-exactly}

@@ -1,8 +1,5 @@
 -- `lines::chunk_of` meets its contract, and what is numbered lies in the memory.
-use mathlib.Core.Path.{sym, ap}
-use native.Mathlib.Omega.{arith}
-use lib.Seq.{length-take-le}
-use borrow.Author.Needs.{needs}
+use Rattle.laws.proofs.Base.{sym, ap, arith, length-take-le, needs}
 use Rattle.lines.specs.Chunk.{filled}
 use Rattle.lines.proofs.Read.{chunk-octets, chunk-fault}
 use Rattle.lines.proofs.chunk_of.Statement.{statement}
@@ -24,13 +21,6 @@ pub chunk-of-spec : {M : Type 1} → statement M
 chunk-of-spec =
     tie.close
     (tie.spec
-    (λ c. search needs)
-    slice-aggregate-moved-on
-    (λ c κs. search needs)
-    (λ c κs. search needs)
-    (λ c. search needs)
-    (λ c. search needs)
-    slice-aggregate-moved-on-2
-    (λ c κs. search needs)
-    returns
-    returns-2)
+    (λ c. search needs) slice-aggregate-moved-on (λ c κs. search needs) (λ c κs. search needs)
+    (λ c. search needs) (λ c. search needs) slice-aggregate-moved-on-2 (λ c κs. search needs)
+    returns returns-2)

@@ -1,5 +1,5 @@
 -- `lines::ending_of` meets its contract.
-use borrow.Author.Tests.{eq-eqb, ne-eqb}
+use Rattle.laws.proofs.Base.{eq-eqb, ne-eqb}
 use Rattle.lines.proofs.ending_of.Statement.{statement}
 use Rattle.lines.proofs.ending_of.Tie as tie
 

@@ -1,8 +1,5 @@
 -- `lines::has_room` meets its contract: what fits behind a place is what is left of the memory there.
-use Prim.Native.Nat.{_+_, _<_}
-use mathlib.Core.Path.{sym}
-use native.Mathlib.Omega.{arith}
-use borrow.Author.Tests.{lt-leb}
+use Rattle.laws.proofs.Base.{_+_, _<_, sym, arith, lt-leb}
 use Rattle.lines.proofs.Behind.{fits-left}
 use Rattle.lines.proofs.has_room.Statement.{statement}
 use Rattle.lines.proofs.has_room.Tie as tie

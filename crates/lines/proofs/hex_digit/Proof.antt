@@ -1,6 +1,5 @@
 -- `lines::hex_digit` meets its contract: the test that led to each answer decides that of `hexDigit`.
-use borrow.Author.Needs.{needs}
-use borrow.Author.Tests.{lt-ltb, le-ltb}
+use Rattle.laws.proofs.Base.{needs, lt-ltb, le-ltb}
 use Rattle.lines.proofs.hex_digit.Statement.{statement}
 use Rattle.lines.proofs.hex_digit.Tie as tie
 

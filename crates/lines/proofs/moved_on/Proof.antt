@@ -1,6 +1,5 @@
 -- `lines::moved_on` meets its contract: the pieces are as many as `cut` makes.
-use native.Mathlib.Omega.{arith}
-use borrow.Author.Needs.{needs}
+use Rattle.laws.proofs.Base.{arith, needs}
 use Rattle.lines.specs.Chunk.{movedOn}
 use Rattle.lines.proofs.Pieces.{length-cut}
 use Rattle.lines.proofs.moved_on.Statement.{statement}

@@ -1,6 +1,5 @@
 -- `lines::open_log` meets its contract: the name is put within the memory for it.
-use native.Mathlib.Omega.{arith}
-use borrow.Author.Needs.{needs}
+use Rattle.laws.proofs.Base.{arith, needs}
 use Rattle.lines.proofs.Behind.{ends-inside}
 use Rattle.lines.proofs.open_log.Statement.{statement}
 use Rattle.lines.proofs.open_log.Tie as tie
@@ -12,11 +11,5 @@ pub open-log-spec : {M : Type 1} → statement M
 open-log-spec =
     tie.close
     (tie.spec
-    (λ c κs. search needs)
-    (λ c κs. search needs)
-    (λ c. search needs)
-    (λ c. search needs)
-    (λ c. search needs)
-    (λ c κs. search needs)
-    (λ c. search needs)
-    returns-2)
+    (λ c κs. search needs) (λ c κs. search needs) (λ c. search needs) (λ c. search needs)
+    (λ c. search needs) (λ c κs. search needs) (λ c. search needs) returns-2)

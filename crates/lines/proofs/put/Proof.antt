@@ -1,10 +1,5 @@
 -- `lines::put` meets its contract: octets that fit are copied over the part that is lent for them.
-use mathlib.Core.Path.{refl, sym, _∙_}
-use Prim.Native.Nat.{_+_, _≤_, _<_}
-use native.Mathlib.Omega.{arith}
-use lib.ListN.{length}
-use borrow.Author.Needs.{needs}
-use borrow.Author.Tests.{leb-true, leb-false, not-true, not-false}
+use Rattle.laws.proofs.Base.{refl, sym, _∙_, _+_, _≤_, _<_, arith, length, needs, leb-true, leb-false, not-true, not-false}
 use Rattle.lines.proofs.Behind.{behind-full, behind-copy}
 use Rattle.lines.proofs.put.Statement.{statement}
 use Rattle.lines.proofs.put.Tie as tie
@@ -38,12 +33,5 @@ pub put-spec : {M : Type 1} → statement M
 put-spec =
     tie.close
     (tie.spec
-    (λ c κs. search needs)
-    returns
-    add-end
-    (λ c. search needs)
-    (λ c. search needs)
-    part-copy-end
-    (λ c κs. search needs)
-    (λ c. search needs)
-    returns-2)
+    (λ c κs. search needs) returns add-end (λ c. search needs) (λ c. search needs) part-copy-end
+    (λ c κs. search needs) (λ c. search needs) returns-2)

@@ -1,10 +1,5 @@
 -- `lines::put_hex` meets its contract. The invariant: the digits so far stand at their place, and those left are the rest's.
-use mathlib.Core.Path.{_≡_, refl, sym, _∙_}
-use Prim.Native.Nat.{_+_, _≤_, _<_}
-use native.Mathlib.Omega.{arith}
-use lib.ListN.{length}
-use borrow.Author.Needs.{needs}
-use borrow.Author.Tests.{leb-true, leb-false, not-true, not-false}
+use Rattle.laws.proofs.Base.{_≡_, refl, sym, _∙_, _+_, _≤_, _<_, arith, length, needs, leb-true, leb-false, not-true, not-false}
 use Rattle.lines.specs.Paper.{hexadecimal}
 use Rattle.lines.proofs.Behind.{behind-full}
 use Rattle.lines.proofs.Numbers.{Written, written-turn, written-end, length-hexadecimal}
@@ -58,18 +53,6 @@ pub put-hex-spec : {M : Type 1} → statement M
 put-hex-spec =
     tie.close
     (tie.spec
-    Inv-loop
-    μ-loop
-    (λ c κs. search needs)
-    returns
-    loop-holds
-    (λ c. search needs)
-    (λ c. search needs)
-    (λ c κs. search needs)
-    add-text
-    slice-write-text
-    (λ c. search needs)
-    loop-again
-    add-result
-    (λ c. search needs)
-    returns-2)
+    Inv-loop μ-loop (λ c κs. search needs) returns loop-holds (λ c. search needs)
+    (λ c. search needs) (λ c κs. search needs) add-text slice-write-text (λ c. search needs)
+    loop-again add-result (λ c. search needs) returns-2)

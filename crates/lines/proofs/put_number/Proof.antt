@@ -1,8 +1,5 @@
 -- `lines::put_number` meets its contract: the fewest digits of a number are its decimal.
-use mathlib.Core.Path.{ap, _∙_}
-use mathlib.Core.List.{List}
-use Prim.Native.Nat.{ℕ, _≤_}
-use borrow.Author.Needs.{needs}
+use Rattle.laws.proofs.Base.{ap, _∙_, List, ℕ, _≤_, needs}
 use Rattle.lines.specs.Paper.{behind}
 use Rattle.lines.proofs.Numbers.{spelled-digits, twenty-digits}
 use Rattle.lines.proofs.put_number.Statement.{statement}
@@ -24,9 +21,5 @@ pub put-number-spec : {M : Type 1} → statement M
 put-number-spec =
     tie.close
     (tie.spec
-    (λ c κs. search needs)
-    (λ c. search needs)
-    (λ c. search needs)
-    (λ c κs. search needs)
-    (λ c. search needs)
-    returns)
+    (λ c κs. search needs) (λ c. search needs) (λ c. search needs) (λ c κs. search needs)
+    (λ c. search needs) returns)

@@ -1,8 +1,5 @@
 -- `lines::read_chunk` meets its contract: the chunk is made of what filling gave.
-use mathlib.Core.Path.{_≡_, _∙_}
-use native.Mathlib.Omega.{arith}
-use lib.ListN.{length}
-use borrow.Author.Needs.{needs}
+use Rattle.laws.proofs.Base.{_≡_, _∙_, arith, length, needs}
 use Rattle.lines.proofs.Read.{chunk-reads}
 use Rattle.lines.proofs.read_chunk.Statement.{statement}
 use Rattle.lines.proofs.read_chunk.Tie as tie
@@ -17,9 +14,5 @@ pub read-chunk-spec : {M : Type 1} → statement M
 read-chunk-spec =
     tie.close
     (tie.spec
-    (λ c κs. search needs)
-    (λ c. search needs)
-    (λ c κs. search needs)
-    (λ c. search needs)
-    (λ c κs. search needs)
-    returns)
+    (λ c κs. search needs) (λ c. search needs) (λ c κs. search needs) (λ c. search needs)
+    (λ c κs. search needs) returns)

@@ -1,6 +1,5 @@
 -- `lines::started` meets its contract: the memory has the length that a start call asks for.
-use mathlib.Core.Path.{ap}
-use borrow.Author.Needs.{needs}
+use Rattle.laws.proofs.Base.{ap, needs}
 use Rattle.firmware.specs.Paper.{Started, startCall}
 use Rattle.lines.proofs.started.Statement.{statement}
 use Rattle.lines.proofs.started.Tie as tie

@@ -1,8 +1,5 @@
 -- `lines::write_chunk` meets its contract: the ending decides where all was written.
-use mathlib.Core.Path.{sym, _∙_}
-use mathlib.Core.Bool.{false≢true}
-use borrow.Author.Needs.{needs}
-use borrow.Author.Tests.{not-true}
+use Rattle.laws.proofs.Base.{sym, _∙_, false≢true, needs, not-true}
 use Rattle.lines.proofs.Read.{more-last, more-fault}
 use Rattle.lines.proofs.write_chunk.Statement.{statement}
 use Rattle.lines.proofs.write_chunk.Tie as tie
@@ -20,11 +17,5 @@ pub write-chunk-spec : {M : Type 1} → statement M
 write-chunk-spec =
     tie.close
     (tie.spec
-    (λ c κs. search needs)
-    returns
-    (λ c. search needs)
-    (λ c. search needs)
-    (λ c. search needs)
-    (λ c. search needs)
-    returns-3
-    returns-4)
+    (λ c κs. search needs) returns (λ c. search needs) (λ c. search needs) (λ c. search needs)
+    (λ c. search needs) returns-3 returns-4)

@@ -1,5 +1,5 @@
 -- `lines::write_text` meets its contract: what is not written is not empty.
-use borrow.Author.Needs.{needs}
+use Rattle.laws.proofs.Base.{needs}
 use Rattle.lines.proofs.write_text.Statement.{statement}
 use Rattle.lines.proofs.write_text.Tie as tie
 
@@ -10,9 +10,5 @@ pub write-text-spec : {M : Type 1} → statement M
 write-text-spec =
     tie.close
     (tie.spec
-    (λ c. search needs)
-    (λ c κs. search needs)
-    (λ c. search needs)
-    (λ c κs. search needs)
-    returns-2
+    (λ c. search needs) (λ c κs. search needs) (λ c. search needs) (λ c κs. search needs) returns-2
     (λ c. search needs))

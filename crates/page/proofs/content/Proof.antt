@@ -1,13 +1,7 @@
 -- `page::content` meets its contract: each return is the first test that holds, and what is received lies within the page.
-use mathlib.Core.Path.{_≡_, sym, _∙_}
-use mathlib.Core.Bool.{true}
-use Prim.Native.Nat.{_≤_}
-use native.Mathlib.Omega.{arith}
-use borrow.Author.Needs.{needs}
-use borrow.Author.Tests.{not-true, not-false}
-use denote.Ref.{now}
-use Rattle.laws.specs.Received.{wholeBlocks}
-use Rattle.laws.proofs.Received.{whole-bounds}
+use Rattle.laws.proofs.Base.{_≡_, sym, _∙_, true, _≤_, arith, needs, not-true, not-false, now}
+use Rattle.sizes.specs.Paper.{wholeBlocks}
+use Rattle.sizes.proofs.Received.{whole-bounds}
 use Rattle.page.specs.Paper.{emptyPart, contentPart, handedPart}
 use Rattle.page.specs.Coded.{partOf}
 use Rattle.page.proofs.Received.{refused-length, refused-received, handed}
@@ -56,12 +50,5 @@ pub content-spec : {M : Type 1} → statement M
 content-spec =
     tie.close
     (tie.spec
-    (λ c. search needs)
-    returns
-    (λ c κs. search needs)
-    (λ c. search needs)
-    returns-2
-    sub-result
-    part-result-start
-    part-result-end
-    returns-3)
+    (λ c. search needs) returns (λ c κs. search needs) (λ c. search needs) returns-2 sub-result
+    part-result-start part-result-end returns-3)

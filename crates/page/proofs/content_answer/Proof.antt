@@ -1,8 +1,5 @@
 -- `page::content_answer` meets its contract: each return is the first test that holds.
-use mathlib.Core.Path.{sym, _∙_}
-use borrow.Author.Needs.{needs}
-use borrow.Author.Tests.{not-true, not-false}
-use denote.Ref.{now}
+use Rattle.laws.proofs.Base.{sym, _∙_, needs, not-true, not-false, now}
 use Rattle.page.specs.Paper.{handedNumber}
 use Rattle.page.proofs.Received.{refused-length, refused-received, handed}
 use Rattle.page.proofs.content_answer.Statement.{statement}

@@ -1,6 +1,5 @@
 -- `page::header_octets` meets its contract: the array is made as the paper's list.
-use mathlib.Core.Path.{refl}
-use borrow.Author.Needs.{needs}
+use Rattle.laws.proofs.Base.{refl, needs}
 use Rattle.page.specs.Paper.{headerOctets}
 use Rattle.page.proofs.header_octets.Statement.{statement}
 use Rattle.page.proofs.header_octets.Tie as tie

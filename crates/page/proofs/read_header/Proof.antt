@@ -1,5 +1,5 @@
 -- `page::read_header` meets its contract: two numbers are each joined of two octets.
-use borrow.Author.Needs.{needs}
+use Rattle.laws.proofs.Base.{needs}
 use Rattle.page.specs.Paper.{header}
 use Rattle.page.proofs.read_header.Statement.{statement}
 use Rattle.page.proofs.read_header.Tie as tie
@@ -12,12 +12,5 @@ pub read-header-spec : {M : Type 1} → statement M
 read-header-spec =
     tie.close
     (tie.spec
-    (λ c. search needs)
-    (λ c. search needs)
-    (λ c κs. search needs)
-    (λ c. search needs)
-    (λ c. search needs)
-    (λ c κs. search needs)
-    (λ c. search needs)
-    (λ c. search needs)
-    returns)
+    (λ c. search needs) (λ c. search needs) (λ c κs. search needs) (λ c. search needs)
+    (λ c. search needs) (λ c κs. search needs) (λ c. search needs) (λ c. search needs) returns)

@@ -1,15 +1,9 @@
 -- `page::same` meets its contract: two pages are the same exactly if their keys are equal.
-use borrow.Author.Needs.{needs}
+use Rattle.laws.proofs.Base.{needs}
 use Rattle.page.specs.Coded.{nameOf}
 use Rattle.page.proofs.Sameness.{key-same}
 use Rattle.page.proofs.same.Statement.{statement}
 use Rattle.page.proofs.same.Tie as tie
-
-key-requires : tie.Need-key-requires
-key-requires c κs = search needs
-
-key-requires-2 : tie.Need-key-requires-2
-key-requires-2 c κs = search needs
 
 returns : tie.Need-returns
 returns c =
@@ -19,4 +13,4 @@ returns c =
     (record { serial = search needs; id = search needs }))
 
 pub same-spec : {M : Type 1} → statement M
-same-spec = tie.close (tie.spec key-requires key-requires-2 returns)
+same-spec = tie.close (tie.spec (λ c κs. search needs) (λ c κs. search needs) returns)

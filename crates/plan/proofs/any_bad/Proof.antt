@@ -1,10 +1,5 @@
 -- `plan::any_bad` meets its contract. The invariant: none of the entries so far is bad.
-use mathlib.Core.Path.{_≡_, refl, sym, ap, _∙_}
-use mathlib.Core.Bool.{false}
-use Prim.Native.Nat.{_-_, _≤_, _<_}
-use lib.ListN.{length, take}
-use native.Mathlib.Omega.{arith}
-use borrow.Author.Needs.{needs}
+use Rattle.laws.proofs.Base.{_≡_, refl, sym, ap, _∙_, false, _-_, _≤_, _<_, length, take, arith, needs}
 use Rattle.laws.specs.Search.{some}
 use Rattle.laws.proofs.Search.{some-turn, some-found}
 use Rattle.plan.specs.Paper.{free, bad}
@@ -23,15 +18,6 @@ loop-holds : tie.Need-loop-holds Inv-loop μ-loop
 unfolding some
 loop-holds c = (omega arith, refl)
 
-mul-entry : tie.Need-mul-entry Inv-loop μ-loop
-mul-entry c = search needs
-
-array-copy-out-entry : tie.Need-array-copy-out-entry Inv-loop μ-loop
-array-copy-out-entry c = search needs
-
-is-bad-requires : tie.Need-is-bad-requires Inv-loop μ-loop
-is-bad-requires c κs = search needs
-
 returns : tie.Need-returns Inv-loop μ-loop
 returns c =
     let a = c .before .before .before .before .before .args in
@@ -40,12 +26,6 @@ returns c =
     sym
     (some-found bad free (a .count) (entriesOf (a .t1)) i (c .before .before .before .loop-test .taken) (inside (a .t1) i k)
     (ap bad (entry-at (a .t1) i k) ∙ sym (c .before .is-bad .ensures) ∙ c .if1 .taken))
-
-add-i : tie.Need-add-i Inv-loop μ-loop
-add-i c = search needs
-
-loop-less : tie.Need-loop-less Inv-loop μ-loop
-loop-less c = search needs
 
 loop-again : tie.Need-loop-again Inv-loop μ-loop
 loop-again c =
@@ -67,14 +47,5 @@ pub any-bad-spec : {M : Type 1} → statement M
 any-bad-spec =
     tie.close
     (tie.spec
-    Inv-loop
-    μ-loop
-    loop-holds
-    mul-entry
-    array-copy-out-entry
-    is-bad-requires
-    returns
-    add-i
-    loop-less
-    loop-again
-    returns-2)
+    Inv-loop μ-loop loop-holds (λ c. search needs) (λ c. search needs) (λ c κs. search needs)
+    returns (λ c. search needs) (λ c. search needs) loop-again returns-2)

@@ -1,6 +1,5 @@
 -- `plan::empty_plan` meets its contract: one optional entry stands forty-eight times.
-use lib.ListN.{replicate}
-use borrow.Author.Needs.{needs}
+use Rattle.laws.proofs.Base.{replicate, needs}
 use Rattle.plan.proofs.empty_plan.Statement.{statement}
 use Rattle.plan.proofs.empty_plan.Tie as tie
 

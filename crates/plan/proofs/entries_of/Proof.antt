@@ -1,10 +1,5 @@
 -- `plan::entries_of` meets its contract. The invariant: the entries so far stand at the front, and the rest is optional.
-use mathlib.Core.Path.{_≡_, refl, _∙_}
-use mathlib.Core.List.{_++_}
-use Prim.Native.Nat.{_-_, _≤_}
-use lib.ListN.{length, drop, replicate, length-set}
-use native.Mathlib.Omega.{arith}
-use borrow.Author.Needs.{needs}
+use Rattle.laws.proofs.Base.{_≡_, refl, _∙_, _++_, _-_, _≤_, length, drop, replicate, length-set, arith, needs}
 use Rattle.plan.specs.Paper.{free, entriesIn}
 use Rattle.plan.specs.Coded.{entriesOf}
 use Rattle.plan.proofs.Entries.{entries-turn}
@@ -18,33 +13,9 @@ Inv-loop file count entries₀ i₀ entries i =
 abbrev μ-loop : tie.MeasureT-loop
 μ-loop file count entries₀ i₀ entries i = count - i
 
-free-entry-requires : tie.Need-free-entry-requires Inv-loop μ-loop
-free-entry-requires c κs = search needs
-
 loop-holds : tie.Need-loop-holds Inv-loop μ-loop
 unfolding entriesIn
 loop-holds c = (omega arith, λ j. replicate 48 (c .free-entry .ensures j), refl)
-
-mul-entry-at : tie.Need-mul-entry-at Inv-loop μ-loop
-mul-entry-at c = search needs
-
-add-entry-at : tie.Need-add-entry-at Inv-loop μ-loop
-add-entry-at c = search needs
-
-entry-at-requires : tie.Need-entry-at-requires Inv-loop μ-loop
-entry-at-requires c κs = search needs
-
-mul-entries : tie.Need-mul-entries Inv-loop μ-loop
-mul-entries c = search needs
-
-array-set-from-entries : tie.Need-array-set-from-entries Inv-loop μ-loop
-array-set-from-entries c = search needs
-
-add-i : tie.Need-add-i Inv-loop μ-loop
-add-i c = search needs
-
-loop-less : tie.Need-loop-less Inv-loop μ-loop
-loop-less c = search needs
 
 loop-again : tie.Need-loop-again Inv-loop μ-loop
 loop-again c =
@@ -65,16 +36,6 @@ pub entries-of-spec : {M : Type 1} → statement M
 entries-of-spec =
     tie.close
     (tie.spec
-    Inv-loop
-    μ-loop
-    free-entry-requires
-    loop-holds
-    mul-entry-at
-    add-entry-at
-    entry-at-requires
-    mul-entries
-    array-set-from-entries
-    add-i
-    loop-less
-    loop-again
-    returns)
+    Inv-loop μ-loop (λ c κs. search needs) loop-holds (λ c. search needs) (λ c. search needs)
+    (λ c κs. search needs) (λ c. search needs) (λ c. search needs) (λ c. search needs)
+    (λ c. search needs) loop-again returns)

@@ -1,7 +1,5 @@
 -- `plan::entry_at` meets its contract: two numbers are each joined of two octets.
-use native.Mathlib.Nat.{add-zero}
-use lib.Seq.{getD-drop}
-use borrow.Author.Needs.{needs}
+use Rattle.laws.proofs.Base.{add-zero, getD-drop, needs}
 use Rattle.plan.specs.Paper.{entryIn}
 use Rattle.plan.proofs.entry_at.Statement.{statement}
 use Rattle.plan.proofs.entry_at.Tie as tie
@@ -14,17 +12,7 @@ pub entry-at-spec : {M : Type 1} → statement M
 entry-at-spec =
     tie.close
     (tie.spec
-    (λ c. search needs)
-    (λ c. search needs)
-    (λ c. search needs)
-    (λ c. search needs)
-    (λ c. search needs)
-    (λ c κs. search needs)
-    (λ c. search needs)
-    (λ c. search needs)
-    (λ c. search needs)
-    (λ c. search needs)
-    (λ c κs. search needs)
-    (λ c. search needs)
-    (λ c. search needs)
-    returns)
+    (λ c. search needs) (λ c. search needs) (λ c. search needs) (λ c. search needs)
+    (λ c. search needs) (λ c κs. search needs) (λ c. search needs) (λ c. search needs)
+    (λ c. search needs) (λ c. search needs) (λ c κs. search needs) (λ c. search needs)
+    (λ c. search needs) returns)

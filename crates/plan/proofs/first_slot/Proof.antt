@@ -1,11 +1,5 @@
 -- `plan::first_slot` meets its contract. The invariant: the answer is that of the search among the marks ahead.
-use mathlib.Core.Path.{_≡_, refl, sym, ap, _∙_}
-use Prim.Native.Nat.{ℕ, _+_, _-_, _≤_, _<_}
-use lib.Dec.{eqb}
-use lib.ListN.{length, getD, drop}
-use native.Mathlib.Omega.{arith}
-use borrow.Author.Needs.{needs}
-use borrow.Author.Tests.{eq-eqb, ne-eqb}
+use Rattle.laws.proofs.Base.{_≡_, refl, sym, ap, _∙_, ℕ, _+_, _-_, _≤_, _<_, eqb, length, getD, drop, arith, needs, eq-eqb, ne-eqb}
 use Rattle.laws.specs.Search.{firstFrom}
 use Rattle.laws.proofs.Search.{first-next, first-here, first-end}
 use Rattle.plan.proofs.first_slot.Statement.{statement}
@@ -21,15 +15,6 @@ abbrev μ-loop : tie.MeasureT-loop
 loop-holds : tie.Need-loop-holds Inv-loop μ-loop
 loop-holds c = (omega arith, omega arith, refl)
 
-sub-if1 : tie.Need-sub-if1 Inv-loop μ-loop
-sub-if1 c = search needs
-
-mul-if1 : tie.Need-mul-if1 Inv-loop μ-loop
-mul-if1 c = search needs
-
-shared-slice-read-if1 : tie.Need-shared-slice-read-if1 Inv-loop μ-loop
-shared-slice-read-if1 c = search needs
-
 returns : tie.Need-returns Inv-loop μ-loop
 returns c =
     let b = c .before .before in
@@ -41,12 +26,6 @@ returns c =
     (l .inv .2
     ∙ first-here (eqb (a .mark)) 0 (l .slot) ms (l .slot - 1) k
     (eq-eqb (a .mark) (getD ms (l .slot - 1) 0) (sym (c .if1 .taken))))
-
-add-slot : tie.Need-add-slot Inv-loop μ-loop
-add-slot c = search needs
-
-loop-less : tie.Need-loop-less Inv-loop μ-loop
-loop-less c = search needs
 
 loop-again : tie.Need-loop-again Inv-loop μ-loop
 loop-again c =
@@ -74,14 +53,5 @@ pub first-slot-spec : {M : Type 1} → statement M
 first-slot-spec =
     tie.close
     (tie.spec
-    Inv-loop
-    μ-loop
-    loop-holds
-    sub-if1
-    mul-if1
-    shared-slice-read-if1
-    returns
-    add-slot
-    loop-less
-    loop-again
-    returns-2)
+    Inv-loop μ-loop loop-holds (λ c. search needs) (λ c. search needs) (λ c. search needs) returns
+    (λ c. search needs) (λ c. search needs) loop-again returns-2)

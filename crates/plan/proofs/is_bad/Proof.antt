@@ -1,11 +1,5 @@
 -- `plan::is_bad` meets its contract: the first test that holds decides.
-use mathlib.Core.Path.{_≡_, sym}
-use mathlib.Core.Bool.{not}
-use Prim.Native.Nat.{_<_}
-use native.Mathlib.Nat.{le-of-lt}
-use native.Mathlib.Omega.{arith}
-use lib.Dec.{eqb}
-use borrow.Author.Tests.{eq-eqb, ne-eqb, lt-ltb, le-ltb}
+use Rattle.laws.proofs.Base.{_≡_, sym, not, _<_, le-of-lt, arith, eqb, eq-eqb, ne-eqb, lt-ltb, le-ltb}
 use Rattle.plan.specs.Paper.{Entry, bad}
 use Rattle.plan.specs.Coded.{entryOf}
 use Rattle.plan.proofs.is_bad.Statement.{statement}

@@ -1,5 +1,5 @@
 -- `plan::is_mark` meets its contract: the first octet that differs decides.
-use borrow.Author.Tests.{eq-eqb, ne-eqb}
+use Rattle.laws.proofs.Base.{eq-eqb, ne-eqb}
 use Rattle.plan.proofs.is_mark.Statement.{statement}
 use Rattle.plan.proofs.is_mark.Tie as tie
 

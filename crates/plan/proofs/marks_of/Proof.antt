@@ -1,11 +1,7 @@
 -- `plan::marks_of` meets its contract. The invariant: the entries passed have their marks.
-use mathlib.Core.Path.{_≡_}
-use Prim.Native.Nat.{_-_, _≤_, _<_}
-use lib.ListN.{length}
-use native.Mathlib.Omega.{arith}
-use borrow.Author.Needs.{needs}
+use Rattle.laws.proofs.Base.{_≡_, _-_, _≤_, _<_, length, arith, needs}
 use Rattle.plan.specs.Coded.{entriesOf}
-use Rattle.plan.specs.Parts.{Marks}
+use Rattle.plan.specs.Inner.{Marks}
 use Rattle.plan.proofs.Marks.{marks-none, marks-more}
 use Rattle.plan.proofs.marks_of.Statement.{statement}
 use Rattle.plan.proofs.marks_of.Tie as tie
@@ -20,27 +16,6 @@ loop-holds : tie.Need-loop-holds Inv-loop μ-loop
 loop-holds c =
     let full : length (c .args .t1) ≡ 48 = search needs in
     (omega arith, marks-none (c .args .t1) full)
-
-mul-entry : tie.Need-mul-entry Inv-loop μ-loop
-mul-entry c = search needs
-
-array-copy-out-entry : tie.Need-array-copy-out-entry Inv-loop μ-loop
-array-copy-out-entry c = search needs
-
-mark-requires : tie.Need-mark-requires Inv-loop μ-loop
-mark-requires c κs = search needs
-
-mul-marks : tie.Need-mul-marks Inv-loop μ-loop
-mul-marks c = search needs
-
-array-write-marks : tie.Need-array-write-marks Inv-loop μ-loop
-array-write-marks c = search needs
-
-add-i : tie.Need-add-i Inv-loop μ-loop
-add-i c = search needs
-
-loop-less : tie.Need-loop-less Inv-loop μ-loop
-loop-less c = search needs
 
 loop-again : tie.Need-loop-again Inv-loop μ-loop
 loop-again c =
@@ -60,15 +35,6 @@ pub marks-of-spec : {M : Type 1} → statement M
 marks-of-spec =
     tie.close
     (tie.spec
-    Inv-loop
-    μ-loop
-    loop-holds
-    mul-entry
-    array-copy-out-entry
-    mark-requires
-    mul-marks
-    array-write-marks
-    add-i
-    loop-less
-    loop-again
+    Inv-loop μ-loop loop-holds (λ c. search needs) (λ c. search needs) (λ c κs. search needs)
+    (λ c. search needs) (λ c. search needs) (λ c. search needs) (λ c. search needs) loop-again
     returns)

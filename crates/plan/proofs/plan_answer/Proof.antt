@@ -1,6 +1,5 @@
 -- `plan::plan_answer` meets its contract: each return is the first test that holds.
-use mathlib.Core.Path.{sym, _∙_}
-use borrow.Author.Needs.{needs}
+use Rattle.laws.proofs.Base.{sym, _∙_, needs}
 use Rattle.plan.specs.Coded.{planOf}
 use Rattle.plan.proofs.Answers.{over, some-bad, none-bad}
 use Rattle.plan.proofs.plan_answer.Statement.{statement}

@@ -1,7 +1,6 @@
 -- `plan::planned_by` meets its contract: an entry with a page and one without.
-use borrow.Author.Needs.{needs}
-use borrow.Author.Tests.{eq-eqb, ne-eqb}
-use Rattle.plan.specs.Parts.{saidBy}
+use Rattle.laws.proofs.Base.{needs, eq-eqb, ne-eqb}
+use Rattle.plan.specs.Inner.{saidBy}
 use Rattle.plan.proofs.Marks.{lacks-mark}
 use Rattle.plan.proofs.planned_by.Statement.{statement}
 use Rattle.plan.proofs.planned_by.Tie as tie

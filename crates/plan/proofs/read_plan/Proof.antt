@@ -1,10 +1,5 @@
 -- `plan::read_plan` meets its contract: each return is the first test that holds.
-use mathlib.Core.Path.{_≡_, sym, ap, _∙_}
-use mathlib.Core.Bool.{true}
-use lib.ListN.{drop}
-use native.Mathlib.Omega.{arith}
-use borrow.Author.Needs.{needs}
-use borrow.Author.Tests.{not-true, not-false}
+use Rattle.laws.proofs.Base.{_≡_, sym, ap, _∙_, true, drop, arith, needs, not-true, not-false}
 use Rattle.laws.specs.Search.{some}
 use Rattle.page.specs.Paper.{octet}
 use Rattle.plan.specs.Paper.{bad, sixteen, marked}
@@ -88,29 +83,9 @@ pub read-plan-spec : {M : Type 1} → statement M
 read-plan-spec =
     tie.close
     (tie.spec
-    (λ c κs. search needs)
-    returns
-    (λ c. search needs)
-    (λ c. search needs)
-    (λ c. search needs)
-    (λ c κs. search needs)
-    (λ c κs. search needs)
-    returns-2
-    (λ c. search needs)
-    (λ c. search needs)
-    (λ c κs. search needs)
-    (λ c κs. search needs)
-    returns-3
-    (λ c. search needs)
-    cast-count
-    (λ c κs. search needs)
-    returns-4
-    (λ c. search needs)
-    (λ c. search needs)
-    (λ c κs. search needs)
-    returns-5
-    (λ c κs. search needs)
-    (λ c κs. search needs)
-    (λ c κs. search needs)
-    returns-6
+    (λ c κs. search needs) returns (λ c. search needs) (λ c. search needs) (λ c. search needs)
+    (λ c κs. search needs) (λ c κs. search needs) returns-2 (λ c. search needs) (λ c. search needs)
+    (λ c κs. search needs) (λ c κs. search needs) returns-3 (λ c. search needs) cast-count
+    (λ c κs. search needs) returns-4 (λ c. search needs) (λ c. search needs) (λ c κs. search needs)
+    returns-5 (λ c κs. search needs) (λ c κs. search needs) (λ c κs. search needs) returns-6
     returns-7)

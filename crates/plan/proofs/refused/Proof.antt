@@ -1,6 +1,6 @@
 -- `plan::refused` meets its contract: the number, beside the empty plan.
-use borrow.Author.Needs.{needs}
-use Rattle.answer.specs.Number.{numberOf}
+use Rattle.laws.proofs.Base.{needs}
+use Rattle.refusals.specs.Number.{numberOf}
 use Rattle.plan.proofs.refused.Statement.{statement}
 use Rattle.plan.proofs.refused.Tie as tie
 

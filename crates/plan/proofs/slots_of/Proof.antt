@@ -1,6 +1,5 @@
 -- `plan::slots_of` meets its contract: a count over 48 is cut.
-use native.Mathlib.Omega.{arith}
-use borrow.Author.Tests.{lt-ltb, le-ltb}
+use Rattle.laws.proofs.Base.{arith, lt-ltb, le-ltb}
 use Rattle.plan.proofs.slots_of.Statement.{statement}
 use Rattle.plan.proofs.slots_of.Tie as tie
 

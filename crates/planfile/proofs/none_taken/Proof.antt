@@ -1,17 +1,12 @@
 -- `planfile::none_taken` meets its contract.
-use mathlib.Core.Path.{ap}
-use mathlib.Core.Bool.{false}
-use borrow.Author.Needs.{needs}
+use Rattle.laws.proofs.Base.{ap, false, needs}
 use Rattle.plan.specs.Paper.{Plan}
 use Rattle.planfile.specs.Taken.{Taken}
 use Rattle.planfile.proofs.none_taken.Statement.{statement}
 use Rattle.planfile.proofs.none_taken.Tie as tie
 
-empty-plan-requires : tie.Need-empty-plan-requires
-empty-plan-requires c κs = search needs
-
 returns : tie.Need-returns
 returns c = ap {B = Taken} (λ (p : Plan). record { good = false; plan = p }) (c .empty-plan .ensures)
 
 pub none-taken-spec : {M : Type 1} → statement M
-none-taken-spec = tie.close (tie.spec empty-plan-requires returns)
+none-taken-spec = tie.close (tie.spec (λ c κs. search needs) returns)

@@ -1,5 +1,5 @@
 -- `planfile::put_begin` meets its contract: the parts of the line, one behind the other.
-use borrow.Author.Needs.{needs}
+use Rattle.laws.proofs.Base.{needs}
 use Rattle.lines.specs.Paper.{ascii}
 use Rattle.lines.proofs.Texts.{and-then, and-last, and-others}
 use Rattle.planfile.specs.Refused.{numbered}
@@ -28,15 +28,6 @@ pub put-begin-spec : {M : Type 1} → statement M
 put-begin-spec =
     tie.close
     (tie.spec
-    (λ c κs. search needs)
-    (λ c κs. search needs)
-    (λ c. search needs)
-    (λ c κs. search needs)
-    (λ c κs. search needs)
-    (λ c. search needs)
-    (λ c κs. search needs)
-    (λ c κs. search needs)
-    (λ c. search needs)
-    (λ c κs. search needs)
-    (λ c. search needs)
-    returns)
+    (λ c κs. search needs) (λ c κs. search needs) (λ c. search needs) (λ c κs. search needs)
+    (λ c κs. search needs) (λ c. search needs) (λ c κs. search needs) (λ c κs. search needs)
+    (λ c. search needs) (λ c κs. search needs) (λ c. search needs) returns)

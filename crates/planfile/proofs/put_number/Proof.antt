@@ -1,5 +1,5 @@
 -- `planfile::put_number` meets its contract: three texts, one behind the other.
-use borrow.Author.Needs.{needs}
+use Rattle.laws.proofs.Base.{needs}
 use Rattle.lines.specs.Paper.{ascii}
 use Rattle.lines.proofs.Texts.{and-then, and-last}
 use Rattle.planfile.proofs.put_number.Statement.{statement}
@@ -17,10 +17,5 @@ pub put-number-spec : {M : Type 1} → statement M
 put-number-spec =
     tie.close
     (tie.spec
-    (λ c. search needs)
-    (λ c κs. search needs)
-    (λ c κs. search needs)
-    (λ c. search needs)
-    (λ c κs. search needs)
-    (λ c. search needs)
-    returns)
+    (λ c. search needs) (λ c κs. search needs) (λ c κs. search needs) (λ c. search needs)
+    (λ c κs. search needs) (λ c. search needs) returns)

@@ -1,6 +1,6 @@
 -- `planfile::put_refused` meets its contract: the parts of the line, one behind the other.
-use borrow.Author.Needs.{needs}
-use Rattle.answer.specs.Number.{numberOf}
+use Rattle.laws.proofs.Base.{needs}
+use Rattle.refusals.specs.Number.{numberOf}
 use Rattle.lines.specs.Paper.{ascii}
 use Rattle.planfile.specs.Refused.{numbered}
 use Rattle.lines.proofs.Texts.{and-then, and-last, and-others}
@@ -28,12 +28,5 @@ pub put-refused-spec : {M : Type 1} → statement M
 put-refused-spec =
     tie.close
     (tie.spec
-    (λ c κs. search needs)
-    (λ c κs. search needs)
-    (λ c κs. search needs)
-    (λ c κs. search needs)
-    (λ c κs. search needs)
-    (λ c. search needs)
-    (λ c κs. search needs)
-    (λ c. search needs)
-    returns)
+    (λ c κs. search needs) (λ c κs. search needs) (λ c κs. search needs) (λ c κs. search needs)
+    (λ c κs. search needs) (λ c. search needs) (λ c κs. search needs) (λ c. search needs) returns)

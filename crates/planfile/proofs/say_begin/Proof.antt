@@ -1,16 +1,8 @@
 -- `planfile::say_begin` meets its contract: the line is that of `put_begin`, and ends within the memory for it.
-use mathlib.Core.Path.{sym}
-use Prim.Native.Nat.{_≤_}
-use native.Mathlib.Omega.{arith}
-use lib.ListN.{length}
-use lib.Seq.{length-take-le}
-use borrow.Author.Needs.{needs}
+use Rattle.laws.proofs.Base.{sym, _≤_, arith, length, length-take-le, needs}
 use Rattle.lines.proofs.Texts.{ends-all}
 use Rattle.planfile.proofs.say_begin.Statement.{statement}
 use Rattle.planfile.proofs.say_begin.Tie as tie
-
-put-begin-requires : tie.Need-put-begin-requires
-put-begin-requires c κs = search needs
 
 few : (c : tie.After-put-begin) → c .put-begin .result ≤ length (c .before .before .before .before .before .args .text .now)
 few c = ends-all _ _ _ _ (omega arith) (c .put-begin .ensures)
@@ -21,22 +13,9 @@ slice-reshare-prefix-write-all c = omega (arith, few (c .before .before), c .bef
 slice-aggregate-write-all : tie.Need-slice-aggregate-write-all
 slice-aggregate-write-all c = sym (length-take-le _ _ (omega (arith, few (c .before .before .before), c .before .before .before .put-begin .kept)))
 
-write-all-requires : tie.Need-write-all-requires
-write-all-requires c κs = search needs
-
-same-length : tie.Need-same-length
-same-length c = search needs
-
-returns : tie.Need-returns
-returns c = search needs
-
 pub say-begin-spec : {M : Type 1} → statement M
 say-begin-spec =
     tie.close
     (tie.spec
-    put-begin-requires
-    slice-reshare-prefix-write-all
-    slice-aggregate-write-all
-    write-all-requires
-    same-length
-    returns)
+    (λ c κs. search needs) slice-reshare-prefix-write-all slice-aggregate-write-all
+    (λ c κs. search needs) (λ c. search needs) (λ c. search needs))

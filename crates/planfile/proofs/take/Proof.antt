@@ -1,10 +1,5 @@
 -- `planfile::take` meets its contract: what it gives is a plan that was taken, or the empty one.
-use mathlib.Core.Path.{sym, ap}
-use Prim.Native.Nat.{_≤_}
-use native.Mathlib.Omega.{arith}
-use lib.ListN.{length}
-use lib.Seq.{length-take-le}
-use borrow.Author.Needs.{needs}
+use Rattle.laws.proofs.Base.{sym, ap, _≤_, arith, length, length-take-le, needs}
 use Rattle.lines.specs.Asked.{named}
 use Rattle.planfile.specs.Taken.{takenOf}
 use Rattle.planfile.proofs.Good.{untaken-good}
@@ -30,15 +25,6 @@ pub take-spec : {M : Type 1} → statement M
 take-spec =
     tie.close
     (tie.spec
-    (λ c κs. search needs)
-    (λ c. search needs)
-    (λ c κs. search needs)
-    (λ c. search needs)
-    array-share-prefix-path
-    slice-aggregate-take-open
-    (λ c κs. search needs)
-    (λ c κs. search needs)
-    (λ c. search needs)
-    (λ c κs. search needs)
-    (λ c. search needs)
-    returns-2)
+    (λ c κs. search needs) (λ c. search needs) (λ c κs. search needs) (λ c. search needs)
+    array-share-prefix-path slice-aggregate-take-open (λ c κs. search needs) (λ c κs. search needs)
+    (λ c. search needs) (λ c κs. search needs) (λ c. search needs) returns-2)

@@ -1,10 +1,5 @@
 -- `planfile::take_open` meets its contract, and what was read lies in the memory for it.
-use mathlib.Core.Path.{_≡_, sym, ap, _∙_}
-use Prim.Native.Nat.{ℕ, _≤_}
-use native.Mathlib.Omega.{arith}
-use lib.ListN.{length, replicate, length-replicate}
-use lib.Seq.{length-take-le}
-use borrow.Author.Needs.{needs}
+use Rattle.laws.proofs.Base.{_≡_, sym, ap, _∙_, ℕ, _≤_, arith, length, replicate, length-replicate, length-take-le, needs}
 use Rattle.lines.specs.Chunk.{filled}
 use Rattle.planfile.specs.Taken.{takenOf}
 use Rattle.planfile.proofs.Good.{untaken-good, taken-good}
@@ -31,15 +26,8 @@ pub take-open-spec : {M : Type 1} → statement M
 take-open-spec =
     tie.close
     (tie.spec
-    (λ c. search needs)
-    (λ c κs. search needs)
-    (λ c. search needs)
-    array-share-prefix-file
-    slice-aggregate-take-octets
-    (λ c κs. search needs)
-    (λ c. search needs)
-    (λ c. search needs)
-    (λ c κs. search needs)
-    (λ c κs. search needs)
+    (λ c. search needs) (λ c κs. search needs) (λ c. search needs) array-share-prefix-file
+    slice-aggregate-take-octets (λ c κs. search needs) (λ c. search needs) (λ c. search needs)
+    (λ c κs. search needs) (λ c κs. search needs)
     (λ c. taken-good (takenOf (c .take-octets .result)) _ (c .take-octets .ensures))
     (λ c. untaken-good (takenOf (c .none-taken .result)) (c .none-taken .ensures)))

@@ -1,20 +1,9 @@
 -- `schedule::description_at` meets its contract: each answer is told from that of the reader with all places.
-use mathlib.Core.Path.{ap}
-use native.Mathlib.Omega.{arith}
-use borrow.Author.Needs.{needs}
+use Rattle.laws.proofs.Base.{ap, arith, needs}
 use Rattle.schedule.specs.Coded.{readOf, placedOf}
 use Rattle.schedule.proofs.Givens.{Good, given-refused, given-good, given-none, given-next}
 use Rattle.schedule.proofs.description_at.Statement.{statement}
 use Rattle.schedule.proofs.description_at.Tie as tie
-
-read-places-requires : tie.Need-read-places-requires
-read-places-requires c κs = search needs
-
-enum-known-answer : tie.Need-enum-known-answer
-enum-known-answer c = search needs
-
-enum-known-answer-2 : tie.Need-enum-known-answer-2
-enum-known-answer-2 c = search needs
 
 returns : tie.Need-returns
 returns c =
@@ -67,14 +56,5 @@ pub description-at-spec : {M : Type 1} → statement M
 description-at-spec =
     tie.close
     (tie.spec
-    read-places-requires
-    enum-known-answer
-    enum-known-answer-2
-    returns
-    slot-at-requires
-    add-t12
-    mul-shown
-    array-read-shown
-    shown-requires
-    returns-2
-    returns-3)
+    (λ c κs. search needs) (λ c. search needs) (λ c. search needs) returns slot-at-requires add-t12
+    mul-shown array-read-shown shown-requires returns-2 returns-3)

@@ -1,12 +1,7 @@
 -- `schedule::find_group` meets its contract. The invariant: the slots passed are found, and the place is that after their descriptions.
-use mathlib.Core.Path.{_≡_, refl, sym, ap, _∙_}
-use mathlib.Core.Logic.{⊎-elim}
-use Prim.Native.Nat.{_≤_, _-_, _<_}
-use native.Mathlib.Omega.{arith}
-use lib.ListN.{length, length-set}
-use borrow.Author.Needs.{needs}
+use Rattle.laws.proofs.Base.{_≡_, refl, sym, ap, _∙_, ⊎-elim, _≤_, _-_, _<_, arith, length, length-set, needs}
 use Rattle.schedule.specs.Paper.{end as endOf}
-use Rattle.schedule.specs.Parts.{Finds, steppedOf}
+use Rattle.schedule.specs.Inner.{Finds, steppedOf}
 use Rattle.schedule.proofs.Finds.{finds-none, finds-skip, finds-take, finds-short}
 use Rattle.schedule.proofs.News.{grouped-told}
 use Rattle.schedule.proofs.find_group.Statement.{statement}
@@ -24,42 +19,12 @@ loop-holds c =
     let a = c .before .args in
     (omega arith, search needs, search needs, search needs, finds-none (a .message .now) (a .new) (a .places) (a .firsts) (a .from) (c .before .pre .1))
 
-is-new-requires : tie.Need-is-new-requires Inv-loop μ-loop
-is-new-requires c κs = search needs
-
-step-at-requires : tie.Need-step-at-requires Inv-loop μ-loop
-step-at-requires c κs = search needs
-
-enum-known-description : tie.Need-enum-known-description Inv-loop μ-loop
-enum-known-description c = search needs
-
-enum-told : tie.Need-enum-told Inv-loop μ-loop
-enum-told c = search needs
-
 returns : tie.Need-returns Inv-loop μ-loop
 returns c =
     let a = c .before .before .before .before .before .before .before .before .args in
     let l = c .before .before .before .before .before .before .loop in
     let inside = grouped-told (a .message .now) (l .i) (a .new) _ _ (c .before .before .before .before .is-new .ensures) (c .before .before .before .if1 .taken) in
     (refl, finds-short (a .message .now) (a .new) (a .places) (a .firsts) (l .i) (l .at) (l .found) (l .marked) (l .inv .4) inside (a .received) (omega arith) (sym (ap steppedOf (c .enum-told .given .1)) ∙ c .before .before .step-at .ensures))
-
-mul-found : tie.Need-mul-found Inv-loop μ-loop
-mul-found c = search needs
-
-array-write-found : tie.Need-array-write-found Inv-loop μ-loop
-array-write-found c = search needs
-
-is-first-requires : tie.Need-is-first-requires Inv-loop μ-loop
-is-first-requires c κs = search needs
-
-array-write-marked : tie.Need-array-write-marked Inv-loop μ-loop
-array-write-marked c = search needs
-
-add-i : tie.Need-add-i Inv-loop μ-loop
-add-i c = search needs
-
-loop-less : tie.Need-loop-less Inv-loop μ-loop
-loop-less c = search needs
 
 loop-again : tie.Need-loop-again Inv-loop μ-loop
 loop-again c =
@@ -87,19 +52,6 @@ pub find-group-spec : {M : Type 1} → statement M
 find-group-spec =
     tie.close
     (tie.spec
-    Inv-loop
-    μ-loop
-    loop-holds
-    is-new-requires
-    step-at-requires
-    enum-known-description
-    enum-told
-    returns
-    mul-found
-    array-write-found
-    is-first-requires
-    array-write-marked
-    add-i
-    loop-less
-    loop-again
-    returns-2)
+    Inv-loop μ-loop loop-holds (λ c κs. search needs) (λ c κs. search needs) (λ c. search needs)
+    (λ c. search needs) returns (λ c. search needs) (λ c. search needs) (λ c κs. search needs)
+    (λ c. search needs) (λ c. search needs) (λ c. search needs) loop-again returns-2)

@@ -1,8 +1,5 @@
 -- `schedule::read_header` meets its contract: each answer is a case of the header.
-use mathlib.Core.Path.{sym, _∙_}
-use native.Mathlib.Omega.{arith}
-use borrow.Author.Tests.{not-true, not-false}
-use borrow.Author.Needs.{needs}
+use Rattle.laws.proofs.Base.{sym, _∙_, arith, not-true, not-false, needs}
 use Rattle.schedule.proofs.Header.{head-length, head-received, head-type, head-range, head-new, head-good, within-zero, within-over, within-last, within-good}
 use Rattle.schedule.proofs.read_header.Statement.{statement}
 use Rattle.schedule.proofs.read_header.Tie as tie
@@ -10,20 +7,11 @@ use Rattle.schedule.proofs.read_header.Tie as tie
 returns : tie.Need-returns
 returns c = head-length _ _ (c .if1 .taken)
 
-whole-blocks-requires : tie.Need-whole-blocks-requires
-whole-blocks-requires c κs = search needs
-
 returns-2 : tie.Need-returns-2
 returns-2 c = head-received _ _ (c .before .before .if1 .left) (sym (c .before .whole-blocks .ensures) ∙ not-true _ (c .if2 .taken))
 
-shared-slice-read-begin : tie.Need-shared-slice-read-begin
-shared-slice-read-begin c = search needs
-
 cast-begin : tie.Need-cast-begin
 cast-begin c = omega (arith, c .shared-slice-known2 .given 0 .fits)
-
-shared-slice-read-end : tie.Need-shared-slice-read-end
-shared-slice-read-end c = search needs
 
 cast-end : tie.Need-cast-end
 cast-end c = omega (arith, c .shared-slice-known3 .given 1 .fits)
@@ -40,9 +28,6 @@ returns-5 c = head-range _ _ (c .before .before .before .before .before .before 
 returns-6 : tie.Need-returns-6
 returns-6 c = head-range _ _ (c .before .before .before .before .before .before .before .before .if1 .left) (sym (c .before .before .before .before .before .before .before .whole-blocks .ensures) ∙ not-false _ (c .before .before .before .before .before .before .if2 .left)) (c .before .before .before .if3 .left) (within-last (c .before .before .before .before .before .before .before .before .before .before .args .message .now) (c .before .before .before .if3 .left) (c .if6 .taken))
 
-has-new-past-requires : tie.Need-has-new-past-requires
-has-new-past-requires c κs = search needs
-
 returns-7 : tie.Need-returns-7
 returns-7 c = head-new _ _ (c .before .before .before .before .before .before .before .before .before .before .if1 .left) (sym (c .before .before .before .before .before .before .before .before .before .whole-blocks .ensures) ∙ not-false _ (c .before .before .before .before .before .before .before .before .if2 .left)) (c .before .before .before .before .before .if3 .left) (within-good (c .before .before .before .before .before .before .before .before .before .before .before .before .args .message .now) (c .before .before .before .before .before .if3 .left) (c .before .before .before .before .if4 .left) (c .before .before .before .if5 .left) (c .before .before .if6 .left)) (sym (c .before .has-new-past .ensures) ∙ c .if7 .taken)
 
@@ -53,17 +38,5 @@ pub read-header-spec : {M : Type 1} → statement M
 read-header-spec =
     tie.close
     (tie.spec
-    returns
-    whole-blocks-requires
-    returns-2
-    shared-slice-read-begin
-    cast-begin
-    shared-slice-read-end
-    cast-end
-    returns-3
-    returns-4
-    returns-5
-    returns-6
-    has-new-past-requires
-    returns-7
-    returns-8)
+    returns (λ c κs. search needs) returns-2 (λ c. search needs) cast-begin (λ c. search needs)
+    cast-end returns-3 returns-4 returns-5 returns-6 (λ c κs. search needs) returns-7 returns-8)

@@ -1,27 +1,12 @@
 -- `schedule::read_places` meets its contract: each answer is a case of the reader with all places.
-use mathlib.Core.Path.{refl, sym, ap, _∙_}
-use native.Mathlib.Nat.{zero-add}
-use native.Mathlib.Omega.{arith}
-use borrow.Author.Needs.{needs}
-use Rattle.schedule.specs.Parts.{unplacedBy}
+use Rattle.laws.proofs.Base.{refl, sym, ap, _∙_, zero-add, arith, needs}
+use Rattle.schedule.specs.Inner.{unplacedBy}
 use Rattle.schedule.specs.Coded.{readOf}
 use Rattle.schedule.specs.Paper.{place}
 use Rattle.schedule.specs.declared.Reading.{Reading}
 use Rattle.schedule.proofs.Placing.{Headed, head-read, head-refused, readable, placed-short-new, placed-short-rest, all-firsts, placed-false, placed-good}
 use Rattle.schedule.proofs.read_places.Statement.{statement}
 use Rattle.schedule.proofs.read_places.Tie as tie
-
-read-header-requires : tie.Need-read-header-requires
-read-header-requires c κs = search needs
-
-enum-known-header : tie.Need-enum-known-header
-enum-known-header c = search needs
-
-enum-told : tie.Need-enum-told
-enum-told c = search needs
-
-refused-requires : tie.Need-refused-requires
-refused-requires c κs = search needs
 
 returns : tie.Need-returns
 returns c =
@@ -35,15 +20,6 @@ find-group-requires c κs =
     let a = c .before .before .before .before .before .args in
     let h = head-read (a .message .now) (a .received) _ _ (sym (ap readOf (c .before .header .given .1)) ∙ c .before .before .before .read-header .ensures) in
     (readable (a .message .now) (a .received) _ _ h, refl, omega (arith, h .room))
-
-enum-known-reach : tie.Need-enum-known-reach
-enum-known-reach c = search needs
-
-enum-told-2 : tie.Need-enum-told-2
-enum-told-2 c = search needs
-
-refused-requires-2 : tie.Need-refused-requires-2
-refused-requires-2 c κs = search needs
 
 returns-2 : tie.Need-returns-2
 returns-2 c =
@@ -66,15 +42,6 @@ find-group-requires-2 c κs =
     let g = rw (r .reach .given .1) at (r .before .before .find-group .ensures) in
     (readable _ _ _ _ (headed c), g .0 .reached ∙ rw zero-add, g .1)
 
-enum-told-3 : tie.Need-enum-told-3
-enum-told-3 c = search needs
-
-enum-told-4 : tie.Need-enum-told-4
-enum-told-4 c = search needs
-
-refused-requires-3 : tie.Need-refused-requires-3
-refused-requires-3 c κs = search needs
-
 returns-3 : tie.Need-returns-3
 returns-3 c =
     let b = c .before .before .before in
@@ -89,9 +56,6 @@ has-false-repeat-requires c κs =
     let g = rw (c .before .before .enum-told3 .given .1) at (b .find-group2 .ensures) in
     let h = headed (b .before) in
     (h .last, all-firsts _ _ _ _ h _ _ _ _ _ _ (n .0) (g .0) (g .1))
-
-refused-requires-4 : tie.Need-refused-requires-4
-refused-requires-4 c κs = search needs
 
 returns-4 : tie.Need-returns-4
 returns-4 c =
@@ -116,22 +80,7 @@ pub read-places-spec : {M : Type 1} → statement M
 read-places-spec =
     tie.close
     (tie.spec
-    read-header-requires
-    enum-known-header
-    enum-told
-    refused-requires
-    returns
-    find-group-requires
-    enum-known-reach
-    enum-told-2
-    refused-requires-2
-    returns-2
-    find-group-requires-2
-    enum-told-3
-    enum-told-4
-    refused-requires-3
-    returns-3
-    has-false-repeat-requires
-    refused-requires-4
-    returns-4
-    returns-5)
+    (λ c κs. search needs) (λ c. search needs) (λ c. search needs) (λ c κs. search needs) returns
+    find-group-requires (λ c. search needs) (λ c. search needs) (λ c κs. search needs) returns-2
+    find-group-requires-2 (λ c. search needs) (λ c. search needs) (λ c κs. search needs) returns-3
+    has-false-repeat-requires (λ c κs. search needs) returns-4 returns-5)

@@ -1,8 +1,5 @@
 -- `schedule_calls::cb_slots` meets its contract: all slots told from the places of the message's descriptions.
-use mathlib.Core.Path.{sym, ap, _∙_}
-use Prim.Native.Nat.{ℕ, _<_}
-use native.Mathlib.Omega.{arith}
-use borrow.Author.Needs.{needs}
+use Rattle.laws.proofs.Base.{sym, ap, _∙_, ℕ, _<_, arith, needs}
 use Rattle.schedule_calls.proofs.Slots.{slots-length, refuses-slots, found-shows, found-small, tells-slots}
 use Rattle.schedule_calls.proofs.cb_slots.Statement.{statement}
 use Rattle.schedule_calls.proofs.cb_slots.Tie as tie
@@ -62,20 +59,6 @@ pub cb-slots-spec : {M : Type 1} → statement M
 cb-slots-spec =
     tie.close
     (tie.spec
-    (λ c κs. search needs)
-    (λ c. search needs)
-    returns
-    (λ c κs. search needs)
-    (λ c. search needs)
-    (λ c κs. search needs)
-    (λ c. search needs)
-    (λ c. search needs)
-    tell-requires
-    cast-result-3
-    mul-result
-    cast-result-4
-    mul-result-2
-    add-result
-    returns-2
-    (λ c. search needs)
-    returns-3)
+    (λ c κs. search needs) (λ c. search needs) returns (λ c κs. search needs) (λ c. search needs)
+    (λ c κs. search needs) (λ c. search needs) (λ c. search needs) tell-requires cast-result-3
+    mul-result cast-result-4 mul-result-2 add-result returns-2 (λ c. search needs) returns-3)

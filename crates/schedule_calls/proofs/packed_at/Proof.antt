@@ -1,7 +1,5 @@
 -- `schedule_calls::packed_at` meets its contract: the code and the new bit of a slot up to End, packed.
-use Prim.Native.Nat.{_<_}
-use native.Mathlib.Omega.{arith}
-use borrow.Author.Needs.{needs}
+use Rattle.laws.proofs.Base.{_<_, arith, needs}
 use Rattle.schedule_calls.proofs.Packed.{bit-small, packed-past, packed-inside, packed-fits}
 use Rattle.schedule_calls.proofs.packed_at.Statement.{statement}
 use Rattle.schedule_calls.proofs.packed_at.Tie as tie
@@ -36,10 +34,5 @@ pub packed-at-spec : {M : Type 1} → statement M
 packed-at-spec =
     tie.close
     (tie.spec
-    returns
-    (λ c κs. search needs)
-    (λ c κs. search needs)
-    (λ c. search needs)
-    mul-result
-    add-result
+    returns (λ c κs. search needs) (λ c κs. search needs) (λ c. search needs) mul-result add-result
     returns-2)

@@ -1,9 +1,5 @@
 -- `schedule_calls::tell` meets its contract: the slots before the loop's are told.
-use mathlib.Core.Path.{_≡_}
-use Prim.Native.Nat.{_≤_, _-_}
-use native.Mathlib.Omega.{arith}
-use lib.ListN.{length, take, length-set}
-use borrow.Author.Needs.{needs}
+use Rattle.laws.proofs.Base.{_≡_, _≤_, _-_, arith, length, take, length-set, needs}
 use Rattle.laws.specs.Upto.{each}
 use Rattle.schedule_calls.specs.Paper.{packedSlot}
 use Rattle.schedule_calls.proofs.Slots.{slots-start, slots-turn, slots-end}
@@ -27,9 +23,6 @@ loop-again c =
     let b = c .before .before .before .before .before in
     (search needs, simp length-set (omega arith), slots-turn (b .args .message .now) (b .args .t2) (b .args .end) (b .pre .1) (l .slots) (l .i) (l .inv .2) (c .packed-at .result) (c .packed-at .ensures) (omega arith))
 
-same-length : tie.Need-same-length Inv-loop μ-loop
-same-length c = search needs
-
 returns : tie.Need-returns Inv-loop μ-loop
 returns c =
     let l = c .before .loop in
@@ -40,16 +33,6 @@ pub tell-spec : {M : Type 1} → statement M
 tell-spec =
     tie.close
     (tie.spec
-    Inv-loop
-    μ-loop
-    loop-holds
-    (λ c. search needs)
-    (λ c. search needs)
-    (λ c κs. search needs)
-    (λ c. search needs)
-    (λ c. search needs)
-    (λ c. search needs)
-    (λ c. search needs)
-    loop-again
-    same-length
-    returns)
+    Inv-loop μ-loop loop-holds (λ c. search needs) (λ c. search needs) (λ c κs. search needs)
+    (λ c. search needs) (λ c. search needs) (λ c. search needs) (λ c. search needs) loop-again
+    (λ c. search needs) returns)

@@ -1,14 +1,10 @@
 -- `sender::compose` meets its contract.
-use native.Mathlib.Omega.{arith}
+use Rattle.laws.proofs.Base.{arith, needs}
 use Rattle.sender.specs.Coded.{shownIn}
 use Rattle.sender.proofs.Groups.{length-descriptions}
 use Rattle.sender.proofs.Message.{message-put}
-use borrow.Author.Needs.{needs}
 use Rattle.sender.proofs.compose.Statement.{statement}
 use Rattle.sender.proofs.compose.Tie as tie
-
-header-requires : tie.Need-header-requires
-header-requires c κs = search needs
 
 put-group-requires : tie.Need-put-group-requires
 put-group-requires c κs =
@@ -29,4 +25,4 @@ returns c =
     (c .before .before .before .put-group .ensures .0) (c .before .before .before .put-group .ensures .1) (c .before .put-group2 .ensures .0)
 
 pub compose-spec : {M : Type 1} → statement M
-compose-spec = tie.close (tie.spec header-requires put-group-requires put-group-requires-2 returns)
+compose-spec = tie.close (tie.spec (λ c κs. search needs) put-group-requires put-group-requires-2 returns)

@@ -1,5 +1,5 @@
 -- `sender::new_bit` meets its contract.
-use borrow.Author.Tests.{not-true, not-false}
+use Rattle.laws.proofs.Base.{not-true, not-false}
 use Rattle.sender.proofs.new_bit.Statement.{statement}
 use Rattle.sender.proofs.new_bit.Tie as tie
 

@@ -1,8 +1,5 @@
 -- `sender::new_octet` meets its contract. The invariant: the bits so far.
-use mathlib.Core.Path.{_≡_, sym}
-use Prim.Native.Nat.{_+_, _*_, _≤_, _-_}
-use native.Mathlib.Omega.{arith}
-use borrow.Author.Needs.{needs}
+use Rattle.laws.proofs.Base.{_≡_, sym, _+_, _*_, _≤_, _-_, arith, needs}
 use Rattle.sender.specs.Paper.{newBit, newBits}
 use Rattle.sender.specs.Coded.{shownIn}
 use Rattle.sender.proofs.News.{newBit-few, newBits-room, newBits-none, newBits-next}
@@ -18,25 +15,10 @@ abbrev μ-loop : tie.MeasureT-loop
 loop-holds : tie.Need-loop-holds Inv-loop μ-loop
 loop-holds c = (omega arith, sym (newBits-none (shownIn (c .args .t1)) _ _))
 
-mul-i : tie.Need-mul-i Inv-loop μ-loop
-mul-i c = search needs
-
-add-i : tie.Need-add-i Inv-loop μ-loop
-add-i c = search needs
-
-mul-slot : tie.Need-mul-slot Inv-loop μ-loop
-mul-slot c = search needs
-
-array-copy-out-slot : tie.Need-array-copy-out-slot Inv-loop μ-loop
-array-copy-out-slot c = search needs
-
 mul-bits : tie.Need-mul-bits Inv-loop μ-loop
 mul-bits c =
     let a = c .before .before .before .args in
     omega (arith, newBits-room (shownIn (a .t1)) (a .count) (a .j) (c .before .before .loop .k) (c .before .loop-test .taken))
-
-new-bit-requires : tie.Need-new-bit-requires Inv-loop μ-loop
-new-bit-requires c κs = search needs
 
 add-bits : tie.Need-add-bits Inv-loop μ-loop
 add-bits c =
@@ -44,12 +26,6 @@ add-bits c =
     let k = c .before .before .before .loop .k in
     let b : c .new-bit .result ≡ newBit (shownIn (a .t1)) (a .count) (8 * a .j + k) = c .new-bit .ensures in
     omega (arith, newBits-room (shownIn (a .t1)) (a .count) (a .j) k (c .before .before .loop-test .taken), newBit-few (shownIn (a .t1)) (a .count) (a .j) (8 * a .j + k))
-
-add-k : tie.Need-add-k Inv-loop μ-loop
-add-k c = search needs
-
-loop-less : tie.Need-loop-less Inv-loop μ-loop
-loop-less c = search needs
 
 loop-again : tie.Need-loop-again Inv-loop μ-loop
 loop-again c =
@@ -67,17 +43,6 @@ pub new-octet-spec : {M : Type 1} → statement M
 new-octet-spec =
     tie.close
     (tie.spec
-    Inv-loop
-    μ-loop
-    loop-holds
-    mul-i
-    add-i
-    mul-slot
-    array-copy-out-slot
-    mul-bits
-    new-bit-requires
-    add-bits
-    add-k
-    loop-less
-    loop-again
-    returns)
+    Inv-loop μ-loop loop-holds (λ c. search needs) (λ c. search needs) (λ c. search needs)
+    (λ c. search needs) mul-bits (λ c κs. search needs) add-bits (λ c. search needs)
+    (λ c. search needs) loop-again returns)

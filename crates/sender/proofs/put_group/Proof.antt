@@ -1,11 +1,5 @@
 -- `sender::put_group` meets its contract. The invariant: the descriptions passed are put one after the other.
-use mathlib.Core.Path.{_≡_, refl}
-use mathlib.Core.Logic.{⊎-elim}
-use Prim.Native.Nat.{_≤_, _-_, _+_}
-use native.Mathlib.Omega.{arith}
-use borrow.Author.Needs.{needs}
-use lib.ListN.{length}
-use lib.Seq.{sets}
+use Rattle.laws.proofs.Base.{_≡_, refl, ⊎-elim, _≤_, _-_, _+_, arith, needs, length, sets}
 use Rattle.sender.specs.Coded.{shownIn}
 use Rattle.sender.proofs.Groups.{told, told-none, told-out, told-room, put-in}
 use Rattle.sender.proofs.put_group.Statement.{statement}
@@ -22,24 +16,12 @@ loop-holds c =
     let a = c .args in
     rw (told-none (shownIn (a .t3)) (a .new)) (omega arith, refl, omega arith)
 
-mul-slot : tie.Need-mul-slot Inv-loop μ-loop
-mul-slot c = search needs
-
-array-copy-out-slot : tie.Need-array-copy-out-slot Inv-loop μ-loop
-array-copy-out-slot c = search needs
-
 put-requires : tie.Need-put-requires Inv-loop μ-loop
 put-requires c κs =
     let a = c .before .before .before .before .before .before .args in
     let l = c .before .before .before .before .before .loop in
     let p = c .before .before .before .before .before .before .pre in
     (p .1 (l .i) (omega arith), omega (arith, told-room (shownIn (a .t3)) (a .new) (a .count) (l .i) (c .before .before .before .before .loop-test .taken) (c .before .if1 .taken)))
-
-add-i : tie.Need-add-i Inv-loop μ-loop
-add-i c = search needs
-
-loop-less : tie.Need-loop-less Inv-loop μ-loop
-loop-less c = search needs
 
 loop-again : tie.Need-loop-again Inv-loop μ-loop
 loop-again c =
@@ -63,13 +45,5 @@ pub put-group-spec : {M : Type 1} → statement M
 put-group-spec =
     tie.close
     (tie.spec
-    Inv-loop
-    μ-loop
-    loop-holds
-    mul-slot
-    array-copy-out-slot
-    put-requires
-    add-i
-    loop-less
-    loop-again
-    returns)
+    Inv-loop μ-loop loop-holds (λ c. search needs) (λ c. search needs) put-requires
+    (λ c. search needs) (λ c. search needs) loop-again returns)

@@ -1,8 +1,5 @@
 -- `sender::tell` meets its contract: each return is a case of what is told.
-use mathlib.Core.Path.{sym, _∙_}
-use native.Mathlib.Numerals.{add-one}
-use native.Mathlib.Omega.{arith}
-use borrow.Author.Needs.{needs}
+use Rattle.laws.proofs.Base.{sym, _∙_, add-one, arith, needs}
 use Rattle.plan.specs.Coded.{plannedOf}
 use Rattle.sender.proofs.Tells.{tells-advised, tells-optional, tells-first, tells-again}
 use Rattle.sender.proofs.tell.Statement.{statement}
@@ -18,9 +15,6 @@ returns-2 c =
     let a = c .before .before .before .before .args in
     tells-optional (plannedOf (a .said)) (a .i) (c .before .before .if1 .left) (c .if2 .taken)
 
-add-if3 : tie.Need-add-if3
-add-if3 c = search needs
-
 returns-3 : tie.Need-returns-3
 returns-3 c =
     let a = c .before .before .before .before .before .before .args in
@@ -35,4 +29,4 @@ returns-4 c =
     tells-again (plannedOf (a .said)) (a .i) (c .before .before .before .if2 .left) (λ e. c .before .if3 .left (e ∙ sym (add-one _)))
 
 pub tell-spec : {M : Type 1} → statement M
-tell-spec = tie.close (tie.spec returns returns-2 add-if3 returns-3 cast-t8 returns-4)
+tell-spec = tie.close (tie.spec returns returns-2 (λ c. search needs) returns-3 cast-t8 returns-4)

@@ -1,9 +1,5 @@
 -- `sender::width_of_all` meets its contract. The invariant: the octets of the descriptions passed, at most two for each slot.
-use mathlib.Core.Path.{_≡_, sym}
-use Prim.Native.Nat.{_≤_, _-_, _*_}
-use native.Mathlib.Omega.{arith}
-use borrow.Author.Needs.{needs}
-use lib.ListN.{length}
+use Rattle.laws.proofs.Base.{_≡_, sym, _≤_, _-_, _*_, arith, needs, length}
 use Rattle.sender.specs.Paper.{octetsOf, descriptions}
 use Rattle.sender.specs.Coded.{shownIn}
 use Rattle.sender.proofs.Groups.{octetsOf-few, descriptions-none, descriptions-next}
@@ -19,25 +15,10 @@ abbrev μ-loop : tie.MeasureT-loop
 loop-holds : tie.Need-loop-holds Inv-loop μ-loop
 loop-holds c = (omega arith, sym (descriptions-none (shownIn (c .args .t1))), omega arith)
 
-mul-slot : tie.Need-mul-slot Inv-loop μ-loop
-mul-slot c = search needs
-
-array-copy-out-slot : tie.Need-array-copy-out-slot Inv-loop μ-loop
-array-copy-out-slot c = search needs
-
-width-of-requires : tie.Need-width-of-requires Inv-loop μ-loop
-width-of-requires c κs = search needs
-
 add-width : tie.Need-add-width Inv-loop μ-loop
 add-width c =
     let t = shownIn (c .before .before .before .before .args .t1) (c .before .before .before .loop .i) .told in
     omega (arith, octetsOf-few t)
-
-add-i : tie.Need-add-i Inv-loop μ-loop
-add-i c = search needs
-
-loop-less : tie.Need-loop-less Inv-loop μ-loop
-loop-less c = search needs
 
 loop-again : tie.Need-loop-again Inv-loop μ-loop
 loop-again c =
@@ -57,14 +38,5 @@ pub width-of-all-spec : {M : Type 1} → statement M
 width-of-all-spec =
     tie.close
     (tie.spec
-    Inv-loop
-    μ-loop
-    loop-holds
-    mul-slot
-    array-copy-out-slot
-    width-of-requires
-    add-width
-    add-i
-    loop-less
-    loop-again
-    returns)
+    Inv-loop μ-loop loop-holds (λ c. search needs) (λ c. search needs) (λ c κs. search needs)
+    add-width (λ c. search needs) (λ c. search needs) loop-again returns)

@@ -1,15 +1,7 @@
 -- `sender::write_schedule` meets its contract: each return is the first test of the order that holds, and the last writes the message.
-use mathlib.Core.Path.{_≡_, sym, ap, _∙_}
-use mathlib.Core.Bool.{false, and-false}
-use mathlib.Core.List.{List}
-use Prim.Native.Nat.{ℕ, _+_}
-use native.Mathlib.Omega.{arith}
-use denote.Ref.{now}
-use lib.ListN.{length}
-use lib.Dec.{leb}
-use borrow.Author.Tests.{lt-leb}
-use Rattle.answer.specs.Number.{numberOf}
-use Rattle.answer.proofs.Inverse.{numberOf-positive}
+use Rattle.laws.proofs.Base.{_≡_, sym, ap, _∙_, false, and-false, List, ℕ, _+_, arith, now, length, leb, lt-leb, needs}
+use Rattle.refusals.specs.Number.{numberOf}
+use Rattle.refusals.proofs.Inverse.{numberOf-positive}
 use Rattle.laws.proofs.Parts.{copy-whole}
 use Rattle.plan.specs.Paper.{Plan, planNumber}
 use Rattle.plan.specs.Coded.{planOf, verdictOf}
@@ -19,7 +11,6 @@ use Rattle.sender.proofs.Agree.{low-agree, descriptions-agree, message-
 use Rattle.sender.proofs.Cases.{write-15, write-current, write-previous, write-35, write-21, write-34, write-0}
 use Rattle.plan.proofs.GoodPlan.{good-counted}
 use Rattle.sender.proofs.Tells.{planned-low}
-use borrow.Author.Needs.{needs}
 use Rattle.sender.proofs.write_schedule.Statement.{statement}
 use Rattle.sender.proofs.write_schedule.Tie as tie
 
@@ -37,12 +28,6 @@ returns c =
     let s = c .before .before in
     sym (write-15 (current s) (previous s) (s .args .begin) (out s) (c .if1 .taken))
 
-plan-answer-requires : tie.Need-plan-answer-requires
-plan-answer-requires c κs = search needs
-
-enum-known-answer : tie.Need-enum-known-answer
-enum-known-answer c = search needs
-
 returns-2 : tie.Need-returns-2
 returns-2 c =
     let s = c .before .before .before .before .before .before in
@@ -50,15 +35,6 @@ returns-2 c =
     sym
     (write-current (current s) (previous s) (s .args .begin) (out s) (c .before .before .before .before .if1 .left) (numberOf (a .0 .0))
     (sym (ap verdictOf (a .1)) ∙ c .before .before .before .plan-answer .ensures) (numberOf-positive (a .0 .0)))
-
-enum-told : tie.Need-enum-told
-enum-told c = search needs
-
-plan-answer-requires-2 : tie.Need-plan-answer-requires-2
-plan-answer-requires-2 c κs = search needs
-
-enum-known-answer-2 : tie.Need-enum-known-answer-2
-enum-known-answer-2 c = search needs
 
 -- past the current plan's refusals it is good
 current-good : (c : tie.After-enum-told) → planNumber (current (c .before .before .before .before .before)) ≡ 0
@@ -71,9 +47,6 @@ returns-3 c =
     sym
     (write-previous (current s) (previous s) (s .args .begin) (out s) (c .before .before .before .before .before .before .before .if1 .left) (current-good (c .before .before .before .before)) (numberOf (a .0 .0))
     (sym (ap verdictOf (a .1)) ∙ c .before .before .before .plan-answer2 .ensures) (numberOf-positive (a .0 .0)))
-
-enum-told-2 : tie.Need-enum-told-2
-enum-told-2 c = search needs
 
 -- past the previous plan's refusals it is good too
 previous-good : (c : tie.After-enum-told2) → planNumber (previous (c .before .before .before .before .before .before .before .before)) ≡ 0
@@ -108,9 +81,6 @@ telling-requires c κs = good-counted (current (c .before .before .before .befor
 width-of-all-requires : tie.Need-width-of-all-requires
 width-of-all-requires c κs = good-counted (current (c .before .before .before .before .before .before .before .before .before .before .before .before)) (current-good (c .before .before .before .before .before .before .before))
 
-sub-if5 : tie.Need-sub-if5
-sub-if5 c = search needs
-
 -- the width is that of the planned descriptions
 width : (c : tie.After-width-of-all) → c .width-of-all .result ≡ length (descriptions (planned (current (c .before .before .before .before .before .before .before .before .before .before .before .before .before)) (previous (c .before .before .before .before .before .before .before .before .before .before .before .before .before))) (current (c .before .before .before .before .before .before .before .before .before .before .before .before .before) .count))
 width c =
@@ -135,18 +105,6 @@ compose-requires c κs =
       omega arith,
     )
 
-slice-aggregate-copy : tie.Need-slice-aggregate-copy
-slice-aggregate-copy c = search needs
-
-copy-requires : tie.Need-copy-requires
-copy-requires c κs = search needs
-
-add-t13 : tie.Need-add-t13
-add-t13 c = search needs
-
-same-length : tie.Need-same-length
-same-length c = search needs
-
 returns-8 : tie.Need-returns-8
 returns-8 c =
     let s = c .before .before .before .before .before .before .before .before .before .before .before .before .before .before .before .before .before .before .before .before in
@@ -166,25 +124,7 @@ pub write-schedule-spec : {M : Type 1} → statement M
 write-schedule-spec =
     tie.close
     (tie.spec
-    returns
-    plan-answer-requires
-    enum-known-answer
-    returns-2
-    enum-told
-    plan-answer-requires-2
-    enum-known-answer-2
-    returns-3
-    enum-told-2
-    returns-4
-    returns-5
-    returns-6
-    telling-requires
-    width-of-all-requires
-    sub-if5
-    returns-7
-    compose-requires
-    slice-aggregate-copy
-    copy-requires
-    add-t13
-    same-length
-    returns-8)
+    returns (λ c κs. search needs) (λ c. search needs) returns-2 (λ c. search needs)
+    (λ c κs. search needs) (λ c. search needs) returns-3 (λ c. search needs) returns-4 returns-5
+    returns-6 telling-requires width-of-all-requires (λ c. search needs) returns-7 compose-requires
+    (λ c. search needs) (λ c κs. search needs) (λ c. search needs) (λ c. search needs) returns-8)

@@ -1,11 +1,5 @@
 -- `text::bad_parameter` meets its contract: where the page is not 0, a total of 0 is below it.
-use mathlib.Core.Path.{_≡_, refl, sym}
-use mathlib.Core.Bool.{Bool, true, false, _||_}
-use Prim.Native.Nat.{ℕ, _/_, _%_, _<_}
-use native.Mathlib.Nat.{pos-of-ne-zero}
-use native.Mathlib.Omega.{arith}
-use lib.Dec.{eqb, ltb}
-use borrow.Author.Tests.{eq-eqb, ne-eqb, lt-ltb, eqb-true}
+use Rattle.laws.proofs.Base.{_≡_, refl, sym, Bool, true, false, _||_, ℕ, _/_, _%_, _<_, pos-of-ne-zero, arith, eqb, ltb, eq-eqb, ne-eqb, lt-ltb, eqb-true}
 use Rattle.text.specs.Paper.{badParameter}
 use Rattle.text.proofs.bad_parameter.Statement.{statement}
 use Rattle.text.proofs.bad_parameter.Tie as tie

@@ -1,13 +1,6 @@
 -- `text::blank` meets its contract: after i turns the first i places hold 0.
-use mathlib.Core.Path.{_≡_, refl, ap, _∙_}
-use mathlib.Core.List.{List, _++_, append-nil}
-use Prim.Native.Nat.{ℕ, _≤_, _<_, _-_}
-use native.Mathlib.Omega.{arith}
+use Rattle.laws.proofs.Base.{_≡_, refl, ap, _∙_, List, _++_, append-nil, ℕ, _≤_, _<_, _-_, arith, needs, now, length, length-set, set, drop, replicate, drop-length}
 use borrow.Author.Fill.{fill-more}
-use borrow.Author.Needs.{needs}
-use denote.Ref.{now}
-use lib.ListN.{length, length-set, set, drop, replicate}
-use lib.Seq.{drop-length}
 use Rattle.text.proofs.blank.Statement.{statement}
 use Rattle.text.proofs.blank.Tie as tie
 
@@ -41,13 +34,5 @@ pub blank-spec : {M : Type 1} → statement M
 blank-spec =
     tie.close
     (tie.spec
-    Inv-loop
-    μ-loop
-    loop-holds
-    (λ c. search needs)
-    (λ c. search needs)
-    (λ c. search needs)
-    (λ c. search needs)
-    loop-again
-    (λ c. search needs)
-    returns)
+    Inv-loop μ-loop loop-holds (λ c. search needs) (λ c. search needs) (λ c. search needs)
+    (λ c. search needs) loop-again (λ c. search needs) returns)

@@ -1,13 +1,5 @@
 -- `text::ends_in_cr` meets its contract: an empty text has no last character.
-use mathlib.Core.Path.{refl}
-use mathlib.Core.List.{List, [], _∷_}
-use mathlib.Core.Path.{_≡_, sym}
-use mathlib.Core.Bool.{false}
-use Prim.Native.Nat.{ℕ}
-use native.Mathlib.Omega.{arith}
-use borrow.Author.Needs.{needs}
-use denote.Ref.{now}
-use lib.ListN.{length}
+use Rattle.laws.proofs.Base.{refl, List, [], _∷_, _≡_, sym, false, ℕ, arith, needs, now, length}
 use Rattle.text.specs.Paper.{endsInCr}
 use Rattle.text.proofs.ends_in_cr.Statement.{statement}
 use Rattle.text.proofs.ends_in_cr.Tie as tie

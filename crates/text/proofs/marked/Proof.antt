@@ -1,12 +1,5 @@
 -- `text::marked` meets its contract: the flag says whether the mark stands among the septets passed.
-use mathlib.Core.Path.{_≡_, refl, sym, _∙_}
-use mathlib.Core.Logic.{⊎-elim}
-use Prim.Native.Nat.{_≤_, _<_, _-_}
-use native.Mathlib.Omega.{arith}
-use borrow.Author.Needs.{needs}
-use denote.Ref.{now}
-use lib.ListN.{length, take}
-use lib.Seq.{take-length}
+use Rattle.laws.proofs.Base.{_≡_, refl, sym, _∙_, ⊎-elim, _≤_, _<_, _-_, arith, needs, now, length, take, take-length}
 use Rattle.text.specs.Inner.{marks}
 use Rattle.text.proofs.Marks.{marks-found, marks-passed}
 use Rattle.text.proofs.marked.Statement.{statement}

@@ -1,17 +1,9 @@
 -- `text::read_text` meets its contract: each return is the first test of the order that holds, and the last shows the text.
-use mathlib.Core.Path.{_≡_, sym, ap, _∙_}
-use mathlib.Core.Bool.{true}
-use mathlib.Core.List.{List}
-use Prim.Native.Nat.{ℕ, _-_, _≤_}
-use native.Mathlib.Nat.{min-le-left}
-use native.Mathlib.Omega.{arith}
-use borrow.Author.Needs.{needs}
-use denote.Ref.{now}
-use lib.ListN.{length, take, drop, length-take}
-use Rattle.answer.specs.Number.{numberOf}
-use Rattle.answer.proofs.Inverse.{numberOf-positive}
-use Rattle.laws.specs.Received.{wholeBlocks}
-use Rattle.laws.proofs.Received.{whole-bounds}
+use Rattle.laws.proofs.Base.{_≡_, sym, ap, _∙_, true, List, ℕ, _-_, _≤_, min-le-left, arith, needs, now, length, take, drop, length-take}
+use Rattle.refusals.specs.Number.{numberOf}
+use Rattle.refusals.proofs.Inverse.{numberOf-positive}
+use Rattle.sizes.specs.Paper.{wholeBlocks}
+use Rattle.sizes.proofs.Received.{whole-bounds}
 use Rattle.page.specs.Paper.{Part}
 use Rattle.page.specs.Coded.{numberOfHanding, partOf}
 use Rattle.page.proofs.Received.{handed-content}
@@ -82,14 +74,6 @@ pub read-text-spec : {M : Type 1} → statement M
 read-text-spec =
     tie.close
     (tie.spec
-    returns
-    (λ c κs. search needs)
-    (λ c. search needs)
-    returns-2
-    (λ c. search needs)
-    shared-slice-read-if2
-    returns-3
-    (λ c κs. search needs)
-    show-requires
-    (λ c. search needs)
+    returns (λ c κs. search needs) (λ c. search needs) returns-2 (λ c. search needs)
+    shared-slice-read-if2 returns-3 (λ c κs. search needs) show-requires (λ c. search needs)
     returns-4)

@@ -1,12 +1,5 @@
 -- `text::show` meets its contract: the array holds the whole septets, and what is left of them is shown.
-use mathlib.Core.Path.{_≡_, sym, ap, _∙_}
-use mathlib.Core.List.{List, _++_, map}
-use Prim.Native.Nat.{ℕ, _+_, _*_, _/_, _-_, _≤_}
-use native.Mathlib.Omega.{arith}
-use borrow.Author.Needs.{needs}
-use denote.Ref.{now}
-use lib.ListN.{length, take, drop, replicate, length-append}
-use lib.Seq.{take-at, length-take-le}
+use Rattle.laws.proofs.Base.{_≡_, sym, ap, _∙_, List, _++_, map, ℕ, _+_, _*_, _/_, _-_, _≤_, arith, needs, now, length, take, drop, replicate, length-append, take-at, length-take-le}
 use Rattle.laws.specs.Radix.{value, digits}
 use Rattle.laws.specs.Table.{onto}
 use Rattle.alphabet.specs.Paper.{codePoint}
@@ -113,20 +106,8 @@ pub show-spec : {M : Type 1} → statement M
 show-spec =
     tie.close
     (tie.spec
-    (λ c. search needs)
-    (λ c. search needs)
-    slice-aggregate-unpack
-    unpack-requires
-    array-share-prefix-septets
-    slice-aggregate-without-crs
-    (λ c κs. search needs)
-    array-share-prefix-septets-2
-    slice-aggregate-code-points
-    (λ c κs. search needs)
-    mul-blank
-    sub-blank
-    part-blank-start
-    (λ c. search needs)
-    (λ c κs. search needs)
-    (λ c. search needs)
+    (λ c. search needs) (λ c. search needs) slice-aggregate-unpack unpack-requires
+    array-share-prefix-septets slice-aggregate-without-crs (λ c κs. search needs)
+    array-share-prefix-septets-2 slice-aggregate-code-points (λ c κs. search needs) mul-blank
+    sub-blank part-blank-start (λ c. search needs) (λ c κs. search needs) (λ c. search needs)
     returns)

@@ -1,11 +1,5 @@
 -- `text::without_crs` meets its contract: dropping CRs from the septets, or from the first n of them, leaves the same.
-use mathlib.Core.Path.{_≡_, sym, ap, _∙_}
-use Prim.Native.Nat.{_≤_}
-use native.Mathlib.Omega.{arith}
-use borrow.Author.Needs.{needs}
-use denote.Ref.{now}
-use lib.ListN.{length, take}
-use lib.Seq.{take-length, length-take-le}
+use Rattle.laws.proofs.Base.{_≡_, sym, ap, _∙_, _≤_, arith, needs, now, length, take, take-length, length-take-le}
 use Rattle.text.specs.Paper.{trimmed}
 use Rattle.text.proofs.Trim.{trim-back, trim-stop}
 use Rattle.text.proofs.without_crs.Statement.{statement}
@@ -45,13 +39,5 @@ pub without-crs-spec : {M : Type 1} → statement M
 without-crs-spec =
     tie.close
     (tie.spec
-    Inv-loop
-    μ-loop
-    loop-holds
-    (λ c. search needs)
-    (λ c. search needs)
-    returns
-    (λ c. search needs)
-    (λ c. search needs)
-    loop-again
-    returns-2)
+    Inv-loop μ-loop loop-holds (λ c. search needs) (λ c. search needs) returns (λ c. search needs)
+    (λ c. search needs) loop-again returns-2)

@@ -1,14 +1,5 @@
 -- `text::write_text` meets its contract: each return is the first test of the order that holds, and the last makes the page.
-use mathlib.Core.Path.{_≡_, sym, ap, _∙_}
-use mathlib.Core.Bool.{false}
-use mathlib.Core.List.{List, [], _++_, append-nil}
-use Prim.Native.Nat.{ℕ, _-_}
-use native.Mathlib.Nat.{le-refl}
-use native.Mathlib.Omega.{arith}
-use borrow.Author.Needs.{needs}
-use denote.Ref.{now}
-use lib.ListN.{length, take, drop, length-drop, drop-of-length-le}
-use lib.Seq.{take-at, take-length, length-take-le}
+use Rattle.laws.proofs.Base.{_≡_, sym, ap, _∙_, false, List, [], _++_, append-nil, ℕ, _-_, le-refl, arith, needs, now, length, take, drop, length-drop, drop-of-length-le, take-at, take-length, length-take-le}
 use Rattle.page.specs.Paper.{Heading}
 use Rattle.page.proofs.HeaderBack.{header-length}
 use Rattle.text.specs.Paper.{Writing, septets, pageOf, usedOctets, badParameter, foreign}
@@ -129,28 +120,9 @@ pub write-text-spec : {M : Type 1} → statement M
 write-text-spec =
     tie.close
     (tie.spec
-    returns
-    returns-2
-    (λ c κs. search needs)
-    returns-3
-    returns-4
-    (λ c. search needs)
-    (λ c κs. search needs)
-    (λ c. search needs)
-    (λ c κs. search needs)
-    returns-5
-    (λ c κs. search needs)
-    returns-6
-    (λ c κs. search needs)
-    (λ c. search needs)
-    (λ c κs. search needs)
-    (λ c. search needs)
-    (λ c. search needs)
-    (λ c. search needs)
-    (λ c. search needs)
-    pack-requires
-    (λ c. search needs)
-    (λ c. search needs)
-    (λ c. search needs)
-    (λ c. search needs)
-    returns-7)
+    returns returns-2 (λ c κs. search needs) returns-3 returns-4 (λ c. search needs)
+    (λ c κs. search needs) (λ c. search needs) (λ c κs. search needs) returns-5
+    (λ c κs. search needs) returns-6 (λ c κs. search needs) (λ c. search needs)
+    (λ c κs. search needs) (λ c. search needs) (λ c. search needs) (λ c. search needs)
+    (λ c. search needs) pack-requires (λ c. search needs) (λ c. search needs) (λ c. search needs)
+    (λ c. search needs) returns-7)

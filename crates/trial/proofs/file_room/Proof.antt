@@ -1,7 +1,5 @@
 -- `trial::file_room` has its length, without counting it.
-use mathlib.Core.Path.{sym}
-use Prim.Native.Nat.{ℕ}
-use lib.ListN.{length-replicate}
+use Rattle.laws.proofs.Base.{sym, ℕ, length-replicate}
 use Rattle.trial.proofs.file_room.Statement.{statement}
 use Rattle.trial.proofs.file_room.Tie as tie
 

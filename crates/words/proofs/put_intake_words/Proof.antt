@@ -1,6 +1,5 @@
 -- `words::put_intake_words` meets its contract: each arm knows its number, and `find` computes there.
-use mathlib.Core.Path.{refl}
-use borrow.Author.Needs.{needs}
+use Rattle.laws.proofs.Base.{refl, needs}
 use Rattle.lines.specs.Paper.{ascii}
 use Rattle.words.specs.Words.{find, ofIntake}
 use Rattle.words.proofs.Table.{says, says-none}
@@ -12,18 +11,9 @@ unfolding ascii find
 put-intake-words-spec =
     tie.close
     (tie.spec
-    (λ c. search needs)
-    (λ c κs. search needs)
-    (λ c. search needs)
-    (λ c κs. search needs)
-    (λ c. search needs)
-    (λ c κs. search needs)
-    (λ c. search needs)
-    (λ c κs. search needs)
-    (λ c. search needs)
-    (λ c κs. search needs)
-    (λ c. search needs)
-    (λ c κs. search needs)
+    (λ c. search needs) (λ c κs. search needs) (λ c. search needs) (λ c κs. search needs)
+    (λ c. search needs) (λ c κs. search needs) (λ c. search needs) (λ c κs. search needs)
+    (λ c. search needs) (λ c κs. search needs) (λ c. search needs) (λ c κs. search needs)
     (λ c. search needs)
     (λ c. says (find ofIntake) _ 2 _ _ _ _ (c .before .before .before .before .before .match .keys1) refl (c .before .before .put .ensures))
     (λ c. search needs)

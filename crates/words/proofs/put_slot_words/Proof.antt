@@ -1,6 +1,5 @@
 -- `words::put_slot_words` meets its contract: each arm knows its number, and `find` computes there.
-use mathlib.Core.Path.{refl}
-use borrow.Author.Needs.{needs}
+use Rattle.laws.proofs.Base.{refl, needs}
 use Rattle.lines.specs.Paper.{ascii}
 use Rattle.words.specs.Words.{find, ofSlot}
 use Rattle.words.proofs.Table.{says, says-none}
@@ -12,13 +11,8 @@ unfolding ascii find
 put-slot-words-spec =
     tie.close
     (tie.spec
-    (λ c. search needs)
-    (λ c κs. search needs)
-    (λ c. search needs)
-    (λ c κs. search needs)
-    (λ c. search needs)
-    (λ c κs. search needs)
-    (λ c. search needs)
+    (λ c. search needs) (λ c κs. search needs) (λ c. search needs) (λ c κs. search needs)
+    (λ c. search needs) (λ c κs. search needs) (λ c. search needs)
     (λ c. says (find ofSlot) _ 40 _ _ _ _ (c .before .before .before .before .before .match .keys1) refl (c .before .before .put .ensures))
     (λ c. search needs)
     (λ c. says (find ofSlot) _ 41 _ _ _ _ (c .before .before .before .before .before .match .keys2) refl (c .before .before .put2 .ensures))

@@ -1,6 +1,5 @@
 -- `board::Held::with` meets its contract: a power of two is added where its bit is clear.
-use mathlib.Core.Path.{sym, _∙_}
-use borrow.Author.Needs.{needs}
+use Rattle.laws.proofs.Base.{sym, _∙_, needs}
 use Rattle.board.proofs.Sets.{enter-low, enter-high, enter-held, enter-shifted, enter-fits}
 use Rattle.board.proofs.Held.with.Statement.{statement}
 use Rattle.board.proofs.Held.with.Tie as tie
@@ -11,16 +10,10 @@ returns c = sym (enter-low _ _ (c .if1 .taken))
 returns-2 : tie.Need-returns-2
 returns-2 c = sym (enter-high _ _ (c .if2 .taken))
 
-is-held-requires : tie.Need-is-held-requires
-is-held-requires c κs = search needs
-
 returns-3 : tie.Need-returns-3
 returns-3 c =
     let a = c .before .before .before .before .args in
     sym (enter-held (a .self .0) (a .slot) (record { some = search needs; low = search needs }) (sym (c .before .is-held .ensures) ∙ c .if3 .taken))
-
-shl-t7 : tie.Need-shl-t7
-shl-t7 c = search needs
 
 add-t8 : tie.Need-add-t8
 add-t8 c =
@@ -34,4 +27,4 @@ returns-4 c =
 
 pub with-spec : {M : Type 1} → statement M
 with-spec =
-    tie.close (tie.spec returns returns-2 is-held-requires returns-3 shl-t7 add-t8 returns-4)
+    tie.close (tie.spec returns returns-2 (λ c κs. search needs) returns-3 (λ c. search needs) add-t8 returns-4)

@@ -1,10 +1,5 @@
 -- `schedule::groups::count_new` meets its contract. The invariant: the number is the count of the slots passed.
-use mathlib.Core.Logic.{⊎-elim}
-use mathlib.Core.Path.{_≡_, sym, _∙_, ap}
-use mathlib.Core.Bool.{true, true≢false}
-use Prim.Native.Nat.{_≤_, _-_, ℕ, _+_}
-use native.Mathlib.Omega.{arith}
-use borrow.Author.Needs.{needs}
+use Rattle.laws.proofs.Base.{⊎-elim, _≡_, sym, _∙_, ap, true, true≢false, _≤_, _-_, ℕ, _+_, arith, needs}
 use Rattle.laws.proofs.Upto.{count-none, count-yes, count-no, count-le}
 use Rattle.laws.specs.Upto.{count}
 use Rattle.schedule.specs.Paper.{grouped}
@@ -21,17 +16,8 @@ abbrev μ-loop : tie.MeasureT-loop
 loop-holds : tie.Need-loop-holds Inv-loop μ-loop
 loop-holds c = (omega arith, sym (count-none _))
 
-is-new-requires : tie.Need-is-new-requires Inv-loop μ-loop
-is-new-requires c κs = search needs
-
 add-n : tie.Need-add-n Inv-loop μ-loop
 add-n c = omega (arith, count-le (grouped (c .before .before .before .before .before .args .message .now) true) (c .before .before .before .loop .i))
-
-add-i : tie.Need-add-i Inv-loop μ-loop
-add-i c = search needs
-
-loop-less : tie.Need-loop-less Inv-loop μ-loop
-loop-less c = search needs
 
 loop-again : tie.Need-loop-again Inv-loop μ-loop
 loop-again c =
@@ -51,4 +37,4 @@ returns c = let e : c .before .loop .i ≡ c .before .before .before .args .end 
 pub count-new-spec : {M : Type 1} → statement M
 count-new-spec =
     tie.close
-    (tie.spec Inv-loop μ-loop loop-holds is-new-requires add-n add-i loop-less loop-again returns)
+    (tie.spec Inv-loop μ-loop loop-holds (λ c κs. search needs) add-n (λ c. search needs) (λ c. search needs) loop-again returns)

@@ -1,10 +1,6 @@
 -- `schedule::groups::has_new_past` meets its contract. The invariant: no slot passed so far is past End with its new bit set.
-use mathlib.Core.Path.{_≡_, sym, _∙_}
-use mathlib.Core.Bool.{false, true}
-use Prim.Native.Nat.{ℕ, _≤_, _<_, _-_}
-use native.Mathlib.Omega.{arith}
+use Rattle.laws.proofs.Base.{_≡_, sym, _∙_, false, true, ℕ, _≤_, _<_, _-_, arith, needs}
 use borrow.Author.Count.{below-more}
-use borrow.Author.Needs.{needs}
 use Rattle.laws.proofs.Upto.{some-none, some-at}
 use Rattle.schedule.specs.Paper.{newPast, end as endOf}
 use Rattle.schedule.proofs.News.{newPast-below, newPast-from}
@@ -20,21 +16,12 @@ abbrev μ-loop : tie.MeasureT-loop
 loop-holds : tie.Need-loop-holds Inv-loop μ-loop
 loop-holds c = (omega arith, omega arith, λ k h. newPast-below (c .before .args .message .now) k (omega arith))
 
-is-new-requires : tie.Need-is-new-requires Inv-loop μ-loop
-is-new-requires c κs = search needs
-
 returns : tie.Need-returns Inv-loop μ-loop
 returns c =
     let m = c .before .before .before .before .before .args .message .now in
     let i = c .before .before .before .loop .i in
     let past : endOf m ≤ i = omega arith in
     sym (some-at (newPast m) 48 i (omega arith) (newPast-from m i true past (sym (c .if1 .taken) ∙ c .before .is-new .ensures)))
-
-add-i : tie.Need-add-i Inv-loop μ-loop
-add-i c = search needs
-
-loop-less : tie.Need-loop-less Inv-loop μ-loop
-loop-less c = search needs
 
 loop-again : tie.Need-loop-again Inv-loop μ-loop
 loop-again c =
@@ -52,12 +39,5 @@ pub has-new-past-spec : {M : Type 1} → statement M
 has-new-past-spec =
     tie.close
     (tie.spec
-    Inv-loop
-    μ-loop
-    loop-holds
-    is-new-requires
-    returns
-    add-i
-    loop-less
-    loop-again
-    returns-2)
+    Inv-loop μ-loop loop-holds (λ c κs. search needs) returns (λ c. search needs)
+    (λ c. search needs) loop-again returns-2)

@@ -1,9 +1,5 @@
 -- `schedule::groups::pick` meets its contract. The invariant: the slots of the group that were passed and those still to pass make up the place.
-use mathlib.Core.Logic.{⊎-elim}
-use mathlib.Core.Path.{_≡_}
-use Prim.Native.Nat.{_≤_, _+_, _-_}
-use native.Mathlib.Omega.{arith}
-use borrow.Author.Needs.{needs}
+use Rattle.laws.proofs.Base.{⊎-elim, _≡_, _≤_, _+_, _-_, arith, needs}
 use Rattle.laws.proofs.Upto.{count-none, count-yes, count-no}
 use Rattle.laws.specs.Upto.{count}
 use Rattle.schedule.specs.Paper.{grouped}
@@ -20,9 +16,6 @@ abbrev μ-loop : tie.MeasureT-loop
 loop-holds : tie.Need-loop-holds Inv-loop μ-loop
 loop-holds c = (omega arith, omega (arith, count-none (grouped (c .before .args .message .now) (c .before .args .new))))
 
-is-new-requires : tie.Need-is-new-requires Inv-loop μ-loop
-is-new-requires c κs = search needs
-
 returns : tie.Need-returns Inv-loop μ-loop
 returns c =
     let a = c .before .before .before .before .before .before .args in
@@ -32,15 +25,6 @@ returns c =
       passes = grouped-told (a .message .now) (l .i) (a .new) _ _ (c .before .before .is-new .ensures) (c .before .if1 .taken);
       before = omega arith;
     }
-
-sub-left : tie.Need-sub-left Inv-loop μ-loop
-sub-left c = search needs
-
-add-i : tie.Need-add-i Inv-loop μ-loop
-add-i c = search needs
-
-loop-less : tie.Need-loop-less Inv-loop μ-loop
-loop-less c = search needs
 
 loop-again : tie.Need-loop-again Inv-loop μ-loop
 loop-again c =
@@ -64,13 +48,5 @@ pub pick-spec : {M : Type 1} → statement M
 pick-spec =
     tie.close
     (tie.spec
-    Inv-loop
-    μ-loop
-    loop-holds
-    is-new-requires
-    returns
-    sub-left
-    add-i
-    loop-less
-    loop-again
-    returns-2)
+    Inv-loop μ-loop loop-holds (λ c κs. search needs) returns (λ c. search needs)
+    (λ c. search needs) (λ c. search needs) loop-again returns-2)

@@ -1,21 +1,10 @@
 -- `schedule::groups::slot_at` meets its contract: the slot picked out of its group is the one that the order has at the place.
-use mathlib.Core.Bool.{true, false}
-use mathlib.Core.Path.{_≡_, sym, _∙_}
-use Prim.Native.Nat.{_+_, _-_}
-use native.Mathlib.Nat.{zero-add}
-use native.Mathlib.Omega.{arith}
-use borrow.Author.Needs.{needs}
+use Rattle.laws.proofs.Base.{true, false, _≡_, sym, _∙_, _+_, _-_, zero-add, arith, needs}
 use Rattle.laws.specs.Upto.{count}
 use Rattle.schedule.specs.Paper.{grouped, end as endOf}
 use Rattle.schedule.proofs.Order.{groups-whole, order-picks}
 use Rattle.schedule.proofs.groups.slot_at.Statement.{statement}
 use Rattle.schedule.proofs.groups.slot_at.Tie as tie
-
-count-new-requires : tie.Need-count-new-requires
-count-new-requires c κs = search needs
-
-pick-requires : tie.Need-pick-requires
-pick-requires c κs = search needs
 
 returns : tie.Need-returns
 returns c =
@@ -39,4 +28,4 @@ returns-2 c =
 
 pub slot-at-spec : {M : Type 1} → statement M
 slot-at-spec =
-    tie.close (tie.spec count-new-requires pick-requires returns pick-requires-2 returns-2)
+    tie.close (tie.spec (λ c κs. search needs) (λ c κs. search needs) returns pick-requires-2 returns-2)

@@ -1,15 +1,8 @@
 -- `schedule::told::has_false_repeat` meets its contract. The invariant: no slot passed so far has a false repeat.
-use mathlib.Core.Logic.{⊎-elim}
-use mathlib.Core.Bool.{false}
-use mathlib.Core.Path.{_≡_, sym, refl, _∙_}
-use Prim.Native.Nat.{ℕ, _≤_, _<_, _-_}
-use native.Mathlib.Omega.{arith}
-use lib.ListN.{getD}
-use borrow.Author.Tests.{not-true, not-false}
+use Rattle.laws.proofs.Base.{⊎-elim, false, _≡_, sym, refl, _∙_, ℕ, _≤_, _<_, _-_, arith, getD, not-true, not-false, needs}
 use borrow.Author.Count.{below-none, below-more}
-use borrow.Author.Needs.{needs}
 use Rattle.laws.proofs.Upto.{some-none, some-at}
-use Rattle.schedule.specs.Parts.{toldBy}
+use Rattle.schedule.specs.Inner.{toldBy}
 use Rattle.schedule.specs.Paper.{falseRepeat}
 use Rattle.schedule.proofs.Repeats.{false-zero, false-late, false-other, true-repeat, told-repeat, no-repeat}
 use Rattle.schedule.proofs.told.has_false_repeat.Statement.{statement}
@@ -23,18 +16,6 @@ abbrev μ-loop : tie.MeasureT-loop
 
 loop-holds : tie.Need-loop-holds Inv-loop μ-loop
 loop-holds c = (omega arith, below-none _)
-
-mul-at : tie.Need-mul-at Inv-loop μ-loop
-mul-at c = search needs
-
-array-read-at : tie.Need-array-read-at Inv-loop μ-loop
-array-read-at c = search needs
-
-octet-at-requires : tie.Need-octet-at-requires Inv-loop μ-loop
-octet-at-requires c κs = search needs
-
-cast-n : tie.Need-cast-n Inv-loop μ-loop
-cast-n c = search needs
 
 returns : tie.Need-returns Inv-loop μ-loop
 returns c =
@@ -52,12 +33,6 @@ returns-2 c =
     let octet = c .before .before .before .octet-at in
     sym (some-at (falseRepeat t) _ i (omega arith) (false-late t i _ (told-repeat (a .message .now) (getD (a .t2) i 0) _ (octet .ensures) (c .before .before .if1 .taken)) (c .if3 .taken)))
 
-sub-if4 : tie.Need-sub-if4 Inv-loop μ-loop
-sub-if4 c = search needs
-
-array-read-if4 : tie.Need-array-read-if4 Inv-loop μ-loop
-array-read-if4 c = search needs
-
 returns-3 : tie.Need-returns-3 Inv-loop μ-loop
 returns-3 c =
     let s = c .before .before .before .before .before .before .before .before in
@@ -69,12 +44,6 @@ returns-3 c =
     (some-at (falseRepeat t) _ i (omega arith)
     (false-other t i _ (told-repeat (a .message .now) (getD (a .t2) i 0) _ (octet .ensures) (c .before .before .before .if1 .taken))
     (sym (s .pre .1 (octet .result - 1) (omega arith)) ∙ not-true _ (c .if4 .taken))))
-
-add-i : tie.Need-add-i Inv-loop μ-loop
-add-i c = search needs
-
-loop-less : tie.Need-loop-less Inv-loop μ-loop
-loop-less c = search needs
 
 loop-again : tie.Need-loop-again Inv-loop μ-loop
 loop-again c =
@@ -101,19 +70,6 @@ pub has-false-repeat-spec : {M : Type 1} → statement M
 has-false-repeat-spec =
     tie.close
     (tie.spec
-    Inv-loop
-    μ-loop
-    loop-holds
-    mul-at
-    array-read-at
-    octet-at-requires
-    cast-n
-    returns
-    returns-2
-    sub-if4
-    array-read-if4
-    returns-3
-    add-i
-    loop-less
-    loop-again
-    returns-4)
+    Inv-loop μ-loop loop-holds (λ c. search needs) (λ c. search needs) (λ c κs. search needs)
+    (λ c. search needs) returns returns-2 (λ c. search needs) (λ c. search needs) returns-3
+    (λ c. search needs) (λ c. search needs) loop-again returns-4)

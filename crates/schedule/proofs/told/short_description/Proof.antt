@@ -1,7 +1,5 @@
 -- `schedule::told::short_description` meets its contract: the tests that led to each answer decide those of `short`.
-use Prim.Native.Nat.{_≤_}
-use native.Mathlib.Omega.{arith}
-use borrow.Author.Tests.{ne-eqb, le-leb, lt-leb}
+use Rattle.laws.proofs.Base.{_≤_, arith, ne-eqb, le-leb, lt-leb}
 use Rattle.schedule.proofs.told.short_description.Statement.{statement}
 use Rattle.schedule.proofs.told.short_description.Tie as tie
 

@@ -1,13 +1,5 @@
 -- `text::packing::number` meets its contract: the sum is the number of the digits from i on.
-use mathlib.Core.Path.{_≡_, _∙_}
-use mathlib.Core.List.{List}
-use Prim.Native.Nat.{ℕ, _+_, _-_, _*_, _^_, _≤_, _<_}
-use native.Mathlib.Nat.{lt-of-lt-of-le}
-use native.Mathlib.Omega.{arith}
-use borrow.Author.Needs.{needs}
-use denote.Ref.{now}
-use lib.ListN.{length, getD, drop}
-use lib.Seq.{drop-length}
+use Rattle.laws.proofs.Base.{_≡_, _∙_, List, ℕ, _+_, _-_, _*_, _^_, _≤_, _<_, lt-of-lt-of-le, arith, needs, now, length, getD, drop, drop-length}
 use Rattle.laws.specs.Radix.{value}
 use Rattle.text.specs.Inner.{Word}
 use Rattle.laws.proofs.Radix.{value-back, value-drop-lt}
@@ -63,13 +55,5 @@ pub number-spec : {M : Type 1} → statement M
 number-spec =
     tie.close
     (tie.spec
-    Inv-loop
-    μ-loop
-    loop-holds
-    (λ c. search needs)
-    mul-sum
-    (λ c κs. search needs)
-    add-sum
-    (λ c. search needs)
-    loop-again
-    returns)
+    Inv-loop μ-loop loop-holds (λ c. search needs) mul-sum (λ c κs. search needs) add-sum
+    (λ c. search needs) loop-again returns)

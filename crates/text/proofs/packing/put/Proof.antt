@@ -1,13 +1,5 @@
 -- `text::packing::put` meets its contract: after i turns the first i digits are written, and the rest of the number is left.
-use mathlib.Core.Path.{_≡_, refl, ap, _∙_}
-use mathlib.Core.List.{_++_, append-nil}
-use Prim.Native.Nat.{ℕ, _≤_, _<_, _-_, _/_, _^_}
-use native.Mathlib.Omega.{arith}
-use native.Mathlib.Nat.{mod-lt, lt-of-lt-of-le, pow-zero, div-one}
-use borrow.Author.Needs.{needs}
-use denote.Ref.{now}
-use lib.ListN.{length, length-set, drop}
-use lib.Seq.{drop-length}
+use Rattle.laws.proofs.Base.{_≡_, refl, ap, _∙_, _++_, append-nil, ℕ, _≤_, _<_, _-_, _/_, _^_, arith, mod-lt, lt-of-lt-of-le, pow-zero, div-one, needs, now, length, length-set, drop, drop-length}
 use Rattle.laws.specs.Radix.{digits}
 use Rattle.laws.proofs.Radix.{digits-store, div-more}
 use Rattle.text.proofs.packing.put.Statement.{statement}
@@ -50,15 +42,5 @@ pub put-spec : {M : Type 1} → statement M
 put-spec =
     tie.close
     (tie.spec
-    Inv-loop
-    μ-loop
-    loop-holds
-    (λ c. search needs)
-    cast-out
-    (λ c. search needs)
-    (λ c. search needs)
-    (λ c. search needs)
-    (λ c. search needs)
-    loop-again
-    (λ c. search needs)
-    returns)
+    Inv-loop μ-loop loop-holds (λ c. search needs) cast-out (λ c. search needs) (λ c. search needs)
+    (λ c. search needs) (λ c. search needs) loop-again (λ c. search needs) returns)

@@ -1,13 +1,7 @@
 -- `text::packing::unpack` meets its contract: after g turns the first g groups of seven octets stand as eight septets each.
-use mathlib.Core.Path.{_≡_, refl, ap, _∙_}
-use Prim.Native.Nat.{ℕ, _+_, _*_, _-_, _/_, _≤_}
-use native.Mathlib.Omega.{arith}
-use lib.ListN.{length, take}
+use Rattle.laws.proofs.Base.{_≡_, refl, ap, _∙_, ℕ, _+_, _*_, _-_, _/_, _≤_, arith, length, take, now, needs, lit≤, lit<}
 use Rattle.laws.specs.Radix.{value, digits}
 use Rattle.laws.proofs.Radix.{group-turn, group-end}
-use denote.Ref.{now}
-use borrow.Author.Needs.{needs}
-use lib.Dec.{lit≤, lit<}
 use Rattle.laws.proofs.Parts.{length-part}
 use Rattle.text.proofs.Words.{part-word}
 use Rattle.text.proofs.packing.unpack.Statement.{statement}
@@ -74,35 +68,10 @@ pub unpack-spec : {M : Type 1} → statement M
 unpack-spec =
     tie.close
     (tie.spec
-    Inv-loop
-    μ-loop
-    loop-holds
-    (λ c. search needs)
-    (λ c. search needs)
-    (λ c. search needs)
-    (λ c. search needs)
-    (λ c. search needs)
-    (λ c. search needs)
-    number-requires
-    (λ c. search needs)
-    (λ c. search needs)
-    (λ c. search needs)
-    (λ c. search needs)
-    (λ c. search needs)
-    (λ c. search needs)
-    (λ c κs. search needs)
-    (λ c. search needs)
-    (λ c. search needs)
-    loop-again
-    (λ c. search needs)
-    (λ c. search needs)
-    (λ c. search needs)
-    (λ c. search needs)
-    number-requires-2
-    (λ c. search needs)
-    (λ c. search needs)
-    (λ c. search needs)
-    (λ c. search needs)
-    (λ c κs. search needs)
-    same-length
-    returns)
+    Inv-loop μ-loop loop-holds (λ c. search needs) (λ c. search needs) (λ c. search needs)
+    (λ c. search needs) (λ c. search needs) (λ c. search needs) number-requires (λ c. search needs)
+    (λ c. search needs) (λ c. search needs) (λ c. search needs) (λ c. search needs)
+    (λ c. search needs) (λ c κs. search needs) (λ c. search needs) (λ c. search needs) loop-again
+    (λ c. search needs) (λ c. search needs) (λ c. search needs) (λ c. search needs)
+    number-requires-2 (λ c. search needs) (λ c. search needs) (λ c. search needs)
+    (λ c. search needs) (λ c κs. search needs) same-length returns)

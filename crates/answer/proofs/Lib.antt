@@ -1,3 +1,0 @@
--- What `answer` proves.
-pub mod Determined
-pub mod Inverse

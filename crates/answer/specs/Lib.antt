@@ -1,2 +1,0 @@
--- What `answer` defines.
-pub mod Number

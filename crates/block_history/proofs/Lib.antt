@@ -1,0 +1,4 @@
+-- What `block_history` proves.
+pub mod History
+pub mod Joins
+pub mod Taken

@@ -1,0 +1,2 @@
+-- What `block_history` states.
+pub mod Claims

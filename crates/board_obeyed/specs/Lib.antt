@@ -1,0 +1,2 @@
+-- What `board_obeyed` defines.
+pub mod Claims

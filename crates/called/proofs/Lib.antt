@@ -1,3 +1,0 @@
--- What `called` proves.
-pub mod Called
-pub mod Example

@@ -1,2 +1,0 @@
--- What `called` defines.
-pub mod Claims

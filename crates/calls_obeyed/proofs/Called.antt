@@ -1,0 +1,93 @@
+-- Demand 3 over the calls for C follows from demand 3, for each number comes out of what a call returns.
+use Rattle.laws.proofs.Base.{_≡_, refl, sym, ap, _∙_, Bool, true, false, not, List, _∷_, ℕ, zero, suc, _+_, _*_, _/_, _%_, _<_, arith, eqb, length}
+use Rattle.laws.proofs.Ruled.{NoneHolds, ruled-map, none-holds, ruled-none, unless0-numbered}
+use Rattle.plan.specs.Paper.{readPlan, lowestAt}
+use Rattle.sender.specs.Paper.{Writing, unwritten, write}
+use Rattle.checker.specs.Paper.{Checked, unchecked, check}
+use Rattle.board.specs.Paper.{Decided}
+use Rattle.block.specs.Paper.{lastUsed}
+use Rattle.delivery.proofs.Accepted.{ours-accepted}
+use Rattle.board_obeyed.specs.Claims.{Obeys, WantedPage, Why, after}
+use Rattle.board_obeyed.proofs.Obeyed.{wakes, wakes-only}
+use Rattle.capi.specs.Paper.{bitOf, fileFaults, writtenFrom, checkedBeside, checkScheduleCall, decidedFor, decideCall}
+use Rattle.calls_unpacked.proofs.Unpacked.{unpacked-write-schedule, unpacked-check-schedule, unpacked-decide}
+use Rattle.calls_obeyed.specs.Claims.{planIn, listed, CallsAccepted, ObeysCalls, CallsWake, CallsWakeOnly, afterSlots, CallsPeriod}
+
+-- no test on two files holds
+abbrev Good : List ℕ → List ℕ → Type 0
+Good c p = NoneHolds (fileFaults c p)
+
+module _ (c p : List ℕ) where
+  -- where the writer answers 0, the files are good, and its answer is that for their plans
+  writes : (b : ℕ) (o : List ℕ) → writtenFrom c p b o .number ≡ 0 → Good c p × (writtenFrom c p b o ≡ write (planIn c) (planIn p) b o)
+  writes b o z =
+      let ts : List (Bool × ℕ) = (not (eqb (length o) 88), 15) ∷ fileFaults c p in
+      let w = write (planIn c) (planIn p) b o in
+      let h =
+      none-holds ts (w .number) ((λ t e. omega arith), (unless0-numbered (readPlan c .number), (unless0-numbered (readPlan p .number), tt)))
+      (sym (ruled-map (λ (x : Writing). x .number) (unwritten o) ts w) ∙ z) in
+      (h .1, ruled-none (unwritten o) ts w h)
+
+  -- beside good files the checker answers as for their plans
+  checks : Good c p → (m : List ℕ) (received : ℕ) → checkedBeside c p m received ≡ check (planIn c) (planIn p) m received
+  checks good m received = ruled-none unchecked (fileFaults c p) (check (planIn c) (planIn p) m received) good
+
+  -- what it accepts beside files it accepts beside their plans
+  accepts : (m : List ℕ) (received : ℕ) → checkScheduleCall c p m received % 256 ≡ 0 → check (planIn c) (planIn p) m received .number ≡ 0
+  accepts m received z =
+      let x = check (planIn c) (planIn p) m received in
+      let number : checkedBeside c p m received .number ≡ 0 = sym (unpacked-check-schedule c p m received .0) ∙ z in
+      let good =
+      none-holds (fileFaults c p) (x .number) (unless0-numbered (readPlan c .number), (unless0-numbered (readPlan p .number), tt))
+      (sym (ruled-map (λ (y : Checked). y .number) unchecked (fileFaults c p) x) ∙ number) in
+      sym (ap (λ (y : Checked). y .number) (checks good m received)) ∙ number
+
+  -- and the other way
+  true-call : Good c p → (m : List ℕ) (received : ℕ) → check (planIn c) (planIn p) m received ≡ unchecked 0 → checkScheduleCall c p m received ≡ 0
+  true-call good m received e = ap (λ (y : Checked). y .number + 256 * y .slot) (checks good m received ∙ e)
+
+pub calls-accepted : CallsAccepted
+calls-accepted c p b o z =
+    let number : writtenFrom c p b o .number ≡ 0 = sym (unpacked-write-schedule c p b o .0) ∙ z in
+    let w = writes c p b o number in
+    let same : writtenFrom c p b o ≡ write (planIn c) (planIn p) b o = w .1 in
+    let a = ours-accepted (planIn c) (planIn p) b o (sym (ap (λ (x : Writing). x .number) same) ∙ number) in
+    rw (unpacked-write-schedule c p b o .1, same)
+    (record {
+      whole = true-call c p (w .0) (write (planIn c) (planIn p) b o .output) 88 (a .whole);
+      blocks = true-call c p (w .0) (write (planIn c) (planIn p) b o .output) (22 * lastUsed (write (planIn c) (planIn p) b o .used)) (a .used);
+    })
+
+module _ (c p m : List ℕ) (received : ℕ) (w : List ℕ) (o : ObeysCalls c p m received w) where
+  pub obeys : Obeys (planIn c) (planIn p) m received (listed w)
+  obeys = record { accepted = accepts c p m received (o .accepted); few = o .few }
+
+  wake : (held i : ℕ) → WantedPage (planIn c) (listed w) i → lowestAt (planIn c) i ≡ suc i → decideCall true m received (suc i) w held ≡ 256
+  wake held i q l =
+      ap (λ (d : Decided). d .number + 256 * bitOf (d .read)) (wakes (planIn c) (planIn p) m received (listed w) obeys held i q l)
+
+  wake-only : (held i : ℕ) → i < planIn c .count → decideCall true m received (suc i) w held / 256 ≡ 1 → Why (planIn c) m (listed w) held i
+  wake-only held i l e =
+      wakes-only (planIn c) (planIn p) m received (listed w) obeys held i l
+      (bit-read (decidedFor true m received (suc i) w held .read) (sym (unpacked-decide true m received (suc i) w held .1) ∙ e))
+    where
+      bit-read : (b : Bool) → bitOf b ≡ 1 → b ≡ true
+      bit-read true e = refl
+      bit-read false e = absurd (omega (arith, e))
+
+pub calls-wake : CallsWake
+calls-wake = wake
+
+pub calls-wake-only : CallsWakeOnly
+calls-wake-only = wake-only
+
+-- a decision to read, as the number that C sees
+read-one : (b : Bool) → eqb (bitOf b) 1 ≡ b
+read-one true = refl
+read-one false = refl
+
+pub calls-period : CallsPeriod
+unfolding after afterSlots
+calls-period c m received w lost b zero = refl
+calls-period c m received w lost b (suc n) =
+    rw (calls-period c m received w lost b n, unpacked-decide true m received (suc n) w (after c m received (listed w) lost b n .held) .1, read-one (decidedFor true m received (suc n) w (after c m received (listed w) lost b n .held) .read))

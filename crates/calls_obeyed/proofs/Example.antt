@@ -1,0 +1,48 @@
+-- C calls at work, by computation: two plan files, the message written from them, and the board's decisions.
+use Rattle.laws.proofs.Base.{_≡_, refl, true, List, [], _∷_, _++_, map, ℕ, _*_, lit<, lit≤, replicate}
+use Rattle.sizes.specs.Paper.{wholeBlocks}
+use Rattle.laws.specs.Search.{some, firstFrom}
+use Rattle.laws.specs.Upto as upto
+use Rattle.page.specs.Paper.{samePage}
+use Rattle.plan.specs.Paper.{bad, planNumber, entryIn, entriesIn, readPlan, holds, lowestSlot, hasPage, lowestAt}
+use Rattle.schedule.specs.Paper.{new, place, tells, read}
+use Rattle.sender.specs.Paper as sender
+use Rattle.checker.specs.Paper.{check, isTrue}
+use Rattle.board.specs.Paper.{isWanted, isHeld, tellsOf, reads, decide}
+use Rattle.capi.specs.Paper.{writeScheduleCall, decideCall}
+use Rattle.board_obeyed.specs.Claims.{WantedPage}
+use Rattle.calls_obeyed.specs.Claims.{planIn, listed, ObeysCalls}
+
+-- 01 Where the edges are: a plan file of two slots, both serial number 0010, identifier 8001, parameter 11; and one of no slots
+abbrev current : List ℕ
+current = 67 ∷ 66 ∷ 80 ∷ 0 ∷ 1 ∷ 2 ∷ 2 ∷ 0 ∷ 16 ∷ 128 ∷ 1 ∷ 17 ∷ 2 ∷ 0 ∷ 16 ∷ 128 ∷ 1 ∷ 17 ∷ []
+
+abbrev previous : List ℕ
+previous = 67 ∷ 66 ∷ 80 ∷ 0 ∷ 1 ∷ 0 ∷ []
+
+-- 01 Where the edges are: the message, 11 octets and then 2B
+abbrev message : List ℕ
+message = (1 ∷ 2 ∷ 192 ∷ 0 ∷ 0 ∷ 0 ∷ 0 ∷ 0 ∷ 128 ∷ 1 ∷ 1 ∷ []) ++ replicate 77 43
+
+pub written : writeScheduleCall current previous 1 (replicate 88 0) ≡ record { returned = 256 * 11; memory = message }
+unfolding readPlan entriesIn entryIn planNumber bad some sender.write sender.descriptions sender.octetsOfAll sender.plannedTold sender.newAt sender.newBits sender.usedPart sender.padded upto.picked upto.each hasPage lowestSlot holds samePage firstFrom
+written = refl
+
+-- what the theorems on decisions rest on is met, with one block received and identifier 0001 wanted
+pub obeys : ObeysCalls current previous message 22 (1 ∷ [])
+unfolding readPlan entriesIn entryIn check planNumber bad some read upto.some upto.count upto.lowest new place tells isTrue hasPage lowestSlot holds samePage firstFrom wholeBlocks
+obeys = record { accepted = refl; few = lit≤ tt }
+
+-- slot 1 is the lowest of a page whose identifier 8001 matches in 15 bits
+pub first-wanted : WantedPage (planIn current) (listed (1 ∷ [])) 0
+unfolding readPlan entriesIn entryIn bad some isWanted
+first-wanted = record { below = lit< tt; page = refl; wanted = refl }
+
+pub first-lowest : lowestAt (planIn current) 0 ≡ 1
+unfolding readPlan entriesIn entryIn bad some lowestSlot holds samePage firstFrom
+first-lowest = refl
+
+-- slot 1 is read, slot 2 where slot 1 isn't held
+pub decided : map (λ (x : ℕ × ℕ). decideCall true message 22 (x .0) (1 ∷ []) (x .1)) ((1, 0) ∷ (1, 1) ∷ (2, 0) ∷ (2, 1) ∷ []) ≡ 256 ∷ 256 ∷ 256 ∷ 0 ∷ []
+unfolding decide reads tellsOf isWanted isHeld some read upto.some upto.count new place tells wholeBlocks
+decided = refl

@@ -1,0 +1,3 @@
+-- What `calls_obeyed` proves.
+pub mod Called
+pub mod Example

@@ -1,0 +1,2 @@
+-- What `calls_obeyed` defines.
+pub mod Claims

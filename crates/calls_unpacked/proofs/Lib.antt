@@ -1,0 +1,4 @@
+-- What `calls_unpacked` proves.
+pub mod Codes
+pub mod Told
+pub mod Unpacked

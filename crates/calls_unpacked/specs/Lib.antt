@@ -1,0 +1,2 @@
+-- What `calls_unpacked` defines.
+pub mod Claims

@@ -1,0 +1,3 @@
+-- What `checker_truth` proves.
+pub mod Accepted
+pub mod TrueAt

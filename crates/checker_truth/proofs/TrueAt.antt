@@ -1,0 +1,151 @@
+-- The test of a slot decides the rules of document 01's list.
+use Rattle.laws.proofs.Base.{_≡_, refl, sym, ap, _∙_, Bool, true, false, not, Bool·beq, _⊎_, inl, inr, ⊎-elim, ℕ, suc, _<_, arith, eqb, eqb-true, eqb-false, eq-eqb, ne-eqb, not-true}
+use Rattle.laws.proofs.Tests.{both, either}
+use Rattle.laws.proofs.Upto.{below-suc}
+use Rattle.schedule.specs.Paper.{Told, first, again, optional, advised, Shown}
+use Rattle.plan.specs.Paper.{Plan, planNumber, entryAt, lowestAt, low15At, Planned, plannedAt}
+use Rattle.plan.proofs.Lowest.{leading}
+use Rattle.checker.specs.Paper.{leads, repeats, mayTell, newFor, isTrue}
+use Rattle.checker_truth.specs.Claims.{TrueAt}
+use Rattle.plan.proofs.GoodPlan.{kind-few}
+
+beq-true : (a b : Bool) → Bool·beq a b ≡ true → a ≡ b
+beq-true true true e = refl
+beq-true true false e = sym e
+beq-true false true e = e
+beq-true false false e = refl
+
+beq-refl : (a : Bool) → Bool·beq a a ≡ true
+beq-refl true = refl
+beq-refl false = refl
+
+module _ (c p : Plan) (i : ℕ) where
+  -- what the plans say of the slot
+  abbrev v : Planned
+  v = plannedAt c p i
+
+  -- what is known of a slot of which a description may be told
+  abbrev Tells : Told → Type 0
+  Tells (first x) = (entryAt c i .kind ≡ 2) × (lowestAt c i ≡ suc i) × (x ≡ low15At c i)
+  Tells (again n) = (entryAt c i .kind ≡ 2) × (lowestAt c i ≡ suc i → ⊥) × (n ≡ lowestAt c i)
+  Tells optional = (entryAt c i .kind ≡ 0) ⊎ ((entryAt c i .kind ≡ 2) × (lowestAt c i ≡ suc i → ⊥))
+  Tells advised = (entryAt c i .kind ≡ 1) ⊎ (entryAt c i .kind ≡ 2)
+
+  leads-is : leads v i ≡ true → (entryAt c i .kind ≡ 2) × (lowestAt c i ≡ suc i)
+  leads-is e =
+      let b = both (eqb (entryAt c i .kind) 2) (eqb (lowestAt c i) (suc i)) e in
+      (eqb-true (entryAt c i .kind) 2 (b .0), eqb-true (lowestAt c i) (suc i) (b .1))
+
+  repeats-is : repeats v i ≡ true → (entryAt c i .kind ≡ 2) × (lowestAt c i ≡ suc i → ⊥)
+  repeats-is e =
+      let b = both (eqb (entryAt c i .kind) 2) (not (eqb (lowestAt c i) (suc i))) e in
+      (eqb-true (entryAt c i .kind) 2 (b .0), eqb-false (lowestAt c i) (suc i) (not-true (eqb (lowestAt c i) (suc i)) (b .1)))
+
+  may-tells : (t : Told) → mayTell v i t ≡ true → Tells t
+  may-tells (first x) e =
+      let b = both (leads v i) (eqb x (low15At c i)) e in
+      let l = leads-is (b .0) in
+      (l .0, l .1, eqb-true x (low15At c i) (b .1))
+  may-tells (again n) e =
+      let b = both (repeats v i) (eqb n (lowestAt c i)) e in
+      let l = repeats-is (b .0) in
+      (l .0, l .1, eqb-true n (lowestAt c i) (b .1))
+  may-tells optional e =
+      ⊎-elim (λ a. inl (eqb-true (entryAt c i .kind) 0 a)) (λ b. inr (repeats-is b)) (either (eqb (entryAt c i .kind) 0) (repeats v i) e)
+  may-tells advised e =
+      ⊎-elim (λ a. inl (eqb-true (entryAt c i .kind) 1 a)) (λ b. inr (eqb-true (entryAt c i .kind) 2 b))
+      (either (eqb (entryAt c i .kind) 1) (eqb (entryAt c i .kind) 2) e)
+
+  tells-may : (t : Told) → Tells t → mayTell v i t ≡ true
+  tells-may (first x) w =
+      simp (eq-eqb (entryAt c i .kind) 2 (w .0), eq-eqb (lowestAt c i) (suc i) (w .1), eq-eqb x (low15At c i) (w .2))
+  tells-may (again n) w =
+      simp (eq-eqb (entryAt c i .kind) 2 (w .0), ne-eqb (lowestAt c i) (suc i) (w .1), eq-eqb n (lowestAt c i) (w .2))
+  tells-may optional (inl k) = simp (eq-eqb (entryAt c i .kind) 0 k)
+  tells-may optional (inr w) = rw (w .0, ne-eqb (lowestAt c i) (suc i) (w .1))
+  tells-may advised (inl k) = simp (eq-eqb (entryAt c i .kind) 1 k)
+  tells-may advised (inr k) = rw k
+
+  lowest-tells : (t : Told) → Tells t → entryAt c i .kind ≡ 2 → lowestAt c i ≡ suc i → (t ≡ first (low15At c i)) ⊎ (t ≡ advised)
+  lowest-tells (first x) w k l = inl (ap first (w .2))
+  lowest-tells (again n) w k l = absurd (w .1 l)
+  lowest-tells optional (inl z) k l = absurd (omega arith)
+  lowest-tells optional (inr w) k l = absurd (w .1 l)
+  lowest-tells advised w k l = inr refl
+
+  later-tells : (t : Told) → Tells t → entryAt c i .kind ≡ 2 → lowestAt c i < suc i → (t ≡ again (lowestAt c i)) ⊎ ((t ≡ advised) ⊎ (t ≡ optional))
+  later-tells (first x) w k l = absurd (omega arith)
+  later-tells (again n) w k l = inl (ap again (w .2))
+  later-tells optional w k l = inr (inr refl)
+  later-tells advised w k l = inr (inl refl)
+
+  optional-tells : (t : Told) → Tells t → entryAt c i .kind ≡ 0 → t ≡ optional
+  optional-tells (first x) w k = absurd (omega arith)
+  optional-tells (again n) w k = absurd (omega arith)
+  optional-tells optional w k = refl
+  optional-tells advised (inl z) k = absurd (omega arith)
+  optional-tells advised (inr z) k = absurd (omega arith)
+
+  advised-tells : (t : Told) → Tells t → entryAt c i .kind ≡ 1 → t ≡ advised
+  advised-tells (first x) w k = absurd (omega arith)
+  advised-tells (again n) w k = absurd (omega arith)
+  advised-tells optional (inl z) k = absurd (omega arith)
+  advised-tells optional (inr w) k = absurd (omega arith)
+  advised-tells advised w k = refl
+
+  module _ (s : Shown) where
+    -- a slot that passes the test keeps every rule
+    pub true-keeps : isTrue c p i s ≡ true → TrueAt c p i s
+    unfolding isTrue
+    true-keeps e =
+        let b = both (mayTell v i (s .told)) (Bool·beq (s .new) (newFor v (s .told))) e in
+        let w = may-tells (s .told) (b .0) in
+        let new = beq-true (s .new) (newFor v (s .told)) (b .1) in
+        record {
+          lowest-slot = lowest-tells (s .told) w;
+          later-slot = later-tells (s .told) w;
+          planned-optional = optional-tells (s .told) w;
+          planned-advised = advised-tells (s .told) w;
+          new-advised = λ q. new ∙ ap (newFor v) q;
+          new-optional = λ q. new ∙ ap (newFor v) q;
+          new-first = λ x q. new ∙ ap (newFor v) q;
+          new-repeat = λ n q. new ∙ ap (newFor v) q;
+        }
+
+    passes : (t : Told) → s .told ≡ t → Tells t → s .new ≡ newFor v t → isTrue c p i s ≡ true
+    unfolding isTrue
+    passes t e w n = rw (e, n, tells-may t w) (beq-refl (newFor v t))
+
+    module _ (g : planNumber c ≡ 0) (l : i < c .count) (t : TrueAt c p i s) where
+      page-passes : entryAt c i .kind ≡ 2 → isTrue c p i s ≡ true
+      page-passes k =
+          let reaches = leading c i l k .reaches in
+          let near : lowestAt c i < suc (suc i) = omega arith in
+          ⊎-elim
+          (λ own.
+          ⊎-elim
+          (λ e. passes (first (low15At c i)) e (k, own, refl) (t .new-first (low15At c i) e))
+          (λ e. passes advised e (inr k) (t .new-advised e))
+          (t .lowest-slot k own))
+          (λ below.
+          let other : lowestAt c i ≡ suc i → ⊥ = λ q. omega arith in
+          ⊎-elim
+          (λ e. passes (again (lowestAt c i)) e (k, other, refl) (t .new-repeat (lowestAt c i) e))
+          (λ o.
+          ⊎-elim
+          (λ e. passes advised e (inr k) (t .new-advised e))
+          (λ e. passes optional e (inr (k, other)) (t .new-optional e))
+          o)
+          (t .later-slot k below))
+          (below-suc near)
+
+      -- in a good plan a slot that keeps every rule passes the test
+      pub keeps-true : isTrue c p i s ≡ true
+      keeps-true =
+          ⊎-elim page-passes
+          (λ low.
+          ⊎-elim
+          (λ k. let e = t .planned-advised k in passes advised e (inl k) (t .new-advised e))
+          (λ least. let k : entryAt c i .kind ≡ 0 = omega arith in let e = t .planned-optional k in passes optional e (inl k) (t .new-optional e))
+          (below-suc low))
+          (below-suc (kind-few c g i l))

@@ -1,0 +1,2 @@
+-- What `checker_truth` defines.
+pub mod Claims

@@ -1,0 +1,140 @@
+-- Messages that go out in four blocks and are taken in order by a board.
+use Rattle.laws.proofs.Base.{_≡_, refl, sym, ap, _∙_, true, cond, List, _++_, append-assoc, ℕ, zero, suc, _+_, _*_, _-_, _≤_, _<_, min, arith, length, take, replicate, length-append, length-replicate, replicate-append-replicate, length-take-le, take-at, take-append-add, eqb, eq-eqb, ne-eqb, lt-ltb, le-ltb}
+use Rattle.laws.specs.Upto.{each}
+use Rattle.laws.proofs.Parts.{take-replicate}
+use Rattle.block.specs.Paper.{Kind, page, schedule, kindNumber, lastUsed, blocks, Held, Given, BlocksLeft, filled, start, proper, step, written}
+use Rattle.block_history.specs.Claims.{after, piece, pieces, expected}
+use Rattle.block_history.proofs.History.{standing, standing-proper, number-handed}
+use Rattle.block_history.proofs.Taken.{blocks-taken}
+use Rattle.page.specs.Paper.{Heading}
+use Rattle.text.specs.Paper as text
+use Rattle.text_back.proofs.Back.{written-length, used-bounds as text-used, text-back-blocks, heading-back}
+use Rattle.sender.specs.Paper.{usedPart, padded, planned, Writing, write}
+use Rattle.checker.specs.Paper.{check}
+use Rattle.delivery.specs.Claims.{blockOf, takenAt, StartedProper, Carried, textHanded, OverTheAir, HeaderOverTheAir, OursDelivered}
+use Rattle.delivery.proofs.ReadsBack.{reads-back, used-length}
+use Rattle.delivery.proofs.Accepted.{written as ours-written, used-bounds, ours-accepted}
+
+pub started-proper : StartedProper
+started-proper ps = standing-proper (standing ps)
+
+pieces-each : (k : Kind) (used : ℕ) (m : List ℕ) (n : ℕ) → pieces k used m n ≡ each (blockOf (blocks k used m 4)) n
+unfolding pieces each
+pieces-each k used m zero = refl
+pieces-each k used m (suc n) = rw (pieces-each k used m n)
+
+module _ (m : List ℕ) (used : ℕ) (whole : length m ≡ 88) (most : used ≤ 88) where
+  -- what is handed out is a page or message, and agrees with the one that was written as far as its blocks go
+  handed-length : length (filled (take (22 * lastUsed used) m)) ≡ 88
+  handed-length =
+      let n : length (take (22 * lastUsed used) m) ≡ 22 * lastUsed used = length-take-le (22 * lastUsed used) m (omega arith) in
+      rw length-append (rw length-replicate (omega arith))
+
+  handed-agrees : take (22 * lastUsed used) (filled (take (22 * lastUsed used) m)) ≡ take (22 * lastUsed used) m
+  handed-agrees =
+      take-at (take (22 * lastUsed used) m) _ (22 * lastUsed used) (length-take-le (22 * lastUsed used) m (omega arith))
+
+module _ (k : Kind) (m : List ℕ) (used : ℕ) (o : List ℕ) (h : Held) (whole : length m ≡ 88) (some : 1 ≤ used) (most : used ≤ 88) (room : length o ≡ 92) (good : proper h ≡ true) where
+  blocks-written : written m k used o ≡ record { number = 0; output = blocks k used m 4 }
+  unfolding written
+  blocks-written = simp (eq-eqb (length o) 92 room, eq-eqb (length m) 88 whole, ne-eqb used 0 (omega arith), le-ltb 88 used most)
+
+  taken-expected : (i : ℕ) → i < 4 → takenAt k m used o h i ≡ expected k used m i
+  taken-expected i l =
+      ap (λ (x : BlocksLeft). step (after h (each (blockOf (x .output)) i)) (blockOf (x .output) i)) blocks-written
+      ∙ ap (λ (ps : List (List ℕ)). step (after h ps) (piece k used m i)) (sym (pieces-each k used m i))
+      ∙ blocks-taken k used m h whole some most good i l
+
+  handed-last : expected k used m (lastUsed used - 1)
+      ≡ record { number = cond (eqb (kindNumber k) 2) 7 0; received = 22 * lastUsed used; octets = filled (take (22 * lastUsed used) m); next = start }
+  handed-last =
+      let j = lastUsed used in
+      let up : suc (j - 1) ≡ j = omega arith in
+      rw (le-ltb (suc (j - 1)) j (omega arith), eq-eqb (suc (j - 1)) j up, up)
+
+  carries : Carried k m used o h
+  carries =
+      let j = lastUsed used in
+      record {
+        done = ap (λ (x : BlocksLeft). x .number) blocks-written;
+        taken = λ i l. ap (λ (g : Given). g .number) (taken-expected i (omega arith)) ∙ rw (lt-ltb (suc i) j l);
+        handed =
+            taken-expected (j - 1) (omega arith) ∙ handed-last
+            ∙ ap (λ (n : ℕ). record { number = n; received = 22 * j; octets = filled (take (22 * j) m); next = start }) (number-handed k);
+        ignored =
+            λ i l f. ap (λ (g : Given). g .number) (taken-expected i f)
+            ∙ rw (le-ltb (suc i) j (omega arith), ne-eqb (suc i) j (omega arith));
+      }
+
+-- a page with text, taken in order
+module _ (heading : Heading) (t p o : List ℕ) (h : Held) (z : text.written heading t p .number ≡ 0) (room : length o ≡ 92) (good : proper h ≡ true) where
+  text-carried : Carried page (text.written heading t p .page) (text.written heading t p .used) o h
+  text-carried =
+      let bounds = text-used heading t p z in
+      carries page (text.written heading t p .page) (text.written heading t p .used) o h (written-length heading t p z) (omega arith) (bounds .1) room good
+
+  text-agrees : take (22 * lastUsed (text.written heading t p .used)) (textHanded heading t p o h .octets)
+      ≡ take (22 * lastUsed (text.written heading t p .used)) (text.written heading t p .page)
+  text-agrees =
+      let w = text.written heading t p in
+      ap (λ (g : Given). take (22 * lastUsed (w .used)) (g .octets)) (text-carried .handed)
+      ∙ handed-agrees (w .page) (w .used) (written-length heading t p z) (text-used heading t p z .1)
+
+pub over-the-air : OverTheAir
+over-the-air heading t p o u h z room size good =
+    let w = text.written heading t p in
+    let c = text-carried heading t p o h z room good in
+    let q = textHanded heading t p o h .octets in
+    let whole : length q ≡ 88 = ap (λ (g : Given). length (g .octets)) (c .handed) ∙ handed-length (w .page) (w .used) (written-length heading t p z) (text-used heading t p z .1) in
+    record {
+      carried = c;
+      reads =
+          ap (λ (g : Given). text.reading q (g .received) u) (c .handed)
+          ∙ text-back-blocks heading t p q u z whole size (text-agrees heading t p o h z room good);
+    }
+
+pub header-over-the-air : HeaderOverTheAir
+header-over-the-air heading t p o h z room good =
+    let w = text.written heading t p in
+    let used = text-used heading t p z in (
+      ap (λ (g : Given). g .number) (text-carried heading t p o h z room good .handed),
+      heading-back heading t p (textHanded heading t p o h .octets) (22 * lastUsed (w .used)) z (omega arith) (text-agrees heading t p o h z room good),
+    )
+
+-- 2B that is cut off a padded message is put back
+filled-padded : (x : List ℕ) (n : ℕ) → length x ≤ n → n ≤ 88 → filled (take n (padded x)) ≡ padded x
+unfolding padded
+filled-padded x n l h =
+    let a = n - length x in
+    let here : length x + a ≡ n = omega arith in
+    let least : min a (88 - length x) ≡ a = omega arith in
+    let cut : take n (padded x) ≡ x ++ replicate a 43 =
+    ap (λ (k : ℕ). take k (padded x)) (sym here)
+    ∙ take-append-add x (replicate (88 - length x) 43) a
+    ∙ ap (λ (y : List ℕ). x ++ y) (take-replicate a (88 - length x) 43 ∙ ap (λ (k : ℕ). replicate k 43) least) in
+    let size : length (x ++ replicate a 43) ≡ n = length-append x (replicate a 43) ∙ rw length-replicate here in
+    let rest : a + (88 - n) ≡ 88 - length x = omega arith in
+    ap filled cut
+    ∙ rw (size, append-assoc x (replicate a 43) (replicate (88 - n) 43), replicate-append-replicate a (88 - n), rest)
+
+pub ours-delivered : OursDelivered
+ours-delivered c p b m o h z room good =
+    let w = write c p b m in
+    let v = ours-written c p b m z in
+    let bounds = used-bounds c p b m z in
+    let k = 22 * lastUsed (w .used) in
+    let x = usedPart b (planned c p) (c .count) in
+    let output : w .output ≡ padded x = ap (λ (y : Writing). y .output) (v .result) in
+    let used : w .used ≡ length x = ap (λ (y : Writing). y .used) (v .result) ∙ sym (used-length b (planned c p) (c .count) (v .fits)) in
+    let whole : length (w .output) ≡ 88 = ap length output ∙ reads-back b (planned c p) (c .count) (v .fits) .whole in
+    let sent : Carried schedule (w .output) (w .used) o h = carries schedule (w .output) (w .used) o h whole (bounds .0) (bounds .1) room good in
+    let kept : filled (take k (w .output)) ≡ w .output =
+    ap (λ (y : List ℕ). filled (take k y)) output ∙ filled-padded x k (omega arith) (omega arith) ∙ sym output in
+    record {
+      carried = sent;
+      same = ap (λ (g : Given). g .octets) (sent .handed) ∙ kept;
+      accepted =
+          ap (λ (g : Given). check c p (g .octets) (g .received)) (sent .handed)
+          ∙ ap (λ (y : List ℕ). check c p y k) kept
+          ∙ ours-accepted c p b m z .used;
+    }

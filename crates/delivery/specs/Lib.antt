@@ -1,0 +1,2 @@
+-- What `delivery` states.
+pub mod Claims

@@ -1,4 +1,0 @@
--- What `history` proves.
-pub mod History
-pub mod Joins
-pub mod Taken

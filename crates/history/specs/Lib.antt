@@ -1,2 +1,0 @@
--- What `history` states.
-pub mod History

@@ -1,2 +1,0 @@
--- What `obeyed` defines.
-pub mod Claims

@@ -1,7 +1,0 @@
--- What `order` proves.
-pub mod Alike
-pub mod Once
-pub mod Ranks
-pub mod Refused
-pub mod Slides
-pub mod Tail

@@ -1,2 +1,0 @@
--- What `order` states.
-pub mod Claims

@@ -1,0 +1,7 @@
+-- Answers that meet a contract of `refusals` are equal.
+use Rattle.laws.proofs.Base.{_≡_, sym, _∙_, ℕ}
+use Rattle.refusals.specs.declared.Refusal.{Refusal}
+use Rattle.refusals.specs.Number.{numberOf}
+
+pub determined-number : (refusal : Refusal) (r s : ℕ) → r ≡ numberOf refusal → s ≡ numberOf refusal → r ≡ s
+determined-number refusal r s p q = p ∙ sym q

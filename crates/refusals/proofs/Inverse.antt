@@ -1,0 +1,82 @@
+-- A refusal is known by its number.
+use Rattle.laws.proofs.Base.{_≡_, refl, sym, ap, _∙_, cond, ℕ, arith, eqb}
+use Rattle.refusals.specs.declared.Refusal.{Refusal}
+use Rattle.refusals.specs.declared.Refusal.the-variants.{PieceLength, Discriminator, ReservedCode, NullCode, NotNext, StateImproper, TextLength, NotInAlphabet, EndsInCr, Scheme, PageParameter, OutputLength, MessageLength, UsedOctets, ReceivedOctets, ScheduleType, BeginOrEnd, NewPastEnd, DescriptionPastReceived, RepeatOfNoFirst, PlanMark, PlanVersion, PlanLength, PlanEntry, DescriptionsTooLong, PlanEmpty, Untrue, SlotNumber, WantedCount}
+use Rattle.refusals.specs.Number.{numberOf}
+
+-- the refusal that has a number, and some refusal for any other number
+abbrev pub refusalOf : ℕ → Refusal
+refusalOf n =
+    cond (eqb n 2) PieceLength (
+    cond (eqb n 3) Discriminator (
+    cond (eqb n 4) ReservedCode (
+    cond (eqb n 5) NullCode (
+    cond (eqb n 6) NotNext (
+    cond (eqb n 8) StateImproper (
+    cond (eqb n 10) TextLength (
+    cond (eqb n 11) NotInAlphabet (
+    cond (eqb n 12) EndsInCr (
+    cond (eqb n 13) Scheme (
+    cond (eqb n 14) PageParameter (
+    cond (eqb n 15) OutputLength (
+    cond (eqb n 16) MessageLength (
+    cond (eqb n 17) UsedOctets (
+    cond (eqb n 18) ReceivedOctets (
+    cond (eqb n 20) ScheduleType (
+    cond (eqb n 21) BeginOrEnd (
+    cond (eqb n 22) NewPastEnd (
+    cond (eqb n 23) DescriptionPastReceived (
+    cond (eqb n 24) RepeatOfNoFirst (
+    cond (eqb n 30) PlanMark (
+    cond (eqb n 31) PlanVersion (
+    cond (eqb n 32) PlanLength (
+    cond (eqb n 33) PlanEntry (
+    cond (eqb n 34) DescriptionsTooLong (
+    cond (eqb n 35) PlanEmpty (
+    cond (eqb n 40) Untrue (
+    cond (eqb n 41) SlotNumber (
+    WantedCount))))))))))))))))))))))))))))
+
+-- `refusalOf` undoes `numberOf`
+pub refusalOf-numberOf : (r : Refusal) → refusalOf (numberOf r) ≡ r
+refusalOf-numberOf PieceLength = refl
+refusalOf-numberOf Discriminator = refl
+refusalOf-numberOf ReservedCode = refl
+refusalOf-numberOf NullCode = refl
+refusalOf-numberOf NotNext = refl
+refusalOf-numberOf StateImproper = refl
+refusalOf-numberOf TextLength = refl
+refusalOf-numberOf NotInAlphabet = refl
+refusalOf-numberOf EndsInCr = refl
+refusalOf-numberOf Scheme = refl
+refusalOf-numberOf PageParameter = refl
+refusalOf-numberOf OutputLength = refl
+refusalOf-numberOf MessageLength = refl
+refusalOf-numberOf UsedOctets = refl
+refusalOf-numberOf ReceivedOctets = refl
+refusalOf-numberOf ScheduleType = refl
+refusalOf-numberOf BeginOrEnd = refl
+refusalOf-numberOf NewPastEnd = refl
+refusalOf-numberOf DescriptionPastReceived = refl
+refusalOf-numberOf RepeatOfNoFirst = refl
+refusalOf-numberOf PlanMark = refl
+refusalOf-numberOf PlanVersion = refl
+refusalOf-numberOf PlanLength = refl
+refusalOf-numberOf PlanEntry = refl
+refusalOf-numberOf DescriptionsTooLong = refl
+refusalOf-numberOf PlanEmpty = refl
+refusalOf-numberOf Untrue = refl
+refusalOf-numberOf SlotNumber = refl
+refusalOf-numberOf WantedCount = refl
+
+-- two refusals of one number are one refusal
+pub numberOf-injective : (r s : Refusal) → numberOf r ≡ numberOf s → r ≡ s
+numberOf-injective r s e = sym (refusalOf-numberOf r) ∙ ap refusalOf e ∙ refusalOf-numberOf s
+
+-- a number that `refusalOf` does not keep, as 0, 1 and 7, is no refusal's
+pub not-listed : (r : Refusal) (n : ℕ) → (numberOf (refusalOf n) ≡ n → ⊥) → numberOf r ≡ n → ⊥
+not-listed r n h e = h (ap numberOf (ap refusalOf (sym e) ∙ refusalOf-numberOf r) ∙ e)
+
+-- no refusal has the number of done
+pub numberOf-positive : (r : Refusal) → numberOf r ≡ 0 → ⊥
+numberOf-positive r = not-listed r 0 (omega arith)

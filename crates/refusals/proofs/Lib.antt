@@ -1,0 +1,3 @@
+-- What `refusals` proves.
+pub mod Determined
+pub mod Inverse

@@ -1,0 +1,2 @@
+-- What `refusals` defines.
+pub mod Number

@@ -1,0 +1,156 @@
+-- Messages that match in what the readers look at are read alike, but for Begin.
+use Rattle.laws.proofs.Base.{_≡_, refl, sym, ap, _∙_, Bool, true, false, cond, not, _&&_, Bool·beq, List, [], _∷_, _++_, ℕ, suc, _+_, _-_, _/_, _%_, _^_, _≤_, _<_, arith, length, getD, replicate, eqb, leb, ltb, ltb-true, ltb-false, ne-eqb}
+use Rattle.sizes.specs.Paper.{wholeBlocks}
+use Rattle.laws.specs.Ruled.{ruled}
+use Rattle.laws.specs.Upto.{some, count, picked, each}
+use Rattle.laws.proofs.Outcome.{Outcome, refuses, passes, outcome}
+use Rattle.laws.proofs.Ruled.{ruled-map}
+use Rattle.laws.proofs.Upto.{some-agree}
+use Rattle.schedule.specs.Paper.{octetAt, type, begin, end, new, told, place, rank, order, tells, falseRepeat, inBounds, faults, shown, Read, unread, good, read, Placed, placeAt, unplaced, whole, placed, next, noMore, refusal, slotOf, givenAt, given}
+use Rattle.schedule.proofs.Givens.{faults-some, read-placed}
+use Rattle.schedule.proofs.News.{new-octet, new-beyond}
+use Rattle.schedule.proofs.Places.{place-mono}
+use Rattle.schedule.proofs.Repeats.{falseRepeat-agree}
+use Rattle.schedule_order.specs.Claims.{Alike, begun, AlikeButBegin}
+use Rattle.schedule_order.proofs.Ranks.{order-below, rank-below}
+
+-- the first description starts after eight octets
+pub place-least : (m : List ℕ) (k : ℕ) → 8 ≤ place m k
+unfolding place
+place-least m k = place-mono m 0 k (omega arith)
+
+-- what the readers look at; of Begin only that the rule on it holds
+pub record Matching (m n : List ℕ) : Type 0 where
+  pub long : length m ≡ length n
+  pub kind : type m ≡ type n
+  pub rule : inBounds m ≡ inBounds n
+  pub last : end m ≡ end n
+  pub news : (i : ℕ) → i < 48 → new m i ≡ new n i
+  pub places : (k : ℕ) → k ≤ end m → place m k ≡ place n k
+  pub describes : (k : ℕ) → k < end m → told m (place m k) ≡ told n (place n k)
+
+-- messages that agree on octets 3 to 8 have the same new bits
+pub news-same : (m n : List ℕ) → ((i : ℕ) → 2 ≤ i → i < 8 → octetAt m i ≡ octetAt n i) → (i : ℕ) → i < 48 → new m i ≡ new n i
+news-same m n h i l =
+    sym (new-octet m i l) ∙ ap (λ (x : ℕ). eqb (x / 2 ^ (7 - i % 8) % 2) 1) (h (2 + i / 8) (omega arith) (omega arith)) ∙ new-octet n i l
+
+pub within-same : (m n : List ℕ) → begin m ≡ begin n → end m ≡ end n → inBounds m ≡ inBounds n
+within-same m n b e = λ p. leb 1 (b p) && (leb (b p) (e p) && leb (e p) 48)
+
+-- what is asked for only below a bound need be equal only there
+below-only : {A : Type 0} (i e : ℕ) (x y z : A) → (i < e → x ≡ y) → cond (ltb i e) x z ≡ cond (ltb i e) y z
+below-only i e x y z h = go (ltb i e) refl
+  where
+    go : (b : Bool) → ltb i e ≡ b → cond b x z ≡ cond b y z
+    go true q = h (ltb-true i e q)
+    go false q = refl
+
+module _ (m n : List ℕ) (a : Matching m n) where
+  new-same : new m ≡ new n
+  new-same = λ p i. each-new i p
+    where
+      each-new : (i : ℕ) → new m i ≡ new n i
+      each-new i = go (ltb i 48) refl
+        where
+          go : (b : Bool) → ltb i 48 ≡ b → new m i ≡ new n i
+          go true e = a .news i (ltb-true i 48 e)
+          go false e = let far = ltb-false i 48 e in sym (new-beyond m i far) ∙ new-beyond n i far
+
+  rank-same : (i : ℕ) → rank m i ≡ rank n i
+  rank-same i =
+      λ p. cond (new-same p i) 0 (count (λ (x : ℕ). Bool·beq (new-same p x) true) (a .last p)) + count (λ (x : ℕ). Bool·beq (new-same p x) (new-same p i)) i
+
+  order-same : order m ≡ order n
+  unfolding order
+  order-same =
+      λ p. picked (λ (x : ℕ). Bool·beq (new-same p x) true) (a .last p) ++ picked (λ (x : ℕ). Bool·beq (new-same p x) false) (a .last p)
+
+  tells-same : (i : ℕ) → i < end m → tells m i ≡ tells n i
+  unfolding tells
+  tells-same i l = a .describes (rank m i) (rank-below m i l) ∙ ap (λ (k : ℕ). told n (place n k)) (rank-same i)
+
+  shown-same : (i : ℕ) → i < end m → shown m i ≡ shown n i
+  shown-same i l = λ p. record { new = new-same p i; told = tells-same i l p }
+
+  placeAt-same : (i : ℕ) → placeAt m i ≡ placeAt n i
+  placeAt-same i =
+      below-only i (end m) (place m (rank m i)) (place n (rank n i)) 0
+      (λ l. let low = rank-below m i l in a .places (rank m i) (omega arith) ∙ ap (place n) (rank-same i))
+      ∙ ap (λ (e : ℕ). cond (ltb i e) (place n (rank n i)) 0) (a .last)
+
+  givenAt-same : (k : ℕ) → givenAt m k ≡ givenAt n k
+  givenAt-same k =
+      below-only k (end m) (next (suc (slotOf m k)) (shown m (slotOf m k))) (next (suc (slotOf n k)) (shown n (slotOf n k))) noMore
+      (λ l.
+      ap (next (suc (slotOf m k))) (shown-same (slotOf m k) (order-below m k l))
+      ∙ (λ p. next (suc (getD (order-same p) k 0)) (shown n (getD (order-same p) k 0))))
+      ∙ ap (λ (e : ℕ). cond (ltb k e) (next (suc (slotOf n k)) (shown n (slotOf n k))) noMore) (a .last)
+
+  last-same : place m (end m) ≡ place n (end n)
+  last-same = a .places (end m) (omega arith) ∙ ap (place n) (a .last)
+
+  false-same : some (falseRepeat (tells m)) (end m) ≡ some (falseRepeat (tells n)) (end n)
+  false-same =
+      some-agree (falseRepeat (tells m)) (falseRepeat (tells n)) (end m) (λ i l. falseRepeat-agree (tells m) (tells n) (end m) i tells-same l)
+      ∙ ap (some (falseRepeat (tells n))) (a .last)
+
+  module _ (received : ℕ) where
+    faults-same : faults m received ≡ faults n received
+    faults-same =
+        λ p. (not (eqb (a .long p) 88), 16)
+        ∷ (not (wholeBlocks received), 18)
+        ∷ (not (eqb (a .kind p) 0), 20)
+        ∷ (not (a .rule p), 21)
+        ∷ (some (λ (i : ℕ). leb (a .last p) i && new-same p i) 48, 22)
+        ∷ (ltb received (last-same p), 23)
+        ∷ (false-same p, 24)
+        ∷ []
+
+    gives-same : (k : ℕ) → given m received k ≡ given n received k
+    unfolding given
+    gives-same k = λ p. ruled refusal (faults-same p) (givenAt-same k p)
+
+    places-same : placed m received .places ≡ placed n received .places
+    unfolding placed
+    places-same =
+        ruled-map (λ (r : Placed). r .places) unplaced (faults m received) (whole m)
+        ∙ (λ p. ruled (λ (x : ℕ). replicate 48 0) (faults-same p) (each (λ (i : ℕ). placeAt-same i p) 48))
+        ∙ sym (ruled-map (λ (r : Placed). r .places) unplaced (faults n received) (whole n))
+
+    begun-same : read n received ≡ begun (begin n) (read m received)
+    unfolding read
+    begun-same = go (outcome (faults m received))
+      where
+        by-mine : read n received ≡ ruled unread (faults m received) (good n)
+        by-mine = sym (λ p. ruled unread (faults-same p) (good n))
+
+        go : Outcome (faults m received) → read n received ≡ begun (begin n) (read m received)
+        go (refuses x f h) =
+            by-mine ∙ h Read unread (good n) ∙ sym (ap (begun (begin n)) (h Read unread (good m)) ∙ rw (ne-eqb x 0 (faults-some m received x f)))
+        go (passes f h) =
+            by-mine ∙ h Read unread (good n) ∙ sym (ap (begun (begin n)) (h Read unread (good m)) ∙ (λ p. record { number = 0; begin = begin n; end = a .last p }))
+
+    pub alike-but-begin : AlikeButBegin m n received
+    alike-but-begin =
+        record {
+          reads = begun-same;
+          places =
+              λ p. record {
+                read = (read-placed n received ∙ begun-same ∙ ap (begun (begin n)) (sym (read-placed m received))) p;
+                places = sym places-same p;
+              };
+          shows = shown-same;
+          gives = gives-same;
+        }
+
+    pub alike : begin m ≡ begin n → Alike m n received
+    unfolding read placed
+    alike e =
+        record {
+          reads = λ p. ruled unread (faults-same p) (record { number = 0; begin = e p; end = a .last p });
+          places =
+              λ p. ruled unplaced (faults-same p)
+              (record { read = record { number = 0; begin = e p; end = a .last p }; places = each (λ (i : ℕ). placeAt-same i p) 48 });
+          shows = shown-same;
+          gives = gives-same;
+        }

@@ -1,0 +1,7 @@
+-- What `schedule_order` proves.
+pub mod Alike
+pub mod Once
+pub mod Ranks
+pub mod Refused
+pub mod Slides
+pub mod Tail

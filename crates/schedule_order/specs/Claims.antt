@@ -1,0 +1,107 @@
+-- What is claimed of the reader beside its contracts.
+use mathlib.Core.Path.{_≡_}
+use mathlib.Core.Bool.{false, true, cond}
+use mathlib.Core.List.{List, _∷_, _++_}
+use mathlib.Core.Logic.{_⊎_}
+use Prim.Native.Nat.{ℕ, suc, _+_, _*_, _-_, _≤_, _<_}
+use lib.ListN.{length, take, set, replicate}
+use lib.Dec.{eqb}
+use Rattle.sizes.specs.Paper.{wholeBlocks}
+use Rattle.schedule.specs.Paper.{octetAt, type, begin, end, new, width, again, place, rank, tells, isFirst, Shown, shown, Read, read, placed, next, given}
+
+-- 01 Schedule message: slot i is given exactly once, with what is shown of it, at its rank
+pub record Once (m : List ℕ) (received i : ℕ) : Type 0 where
+  pub at : given m received (rank m i) ≡ next (suc i) (shown m i)
+  pub only : (k : ℕ) (s : Shown) → given m received k ≡ next (suc i) s → k ≡ rank m i
+
+-- 01 Schedule message: Begin is from 1 to End
+pub record Begins (m : List ℕ) : Type 0 where
+  pub from : 1 ≤ begin m
+  pub upto : begin m ≤ end m
+
+-- 01 Schedule message: where the description of slot i ends
+abbrev pub ending : List ℕ → ℕ → ℕ
+ending m i = place m (rank m i) + width (octetAt m (place m (rank m i)))
+
+-- 01 Order: the reader's tests before 24 pass, each by its number in the table
+pub record Reaches24 (m : List ℕ) (received : ℕ) : Type 0 where
+  -- 16: the message has 88 octets
+  pub whole : length m ≡ 88
+  -- 18: received are 22, 44, 66 or 88
+  pub blocks : wholeBlocks received ≡ true
+  -- 20: the type is 00
+  pub kind : type m ≡ 0
+  -- 21: 1 ≤ Begin ≤ End ≤ 48
+  pub begins : Begins m
+  pub last : end m ≤ 48
+  -- 22: no new bit is set past End
+  pub old : (i : ℕ) → end m ≤ i → i < 48 → new m i ≡ false
+  -- 23: no slot's description passes the received octets
+  pub inside : (i : ℕ) → i < end m → ending m i ≤ received
+
+-- 01 Numbers given, 24: a slot whose repeat's number is 0, not below its own slot's, or names no first transmission
+pub record FalseRepeat (m : List ℕ) : Type 0 where
+  pub slot : ℕ
+  pub below : slot < end m
+  pub number : ℕ
+  pub repeats : tells m slot ≡ again number
+  pub why : (number ≡ 0) ⊎ ((suc slot ≤ number) ⊎ (isFirst (tells m (number - 1)) ≡ false))
+
+-- 01 Schedule message: two messages read alike by every reader, and showing the same of each slot up to End
+pub record Alike (m n : List ℕ) (received : ℕ) : Type 0 where
+  pub reads : read m received ≡ read n received
+  pub places : placed m received ≡ placed n received
+  pub shows : (i : ℕ) → i < end m → shown m i ≡ shown n i
+  pub gives : (k : ℕ) → given m received k ≡ given n received k
+
+-- 01 Schedule message: what is read, with another Begin; a refusal stays as it is
+abbrev pub begun : ℕ → Read → Read
+begun b r = cond (eqb (r .number) 0) (record { number = 0; begin = b; end = r .end }) r
+
+-- 01 Schedule message: n is read as m by every reader, but for Begin, which is its own, and shows the same of each slot up to End
+pub record AlikeButBegin (m n : List ℕ) (received : ℕ) : Type 0 where
+  pub reads : read n received ≡ begun (begin n) (read m received)
+  pub places : placed n received ≡ record { read = begun (begin n) (placed m received .read); places = placed m received .places }
+  pub shows : (i : ℕ) → i < end m → shown m i ≡ shown n i
+  pub gives : (k : ℕ) → given m received k ≡ given n received k
+
+-- 01 Schedule message: 40, optional
+abbrev pub optionalOctet : ℕ
+optionalOctet = 0x40
+
+-- 01 Easy to get wrong: the message with the description that stands after k others made 40
+abbrev pub made40 : List ℕ → ℕ → List ℕ
+made40 m k = set m (place m k) optionalOctet
+
+-- 01 Schedule message: two messages of one length, type and End, with the same new bits and descriptions; Begin, the spare bits of octet 2 and the octets past the last description are free
+pub record SameSlots (m n : List ℕ) : Type 0 where
+  pub long : length m ≡ length n
+  pub kind : type m ≡ type n
+  pub last : end m ≡ end n
+  pub news : (i : ℕ) → i < 48 → new m i ≡ new n i
+  pub descriptions : (i : ℕ) → 8 ≤ i → i < place m (end m) → octetAt m i ≡ octetAt n i
+
+-- 01 Schedule message: of such messages nothing is read differently where Begin is the same, and nothing but Begin where each has its own from 1 to End
+pub record TailIgnored (m n : List ℕ) (received : ℕ) : Type 0 where
+  pub same : begin m ≡ begin n → Alike m n received
+  pub other : Begins m → Begins n → AlikeButBegin m n received
+
+-- 01 Schedule message: the message with Begin b, its type as it was
+abbrev pub withBegin : List ℕ → ℕ → List ℕ
+withBegin m b = set m 0 (64 * type m + b)
+
+-- 01 Schedule message: the message with s in the spare bits of octet 2, its End as it was
+abbrev pub withSpare : List ℕ → ℕ → List ℕ
+withSpare m s = set m 1 (64 * s + end m)
+
+-- 01 Schedule message: the message with the octets t past its last description
+abbrev pub withTail : List ℕ → List ℕ → List ℕ
+withTail m t = take (place m (end m)) m ++ t
+
+-- 01 Where the edges are: the message of the plan of two slots
+abbrev pub twoSlots : List ℕ
+twoSlots = 0x01 ∷ 0x02 ∷ 0xc0 ∷ 0 ∷ 0 ∷ 0 ∷ 0 ∷ 0 ∷ 0x80 ∷ 0x01 ∷ 0x01 ∷ replicate 77 0x2b
+
+-- 01 Where the edges are: the same with Begin 2, with End octet C2, and with FF past its last description
+abbrev pub twoSlotsOther : List ℕ
+twoSlotsOther = 0x02 ∷ 0xc2 ∷ 0xc0 ∷ 0 ∷ 0 ∷ 0 ∷ 0 ∷ 0 ∷ 0x80 ∷ 0x01 ∷ 0x01 ∷ replicate 77 0xff

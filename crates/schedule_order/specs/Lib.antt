@@ -1,0 +1,2 @@
+-- What `schedule_order` states.
+pub mod Claims

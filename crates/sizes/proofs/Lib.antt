@@ -1,0 +1,3 @@
+-- What `sizes` proves.
+pub mod Determined
+pub mod Received

@@ -1,0 +1,2 @@
+-- What `sizes` states.
+pub mod Paper

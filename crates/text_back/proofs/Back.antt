@@ -1,0 +1,172 @@
+-- What the writer writes is read back, the same characters, received whole or up to the last used block.
+use Rattle.laws.proofs.Base.{_≡_, refl, sym, ap, _∙_, true, false, _||_, or-assoc, List, [], _∷_, _++_, map, map-append, append-assoc, append-nil, ℕ, zero, suc, _+_, _*_, _-_, _/_, _^_, _<_, _≤_, min, zero-lt-suc, le-refl, add-sub-of-le, arith, eqb, lit<, length, getD, take, drop, replicate, length-append, length-map, take-length, take-at, take-take, drop-at, take-append-add, getD-take, eqb-false}
+use lib.Pow.{pow-add}
+use Rattle.laws.specs.Radix.{value, Below}
+use Rattle.sizes.specs.Paper.{wholeBlocks}
+use Rattle.laws.proofs.Parts.{drop-take, take-replicate}
+use Rattle.laws.proofs.Radix.{length-digits, take-digits, digits-front, digits-kept, power-bits}
+use Rattle.sizes.proofs.Received.{whole-times, whole-bounds}
+use Rattle.laws.proofs.Tests.{neither}
+use Rattle.alphabet.specs.Paper.{codePoint, septetOf, noSeptet}
+use Rattle.alphabet.proofs.Laws.{Writes, reads-cr}
+use Rattle.page.specs.Paper.{Heading, header, headerOctets, octet}
+use Rattle.page.proofs.HeaderBack.{header-back, header-length}
+use Rattle.text.specs.Paper.{Writing, cr, septets, packed, pageOf, usedOctets, foreign, endsInCr, written, wholeOf, septetsReceived, trimmed, shown, reading}
+use Rattle.text.proofs.Cases.{reading-0}
+use Rattle.text.proofs.Septets.{known, septets-count, septets-below}
+use Rattle.text.proofs.Trim.{trim-cr, trim-other, take-last}
+use Rattle.text_back.proofs.Accepted.{writer-accepts}
+
+-- 128 ^ k divides 256 ^ m where k septets are no more bits than m octets
+bits-kept : (k m : ℕ) → 7 * k ≤ 8 * m → 128 ^ k * 2 ^ (8 * m - 7 * k) ≡ 256 ^ m
+bits-kept k m h =
+    rw (power-bits 7 k, power-bits 8 m)
+    (sym (pow-add 2 (7 * k) (8 * m - 7 * k)) ∙ ap (λ (e : ℕ). 2 ^ e) (add-sub-of-le h))
+
+-- the whole septets of the first m packed octets are the first septets
+front-back : (s : List ℕ) (m : ℕ) → length s ≡ 93 → m ≤ 82 → Below 128 s → wholeOf (take m (packed s)) ≡ take (8 * m / 7) s
+unfolding wholeOf packed
+front-back s m e h low =
+    rw (take-digits 256 m 82 (value 128 s) h, length-digits 256 m (value 128 s))
+    (digits-kept 256 128 m (8 * m / 7) (2 ^ (8 * m - 7 * (8 * m / 7))) (value 128 s) (lit< tt) (bits-kept (8 * m / 7) m (omega arith))
+    ∙ digits-front 128 (8 * m / 7) s low (omega arith))
+
+-- CRs after some septets are dropped
+pub trim-padding : (j : ℕ) (s : List ℕ) → trimmed (s ++ replicate j cr) ≡ trimmed s
+trim-padding zero s = rw (append-nil s)
+trim-padding (suc j) s =
+    ap trimmed (sym (append-assoc s (cr ∷ []) (replicate j cr))) ∙ trim-padding j (s ++ (cr ∷ [])) ∙ trim-cr s
+
+foreign-append : (s t : List ℕ) → foreign (s ++ t) ≡ (foreign s || foreign t)
+unfolding foreign
+foreign-append [] t = refl
+foreign-append (c ∷ s) t = rw (foreign-append s t) (sym (or-assoc (eqb (septetOf c) noSeptet) (foreign s) (foreign t)))
+
+-- a character other than CR has a septet other than CR
+no-cr : (c : ℕ) → Writes c (septetOf c) → (c ≡ cr → ⊥) → septetOf c ≡ cr → ⊥
+no-cr c w ne e = ne (sym (w .reads) ∙ ap codePoint e ∙ reads-cr)
+
+-- nothing is dropped of the septets of a text that doesn't end in CR
+trim-last : (t : List ℕ) → 0 < length t → foreign t ≡ false → endsInCr t ≡ false → trimmed (map septetOf t) ≡ map septetOf t
+unfolding foreign endsInCr
+trim-last t pos f ends =
+    let front : List ℕ = take (length t - 1) t in
+    let c : ℕ = getD t (length t - 1) 0 in
+    let split : t ≡ front ++ (c ∷ []) = sym (take-length t) ∙ take-last t (length t) pos (le-refl _) in
+    let m : map septetOf t ≡ map septetOf front ++ (septetOf c ∷ []) = ap (map septetOf) split ∙ map-append septetOf front (c ∷ []) in
+    let last : foreign (c ∷ []) ≡ false = neither (foreign front) (foreign (c ∷ [])) (sym (foreign-append front (c ∷ [])) ∙ sym (ap foreign split) ∙ f) .1 in
+    let w : Writes c (septetOf c) = known c (neither (eqb (septetOf c) noSeptet) false last .0) in
+    ap trimmed m ∙ trim-other (map septetOf front) (septetOf c) (no-cr c w (eqb-false c cr ends)) ∙ sym m
+
+trim-nil : trimmed [] ≡ []
+unfolding trimmed
+trim-nil = refl
+
+trim-found : (t : List ℕ) → foreign t ≡ false → endsInCr t ≡ false → trimmed (map septetOf t) ≡ map septetOf t
+trim-found [] f ends = trim-nil
+trim-found (c ∷ t) f ends = trim-last (c ∷ t) (zero-lt-suc _) f ends
+
+-- what is written for each character reads as it
+reads-back : (t : List ℕ) → foreign t ≡ false → map codePoint (map septetOf t) ≡ t
+unfolding foreign
+reads-back [] h = refl
+reads-back (c ∷ t) h =
+    let n = neither (eqb (septetOf c) noSeptet) (foreign t) h in
+    rw (known c (n .0) .reads, reads-back t (n .1))
+
+-- the first k septets of a text, all its characters among them, without the CRs at the end
+trim-front-back : (t : List ℕ) (k : ℕ) → length t ≤ k → foreign t ≡ false → endsInCr t ≡ false → trimmed (take k (septets t)) ≡ map septetOf t
+unfolding septets
+trim-front-back t k h f ends =
+    let m : List ℕ = map septetOf t in
+    let pad : List ℕ = replicate (93 - length t) cr in
+    let e : length m + (k - length m) ≡ k = add-sub-of-le (rw (length-map t septetOf) h) in
+    let cut : take k (m ++ pad) ≡ m ++ replicate (min (k - length m) (93 - length t)) cr =
+    ap (λ (n : ℕ). take n (m ++ pad)) (sym e)
+    ∙ take-append-add m pad (k - length m)
+    ∙ ap (λ (l : List ℕ). m ++ l) (take-replicate (k - length m) (93 - length t) cr) in
+    ap trimmed cut ∙ trim-padding (min (k - length m) (93 - length t)) m ∙ trim-found t f ends
+
+-- the content of what agrees with a written page on its first n octets
+content-back : (h : Heading) (t q : List ℕ) (n : ℕ) → take n q ≡ take n (pageOf h t) → take (n - 6) (drop 6 q) ≡ take (n - 6) (packed (septets t))
+unfolding pageOf
+content-back h t q n e =
+    sym (drop-take 6 n q) ∙ ap (λ (l : List ℕ). drop 6 l) e ∙ drop-take 6 n (pageOf h t)
+    ∙ ap (λ (l : List ℕ). take (n - 6) l) (drop-at (headerOctets h) (packed (septets t)) 6 (header-length h))
+
+-- what was written is a page
+pub written-length : (h : Heading) (t p : List ℕ) → written h t p .number ≡ 0 → length (written h t p .page) ≡ 88
+unfolding pageOf packed
+written-length h t p z =
+    ap (λ (x : Writing). length (x .page)) (writer-accepts h t p z .result)
+    ∙ length-append (headerOctets h) (packed (septets t))
+    ∙ rw (header-length h, length-digits 256 82 (value 128 (septets t)))
+
+-- what agrees with a written page on its header octets has the header that was written
+heading-agrees : (h : Heading) (t q : List ℕ) (n : ℕ) → 6 ≤ n → take n q ≡ take n (pageOf h t) → header (take 6 q) ≡ h
+unfolding pageOf
+heading-agrees h t q n l e =
+    let front : take 6 q ≡ headerOctets h =
+    sym (take-take 6 n q l) ∙ ap (λ (x : List ℕ). take 6 x) e ∙ take-take 6 n (pageOf h t) l
+    ∙ take-at (headerOctets h) (packed (septets t)) 6 (header-length h) in
+    ap header front ∙ header-back h
+
+scheme-back : (h : Heading) (t q : List ℕ) (n : ℕ) → 6 ≤ n → take n q ≡ take n (pageOf h t) → octet q 5 ≡ h .scheme
+unfolding header
+scheme-back h t q n l e = sym (getD-take 6 q 4 0 (lit< tt)) ∙ ap (λ (x : Heading). x .scheme) (heading-agrees h t q n l e)
+
+shown-back : (t : List ℕ) → foreign t ≡ false → shown (map septetOf t) ≡ record { number = 0; characters = length t; text = t ++ replicate (93 - length t) 0 }
+unfolding shown
+shown-back t f = rw (length-map t septetOf, reads-back t f)
+
+-- what was used is at least the header, and at most the page
+pub used-bounds : (h : Heading) (t p : List ℕ) → written h t p .number ≡ 0 → (6 ≤ written h t p .used) × (written h t p .used ≤ 88)
+used-bounds h t p z =
+    let a = writer-accepts h t p z in
+    let e : written h t p .used ≡ usedOctets t = ap (λ (x : Writing). x .used) (a .result) in
+    omega (arith, e, a .short)
+
+-- any page that agrees with the written one on the octets received, all used ones among them, is read back as the text
+pub text-back : (h : Heading) (t p : List ℕ) → written h t p .number ≡ 0
+    → (q u : List ℕ) (n : ℕ) → wholeBlocks n ≡ true → usedOctets t ≤ n → length q ≡ 88 → length u ≡ 93
+    → take n q ≡ take n (written h t p .page)
+    → reading q n u ≡ record { number = 0; characters = length t; text = t ++ replicate (93 - length t) 0 }
+text-back h t p z q u n w used lq lu agree =
+    let a = writer-accepts h t p z in
+    let b = whole-bounds n w in
+    let e : take n q ≡ take n (pageOf h t) = agree ∙ ap (λ (x : Writing). take n (x .page)) (a .result) in
+    let s : octet q 5 ≤ 15 = rw (scheme-back h t q n (omega arith) e) (a .scheme) in
+    let got : septetsReceived q n ≡ take (8 * (n - 6) / 7) (septets t) =
+    ap wholeOf (content-back h t q n e)
+    ∙ front-back (septets t) (n - 6) (septets-count t (a .short)) (omega arith) (septets-below t (a .known)) in
+    reading-0 q n u lu lq w s
+    ∙ ap (λ (l : List ℕ). shown (trimmed l)) got
+    ∙ ap shown (trim-front-back t (8 * (n - 6) / 7) (omega arith) (a .known) (a .open-ended))
+    ∙ shown-back t (a .known)
+
+-- the header of any page that agrees with the written one on the octets received is the one that was written
+pub heading-back : (h : Heading) (t p q : List ℕ) (n : ℕ) → written h t p .number ≡ 0 → 6 ≤ n → take n q ≡ take n (written h t p .page) → header (take 6 q) ≡ h
+heading-back h t p q n z l agree =
+    heading-agrees h t q n l (agree ∙ ap (λ (x : Writing). take n (x .page)) (writer-accepts h t p z .result))
+
+-- the written page itself, received whole
+pub text-back-whole : (h : Heading) (t p u : List ℕ) → written h t p .number ≡ 0 → length u ≡ 93
+    → reading (written h t p .page) 88 u ≡ record { number = 0; characters = length t; text = t ++ replicate (93 - length t) 0 }
+text-back-whole h t p u z lu =
+    let a = writer-accepts h t p z in
+    text-back h t p z (written h t p .page) u 88 (whole-times 4 (omega arith) (omega arith)) (omega (arith, a .short)) (written-length h t p z) lu refl
+
+-- the octets of the blocks up to the last used one
+abbrev pub usedBlocks : ℕ → ℕ
+usedBlocks used = 22 * ((used + 21) / 22)
+
+-- what agrees with the written page on the blocks up to the last used one, received so far
+pub text-back-blocks : (h : Heading) (t p q u : List ℕ) → written h t p .number ≡ 0 → length q ≡ 88 → length u ≡ 93
+    → take (usedBlocks (written h t p .used)) q ≡ take (usedBlocks (written h t p .used)) (written h t p .page)
+    → reading q (usedBlocks (written h t p .used)) u ≡ record { number = 0; characters = length t; text = t ++ replicate (93 - length t) 0 }
+text-back-blocks h t p q u z lq lu agree =
+    let a = writer-accepts h t p z in
+    let e : written h t p .used ≡ usedOctets t = ap (λ (x : Writing). x .used) (a .result) in
+    let j : ℕ = (written h t p .used + 21) / 22 in
+    text-back h t p z q u (22 * j) (whole-times j (omega (arith, a .short)) (omega (arith, a .short)))
+    (omega (arith, e)) lq lu agree

@@ -1,0 +1,5 @@
+-- What `text_back` proves.
+pub mod Accepted
+pub mod Back
+pub mod Bits
+pub mod Reader

@@ -1,3 +1,0 @@
--- What `truth` proves.
-pub mod Accepted
-pub mod TrueAt

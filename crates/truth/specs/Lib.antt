@@ -1,2 +1,0 @@
--- What `truth` defines.
-pub mod Truthful

@@ -1,4 +1,0 @@
--- What `unpacked` proves.
-pub mod Codes
-pub mod Told
-pub mod Unpacked

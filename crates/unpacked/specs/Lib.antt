@@ -1,2 +1,0 @@
--- What `unpacked` defines.
-pub mod Answered
