@@ -7,13 +7,7 @@ use crate::told;
 // The place after a field that cannot be read: past every line.
 pub(crate) const UNREAD: usize = usize::MAX;
 
-// What memory holds that is lent for output.
-pub(crate) const LENT: u8 = 0xA5;
-
-// The same for a number of 32 bits.
-pub(crate) const LENT_NUMBER: u32 = 0xA5A5_A5A5;
-
-// The most elements of a list, and of memory lent for output.
+// The most octets of a list.
 const ROOM: usize = 1024;
 
 // More than a digit's value.
@@ -34,25 +28,11 @@ pub(crate) struct List {
     pub(crate) next: usize,
 }
 
-// Room for octets, as memory is lent for output.
+// Room for octets.
 pub(crate) fn room() -> [u8; ROOM]
     ensures { λ r. ⌜ 1024 ≤ length r ⌝ }
 {
-    [LENT; ROOM]
-}
-
-// The same for words.
-pub(crate) fn word_room() -> [u16; ROOM / 2]
-    ensures { λ r. ⌜ 512 ≤ length r ⌝ }
-{
-    [0xA5A5; ROOM / 2]
-}
-
-// The same for numbers of 32 bits.
-pub(crate) fn number_room() -> [u32; ROOM / 2]
-    ensures { λ r. ⌜ 512 ≤ length r ⌝ }
-{
-    [LENT_NUMBER; ROOM / 2]
+    [0; ROOM]
 }
 
 // Where the characters of the field at a place start.
@@ -111,56 +91,6 @@ pub(crate) fn take_octets(line: &[u8], at: usize, room: &mut [u8]) -> List
     }
 }
 
-// Reads words into a room.
-pub(crate) fn take_words(line: &[u8], at: usize, words: &mut [u16]) -> List
-    ensures { λ r. ⌜ Within (r .count) (now (words .exit)) ⌝ }
-{
-    let mut octets = room();
-    let given = take_octets(line, at, &mut octets);
-    let count = given.count;
-    if count % 2 == 1 {
-        return List {
-            count: 0,
-            next: UNREAD,
-        };
-    }
-    List {
-        count: words_in(&octets[..count], words),
-        next: given.next,
-    }
-}
-
-// Reads the length of memory that is lent for output, as a number of elements of a room.
-pub(crate) fn take_length(line: &[u8], at: usize, room: &[u8]) -> List
-    ensures { λ r. ⌜ Within (r .count) (now (room .entry)) ⌝ }
-{
-    let given = take_number(line, at, room.len() as u64);
-    List {
-        count: given.value as usize,
-        next: given.next,
-    }
-}
-
-pub(crate) fn take_word_length(line: &[u8], at: usize, room: &[u16]) -> List
-    ensures { λ r. ⌜ Within (r .count) (now (room .entry)) ⌝ }
-{
-    let given = take_number(line, at, room.len() as u64);
-    List {
-        count: given.value as usize,
-        next: given.next,
-    }
-}
-
-pub(crate) fn take_number_length(line: &[u8], at: usize, room: &[u32]) -> List
-    ensures { λ r. ⌜ Within (r .count) (now (room .entry)) ⌝ }
-{
-    let given = take_number(line, at, room.len() as u64);
-    List {
-        count: given.value as usize,
-        next: given.next,
-    }
-}
-
 // The number whose digits a text starts with. Only what is told again in the same characters was read.
 fn number_in(text: &[u8]) -> u64 {
     let mut value: u64 = 0;
@@ -198,27 +128,6 @@ fn octets_in(text: &[u8], room: &mut [u8]) -> usize
         i += 2;
     }
     count
-}
-
-// Puts octets into a room as words of two, and answers how many there are.
-fn words_in(octets: &[u8], room: &mut [u16]) -> usize
-    ensures { λ r. ⌜ Within r (now (room .exit)) ⌝ }
-{
-    let mut count = 0;
-    let mut i = 0;
-    while count < room.len() {
-        if octets.len() - i < 2 {
-            return count;
-        }
-        room[count] = word(octets[i], octets[i + 1]);
-        count += 1;
-        i += 2;
-    }
-    count
-}
-
-fn word(high: u8, low: u8) -> u16 {
-    256 * high as u16 + low as u16
 }
 
 fn digit(character: u8) -> u8

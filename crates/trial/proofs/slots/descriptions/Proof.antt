@@ -1,13 +1,13 @@
--- `trial::tellings::descriptions` is safe and ends.
+-- `trial::slots::descriptions` is safe and ends.
 use Rattle.laws.proofs.Base.{_-_, length, needs}
-use Rattle.trial.proofs.tellings.descriptions.Statement.{statement}
-use Rattle.trial.proofs.tellings.descriptions.Tie as tie
+use Rattle.trial.proofs.slots.descriptions.Statement.{statement}
+use Rattle.trial.proofs.slots.descriptions.Tie as tie
 
 abbrev Inv-loop : tie.InvT-loop
-Inv-loop line at message received number next₀ place₀ given₀ next place given = Unit {0}
+Inv-loop line at message received next₀ place₀ given₀ next place given = Unit {0}
 
 abbrev μ-loop : tie.MeasureT-loop
-μ-loop line at message received number next₀ place₀ given₀ next place given = length line - given
+μ-loop line at message received next₀ place₀ given₀ next place given = length line - given
 
 pub descriptions-spec : {M : Type 1} → statement M
 descriptions-spec =
