@@ -1,7 +1,7 @@
 /*
  * The intake as it is written in C without proofs: what cb_intake is measured beside.
  *
- * The octets that no block filled are looked at one by one. With PLAIN_MEMCMP the C library looks at them,
+ * The octets that no block filled are looked at one by one. With PLAIN_WORDS the C library looks at many at a time,
  * which takes a blank message to compare with and is quicker where memcmp is written for the processor.
  */
 #include "plain.h"
@@ -30,7 +30,7 @@ static uint32_t refuse(uint8_t *state, uint32_t answer)
 
 static bool is_blank(const uint8_t *octets, size_t count)
 {
-#ifdef PLAIN_MEMCMP
+#ifdef PLAIN_WORDS
     static const char blank[] = "++++++++++++++++++++++" "++++++++++++++++++++++" /* 2B is a plus sign */
                                 "++++++++++++++++++++++" "++++++++++++++++++++++";
 

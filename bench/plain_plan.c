@@ -16,13 +16,30 @@ static const uint8_t *entry(const uint8_t *file, unsigned slot)
     return file + FRONT + ENTRY * slot;
 }
 
-/* The lowest slot, from 1, of a page among the first slots of a file; 0 for none. A page's entry is its kind and name. */
-static unsigned lowest_slot(const uint8_t *file, unsigned count, const uint8_t *page)
+/* The entries of a file, each with its kind and name in one word. */
+static void words_of(const uint8_t *file, unsigned count, uint64_t *words)
 {
-    for (unsigned slot = 0; slot < count; slot++)
-        if (memcmp(entry(file, slot), page, ENTRY) == 0)
-            return slot + 1;
-    return 0;
+    for (unsigned slot = 0; slot < count; slot++) {
+        words[slot] = 0;
+        memcpy(words + slot, entry(file, slot), ENTRY);
+    }
+}
+
+/* The lowest slot of a page among entries of which one has it. */
+static unsigned lowest_slot(const uint64_t *words, uint64_t page)
+{
+    const uint64_t *at = words;
+
+    while (*at != page)
+        at++;
+    return (unsigned)(at - words);
+}
+
+/* Whether some entries, after which there is room for one more, have a page. */
+static bool has_page(uint64_t *words, unsigned count, uint64_t page)
+{
+    words[count] = page;
+    return lowest_slot(words, page) < count;
 }
 
 static unsigned low15(const uint8_t *page)
@@ -30,42 +47,46 @@ static unsigned low15(const uint8_t *page)
     return (page[3] & 0x7Fu) << 8 | page[4];
 }
 
-/* The number of the first refused of a plan and the one before it, a plan without slots too; or else 256 * the slots of
- * the plan + 65536 * those of the one before. Packed, since with a pointer for each gcc takes a sixth more instructions to
- * check a schedule, and what is measured beside it would look better than it is. */
-static uint32_t read_plans(const uint8_t *current, size_t current_len, const uint8_t *previous, size_t previous_len)
+/* Reads a plan and the one before it, for their counts of slots: 0 or the first refusal, which a plan without slots is too. */
+static uint32_t read_plans(const uint8_t *current, size_t current_len, const uint8_t *previous, size_t previous_len,
+                           unsigned *count, unsigned *before)
 {
     uint32_t plan = plain_read_plan(current, current_len);
 
     if (plan % 256 != 0)
         return plan;
-    uint32_t before = plain_read_plan(previous, previous_len);
-    if (before % 256 != 0)
-        return before;
-    return plan == 0 ? 35 : plan + 256 * before;
+    uint32_t older = plain_read_plan(previous, previous_len);
+    if (older % 256 != 0)
+        return older;
+    *count = plan / 256;
+    *before = older / 256;
+    return plan == 0 ? 35 : 0;
 }
 
 uint32_t plain_write_schedule(const uint8_t *current, size_t current_len, const uint8_t *previous, size_t previous_len,
                               size_t begin, uint8_t *out, size_t out_len)
 {
+    uint64_t words[SLOTS], words_before[SLOTS + 1];
     uint16_t code[SLOTS];
     bool new[SLOTS];
+    unsigned count, before;
     size_t used = HEADER, at = HEADER;
 
     if (out_len != MESSAGE)
         return 15;
-    uint32_t number = read_plans(current, current_len, previous, previous_len);
-    if (number % 256 != 0)
+    uint32_t number = read_plans(current, current_len, previous, previous_len, &count, &before);
+    if (number != 0)
         return number;
-    unsigned count = number / 256 % 256, before = number / 65536;
     if (begin < 1 || begin > count)
         return 21;
+    words_of(current, count, words);
+    words_of(previous, before, words_before);
     for (unsigned slot = 0; slot < count; slot++) {
         const uint8_t *page = entry(current, slot);
         if (page[0] == PAGE) {
-            unsigned lowest = lowest_slot(current, slot, page);
-            code[slot] = (uint16_t)(lowest == 0 ? FIRST | low15(page) : lowest);
-            new[slot] = lowest == 0 ? lowest_slot(previous, before, page) == 0 : new[lowest - 1];
+            unsigned lowest = lowest_slot(words, words[slot]);
+            code[slot] = (uint16_t)(lowest == slot ? FIRST | low15(page) : lowest + 1);
+            new[slot] = lowest == slot ? !has_page(words_before, before, words[slot]) : new[lowest];
         } else {
             code[slot] = page[0] == 1 ? ADVISED : OPTIONAL;
             new[slot] = page[0] == 1;
@@ -95,13 +116,13 @@ uint32_t plain_write_schedule(const uint8_t *current, size_t current_len, const 
 /* Whether what a message tells of a slot is true beside the plans; `lowest` is that of the slot's page. */
 static bool is_true(const uint8_t *page, unsigned slot, unsigned lowest, bool before, bool new, unsigned code)
 {
-    bool leads = page[0] == PAGE && lowest == slot + 1;
-    bool repeats = page[0] == PAGE && lowest != slot + 1;
+    bool leads = page[0] == PAGE && lowest == slot;
+    bool repeats = page[0] == PAGE && lowest != slot;
 
     if (code >= FIRST)
         return leads && code == (FIRST | low15(page)) && new != before;
     if (code < REPEATS)
-        return repeats && code == lowest && new != before;
+        return repeats && code == lowest + 1 && new != before;
     if (code == ADVISED)
         return page[0] != 0 && new;
     return (page[0] == 0 || repeats) && !new;
@@ -110,21 +131,24 @@ static bool is_true(const uint8_t *page, unsigned slot, unsigned lowest, bool be
 uint32_t plain_check_schedule(const uint8_t *current, size_t current_len, const uint8_t *previous, size_t previous_len,
                               const uint8_t *message, size_t message_len, size_t received)
 {
+    uint64_t words[SLOTS], words_before[SLOTS + 1];
     struct plain_table table;
-    uint32_t number = read_plans(current, current_len, previous, previous_len);
+    unsigned count, before;
+    uint32_t number = read_plans(current, current_len, previous, previous_len, &count, &before);
 
-    if (number % 256 != 0)
+    if (number != 0)
         return number;
-    unsigned count = number / 256 % 256, before = number / 65536;
     number = plain_read_slots(message, message_len, received, &table);
     if (number != 0)
         return number;
     if (table.end != count)
         return 40;
+    words_of(current, count, words);
+    words_of(previous, before, words_before);
     for (unsigned slot = 0; slot < count; slot++) {
         const uint8_t *page = entry(current, slot);
-        unsigned lowest = page[0] == PAGE ? lowest_slot(current, count, page) : 0;
-        bool had = page[0] == PAGE && lowest_slot(previous, before, page) != 0;
+        unsigned lowest = lowest_slot(words, words[slot]);
+        bool had = page[0] == PAGE && has_page(words_before, before, words[slot]);
         if (!is_true(page, slot, lowest, had, table.new[slot], table.code[slot]))
             return 40 + 256 * (slot + 1);
     }

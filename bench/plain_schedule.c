@@ -1,21 +1,32 @@
 /* A schedule message as it is read in C without proofs: what cb_read_schedule, cb_slots and cb_description are measured
  * beside. */
+#define _DEFAULT_SOURCE
+
 #include "plain_schedule.h"
+
+#include <endian.h>
+#include <string.h>
 
 enum { MESSAGE = 88, SLOTS = 48, HEADER = 8, FIRST = 0x8000, REPEATS = 0x40, OPTIONAL = 0x40, ADVISED = 0x41 };
 
-static bool is_new(const uint8_t *message, unsigned slot)
+static const uint64_t HIGHEST = (uint64_t)1 << 63;
+
+/* The new bits in one word; that of slot 0 is the highest. */
+static uint64_t new_bits(const uint8_t *message)
 {
-    return message[2 + slot / 8] >> (7 - slot % 8) & 1;
+    uint64_t word;
+
+    memcpy(&word, message, sizeof word);
+    return be64toh(word) << 16;
 }
 
-/* Reads the descriptions of one group of slots, and moves the place and the number of descriptions on. */
-static bool read_group(const uint8_t *message, size_t received, bool new, struct plain_table *table,
+/* Reads the descriptions of one group of slots, the bits of a word, and moves the place and the number of descriptions on. */
+static bool read_group(const uint8_t *message, size_t received, uint64_t slots, bool new, struct plain_table *table,
                        size_t *at, unsigned *given)
 {
-    for (unsigned slot = 0; slot < table->end; slot++) {
-        if (is_new(message, slot) != new)
-            continue;
+    while (slots != 0) {
+        unsigned slot = (unsigned)__builtin_clzll(slots);
+        slots ^= HIGHEST >> slot;
         if (*at >= received)
             return false;
         unsigned octet = message[(*at)++];
@@ -58,12 +69,12 @@ unsigned plain_read_slots(const uint8_t *message, size_t message_len, size_t rec
     table->end = message[1] & 0x3F;
     if (table->begin == 0 || table->begin > table->end || table->end > SLOTS)
         return 21;
-    for (unsigned slot = table->end; slot < SLOTS; slot++)
-        if (is_new(message, slot))
-            return 22;
-    if (!read_group(message, received, true, table, &at, &given))
+    uint64_t new = new_bits(message);
+    if (new << table->end != 0)
+        return 22;
+    if (!read_group(message, received, new, true, table, &at, &given))
         return 23;
-    if (!read_group(message, received, false, table, &at, &given))
+    if (!read_group(message, received, ~new & ~(~(uint64_t)0 >> table->end), false, table, &at, &given))
         return 23;
     return has_false_repeat(table) ? 24 : 0;
 }
