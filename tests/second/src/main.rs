@@ -2,10 +2,10 @@
 
 mod theirs;
 
-use std::env;
 use std::path::Path;
 use std::process::ExitCode;
 use std::time::{Duration, SystemTime, UNIX_EPOCH};
+use std::{env, io};
 
 use second::case::{hex, hex_slots, hex_words, Case, Entry, ENTRIES};
 use second::compare::compare;
@@ -14,7 +14,8 @@ use second::side::{run, Ours, Outcome, Side};
 use second::stored;
 use theirs::{has, Theirs};
 
-const USAGE: &str = "second write DIR | second compare SECONDS [SEED] [--all] | second replay CASE";
+const USAGE: &str =
+    "second write DIR | second compare SECONDS [SEED] [--all] | second lines SECONDS SEED | second replay CASE";
 
 fn main() -> ExitCode {
     let given: Vec<String> = env::args().skip(1).collect();
@@ -25,6 +26,7 @@ fn main() -> ExitCode {
         ["write", folder] if options.is_empty() => write(folder),
         ["compare", seconds] if all || options.is_empty() => compared(seconds, None, all),
         ["compare", seconds, seed] if all || options.is_empty() => compared(seconds, Some(seed), all),
+        ["lines", seconds, seed] if options.is_empty() => lines(seconds, seed),
         ["replay", ..] if options.is_empty() && words.len() > 1 => replay(&words[1..].join(" ")),
         _ => wrong(USAGE),
     }
@@ -42,6 +44,17 @@ fn write(folder: &str) -> ExitCode {
             ExitCode::SUCCESS
         }
         Err(error) => wrong(&format!("{folder}: {error}")),
+    }
+}
+
+/// Writes the cases of a comparison as stored results, for some seconds or until nobody reads on.
+fn lines(seconds: &str, seed: &str) -> ExitCode {
+    let (Ok(seconds), Some(seed)) = (seconds.parse(), seed_of(Some(seed))) else {
+        return wrong(USAGE);
+    };
+    match stored::lines(&mut io::BufWriter::new(io::stdout()), seed, Duration::from_secs(seconds)) {
+        Ok(()) => ExitCode::SUCCESS,
+        Err(error) => wrong(&error.to_string()),
     }
 }
 

@@ -1,10 +1,11 @@
 //! The stored results: cases with all that they give, as lines of text, the same on every run.
 
 use std::path::Path;
+use std::time::{Duration, Instant};
 use std::{fs, io};
 
 use crate::blocks::MESSAGE;
-use crate::case::{hex, hex_slots, hex_words, Case, Entry};
+use crate::case::{hex, hex_slots, hex_words, Case, Entry, ENTRIES};
 use crate::edges;
 use crate::invent::{any, faults, put, sequence, sound, Fault};
 use crate::random::Random;
@@ -61,6 +62,25 @@ fn lines_of(entry: Entry, random_cases: usize) -> Vec<String> {
         cases.push(any_call(entry, &mut random, most));
     }
     cases.iter().map(line).collect()
+}
+
+/// Writes the edges of every entry, and then invented cases of each in turn until the time is over.
+pub fn lines(to: &mut impl io::Write, seed: u64, time: Duration) -> io::Result<()> {
+    let begun = Instant::now();
+    for case in ENTRIES.into_iter().flat_map(edges::cases) {
+        writeln!(to, "{}", line(&case))?;
+    }
+    let mut randoms = ENTRIES.map(|entry| (entry, Random::new(seed ^ (entry as u64) << 56)));
+    while begun.elapsed() < time {
+        for (entry, random) in &mut randoms {
+            let most = random.pick(&[3, 8, 48, 48]);
+            writeln!(to, "{}", line(&any_call(*entry, random, most)))?;
+            if *entry == Entry::Intake {
+                writeln!(to, "{}", sequence_line(&sequence(random)))?;
+            }
+        }
+    }
+    to.flush()
 }
 
 /// Each fault three times, and each pair of faults once, in the order of refusals.
