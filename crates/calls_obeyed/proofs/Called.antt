@@ -4,12 +4,13 @@ use Rattle.laws.proofs.Ruled.{NoneHolds, ruled-map, none-holds, ruled-none, unl
 use Rattle.plan.specs.Paper.{readPlan, lowestAt}
 use Rattle.sender.specs.Paper.{Writing, unwritten, write}
 use Rattle.checker.specs.Paper.{Checked, unchecked, check}
-use Rattle.board.specs.Paper.{Decided}
 use Rattle.block.specs.Paper.{lastUsed}
 use Rattle.delivery.proofs.Accepted.{ours-accepted}
 use Rattle.board_obeyed.specs.Claims.{Obeys, WantedPage, Why, after}
 use Rattle.board_obeyed.proofs.Obeyed.{wakes, wakes-only}
-use Rattle.capi.specs.Paper.{bitOf, fileFaults, writtenFrom, checkedBeside, checkScheduleCall, decidedFor, decideCall}
+use Rattle.calls.specs.Paper.{bitOf}
+use Rattle.plan_calls.specs.Paper.{fileFaults, writtenFrom, checkedBeside, packedChecked, checkScheduleCall}
+use Rattle.board_calls.specs.Paper.{packedDecided, decidedFor, decideCall}
 use Rattle.calls_unpacked.proofs.Unpacked.{unpacked-write-schedule, unpacked-check-schedule, unpacked-decide}
 use Rattle.calls_obeyed.specs.Claims.{planIn, listed, CallsAccepted, ObeysCalls, CallsWake, CallsWakeOnly, afterSlots, CallsPeriod}
 
@@ -44,7 +45,7 @@ module _ (c p : List ℕ) where
 
   -- and the other way
   true-call : Good c p → (m : List ℕ) (received : ℕ) → check (planIn c) (planIn p) m received ≡ unchecked 0 → checkScheduleCall c p m received ≡ 0
-  true-call good m received e = ap (λ (y : Checked). y .number + 256 * y .slot) (checks good m received ∙ e)
+  true-call good m received e = ap packedChecked (checks good m received ∙ e)
 
 pub calls-accepted : CallsAccepted
 calls-accepted c p b o z =
@@ -64,7 +65,7 @@ module _ (c p m : List ℕ) (received : ℕ) (w : List ℕ) (o : ObeysCalls c p 
 
   wake : (held i : ℕ) → WantedPage (planIn c) (listed w) i → lowestAt (planIn c) i ≡ suc i → decideCall true m received (suc i) w held ≡ 256
   wake held i q l =
-      ap (λ (d : Decided). d .number + 256 * bitOf (d .read)) (wakes (planIn c) (planIn p) m received (listed w) obeys held i q l)
+      ap packedDecided (wakes (planIn c) (planIn p) m received (listed w) obeys held i q l)
 
   wake-only : (held i : ℕ) → i < planIn c .count → decideCall true m received (suc i) w held / 256 ≡ 1 → Why (planIn c) m (listed w) held i
   wake-only held i l e =

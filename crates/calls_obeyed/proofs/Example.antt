@@ -9,7 +9,8 @@ use Rattle.schedule.specs.Paper.{new, place, tells, read}
 use Rattle.sender.specs.Paper as sender
 use Rattle.checker.specs.Paper.{check, isTrue}
 use Rattle.board.specs.Paper.{isWanted, isHeld, tellsOf, reads, decide}
-use Rattle.capi.specs.Paper.{writeScheduleCall, decideCall}
+use Rattle.plan_calls.specs.Paper.{writeScheduleCall}
+use Rattle.board_calls.specs.Paper.{decideCall}
 use Rattle.board_obeyed.specs.Claims.{WantedPage}
 use Rattle.calls_obeyed.specs.Claims.{planIn, listed, ObeysCalls}
 

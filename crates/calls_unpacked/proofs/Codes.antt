@@ -1,4 +1,4 @@
--- A repeat that is given has a code from 1 to 47, so no two kinds of description share a code.
+-- A repeat that is given has a code from 1 to 47.
 use Rattle.laws.proofs.Base.{_≡_, refl, sym, ap, _∙_, Bool, true, false, not, _&&_, _||_, true≢false, List, ℕ, suc, _-_, _≤_, _<_, arith, eqb, leb, ltb, eqb-false, leb-true, leb-false, ltb-true, not-false}
 use Rattle.laws.specs.Upto.{some}
 use Rattle.laws.proofs.Upto.{some-at}
@@ -6,6 +6,7 @@ use Rattle.laws.proofs.Outcome.{Outcome, refuses, passes, outcome}
 use Rattle.laws.proofs.Tests.{both, neither}
 use Rattle.schedule.specs.Paper.{begin, end, inBounds, tells, again, isFirst, falseIn, falseRepeat, faults, slotOf, Shown, shown, Given, next, noMore, refusal, givenAt, given}
 use Rattle.schedule_order.proofs.Ranks.{order-below}
+use Rattle.calls_unpacked.specs.Claims.{RepeatCode}
 
 module _ (m : List ℕ) where
   -- where no slot up to End has a false repeat, a slot's repeat names a slot below it
@@ -20,9 +21,9 @@ module _ (m : List ℕ) where
           let positive = eqb-false n 0 (parts .0) in
           (omega arith, omega arith)
 
-  pub repeat-code : (received k i n : ℕ) (s : Shown) → given m received k ≡ next i s → s .told ≡ again n → (1 ≤ n) × (n ≤ 47)
+  below-47 : (received k i n : ℕ) (s : Shown) → given m received k ≡ next i s → s .told ≡ again n → (1 ≤ n) × (n ≤ 47)
   unfolding given
-  repeat-code received k i n s g t = go (outcome (faults m received))
+  below-47 received k i n s g t = go (outcome (faults m received))
     where
       at : givenAt m k ≡ next i s → some (falseRepeat (tells m)) (end m) ≡ false → end m ≤ 48 → (b : Bool) → ltb k (end m) ≡ b → (1 ≤ n) × (n ≤ 47)
       at q none few true h =
@@ -45,3 +46,6 @@ module _ (m : List ℕ) where
           let range = both (leb 1 (begin m)) (leb (begin m) (end m) && leb (end m) 48) (not-false (inBounds m) (h .1 .1 .1 .0)) in
           let few = leb-true (end m) 48 (both (leb (begin m) (end m)) (leb (end m) 48) (range .1) .1) in
           at (sym (f Given refusal (givenAt m k)) ∙ g) (h .1 .1 .1 .1 .1 .1 .0) few (ltb k (end m)) refl
+
+pub repeat-code : RepeatCode
+repeat-code = below-47

@@ -1,4 +1,5 @@
 -- What `schedule_calls` proves.
 pub mod Determined
+pub mod Given
 pub mod Packed
 pub mod Slots

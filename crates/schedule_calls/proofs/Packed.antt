@@ -1,22 +1,14 @@
 -- What is packed into a slot's number, and that it fits.
 use Rattle.laws.proofs.Base.{_≡_, refl, ap, Bool, true, false, cond, List, ℕ, _+_, _*_, _≤_, _<_, arith, eqb, leb, leb-true, lt-ltb, le-ltb}
 use mir.Val.{boolByte}
+use Rattle.calls.proofs.Packed.{bit-byte}
 use Rattle.laws.specs.Radix.{Below}
 use Rattle.laws.proofs.Ruled.{Ruling, refuses, passes, ruling}
 use Rattle.schedule.specs.declared.Slot.{Slot}
 use Rattle.schedule.specs.Paper.{again, optional, advised, octetAt, short, told, new, Shown, faults, Read, unread, good, read}
 use Rattle.schedule.specs.Coded.{toldOf, shownOf}
-use Rattle.schedule_calls.specs.Paper.{codeOf, bitOf, packedShown}
+use Rattle.schedule_calls.specs.Paper.{codeOf, packedShown}
 use Rattle.schedule_calls.specs.Inner.{packedBy}
-
--- a bool as a number
-pub bit-byte : (b : Bool) → boolByte b ≡ bitOf b
-bit-byte true = refl
-bit-byte false = refl
-
-pub bit-small : (b : Bool) → boolByte b ≤ 1
-bit-small true = omega arith
-bit-small false = omega arith
 
 -- Begin and End have six bits
 pub ends-small : (m : List ℕ) (received : ℕ) → (read m received .begin < 64) × (read m received .end < 64)

@@ -12,7 +12,9 @@ use Rattle.schedule.specs.Paper.{new, tells, faults, Placed, placed, Read as Re
 use Rattle.schedule.specs.Coded.{readOf, placedOf}
 use Rattle.schedule.specs.Inner.{toldBy}
 use Rattle.schedule.proofs.Givens.{faults-some, Good, read-placed, given-good, told-at}
-use Rattle.schedule_calls.specs.Paper.{CallLeft, packedRead, packedShown, packedSlot, toldAll, slotsCall}
+use Rattle.calls.specs.Paper.{CallLeft}
+use Rattle.calls.specs.Claims.{IsLeft}
+use Rattle.schedule_calls.specs.Paper.{packedRead, packedShown, packedSlot, toldAll, slotsCall}
 use Rattle.schedule_calls.specs.Inner.{packedBy, Shows}
 use Rattle.schedule_calls.proofs.Packed.{ends-small}
 
@@ -97,7 +99,7 @@ module _ (m : List ℕ) (received : ℕ) (o : List ℕ) where
             let w = rw a at same in
             (omega (arith, ends-small m received .0, ap (λ (x : Reads). x .begin) w), omega (arith, ends-small m received .1, ap (λ (x : Reads). x .end) w))
 
-        pub tells-slots : (x : List ℕ) → x ≡ each (packedSlot m) 48 → _≡_ {A = CallLeft} (record { returned = 0x100 * b + 0x10000 * e; memory = x }) (slotsCall m received o)
+        pub tells-slots : (x : List ℕ) → x ≡ each (packedSlot m) 48 → IsLeft (0x100 * b + 0x10000 * e) x (slotsCall m received o)
         tells-slots x s =
             let w = rw a at same in
             let told = slots-told (sym (ap (λ (r : Reads). r .number) w)) in

@@ -1,12 +1,13 @@
-// The entry for C that tells all slots of a schedule message in one reading, and descriptions as numbers.
+// The entries for C that read a schedule message: Begin and End, one description, or all slots; and descriptions as numbers.
 ghost use mathlib.Core.Path.{_≡_};
 ghost use lib.ListN.{length};
 ghost use Rattle.laws.specs.Upto.{each};
 ghost use Rattle.schedule.specs.Coded.{toldOf};
-ghost use Rattle.schedule_calls.specs.Paper.{codeOf, packedSlot, slotsCall};
+ghost use Rattle.schedule_calls.specs.Paper.{codeOf, packedSlot, slotsCall, scheduleCall, descriptionCall};
 ghost use Rattle.schedule_calls.specs.Inner.{Shows, packedBy};
 use refusals::Refusal;
 use schedule::Description;
+use schedule::Given;
 use schedule::Reading;
 use sizes::SLOTS;
 
@@ -63,5 +64,34 @@ pub extern "C" fn cb_slots(message: &[u8], received: usize, slots: &mut [u32]) -
             tell(message, places, end, slots);
             0x100 * begin as u32 + 0x10000 * end as u32
         }
+    }
+}
+
+// Reads a schedule message: number + 2^8 × Begin + 2^16 × End.
+#[no_mangle]
+pub extern "C" fn cb_read_schedule(message: &[u8], received: usize) -> u32
+    ensures { λ r. ⌜ r ≡ scheduleCall (now (message .entry)) received ⌝ }
+{
+    let answer = schedule::read_schedule(message, received);
+    match answer {
+        Reading::Read(begin, end) => 0x100 * begin as u32 + 0x10000 * end as u32,
+        Reading::Refused(refusal) => refusals::number(refusal) as u32,
+    }
+}
+
+// Gives the description that stands after `place` others: number + 2^8 × slot + 2^16 × new bit + 2^32 × code.
+#[no_mangle]
+pub extern "C" fn cb_description(message: &[u8], received: usize, place: usize) -> u64
+    ensures { λ r. ⌜ r ≡ descriptionCall (now (message .entry)) received place ⌝ }
+{
+    let answer = schedule::description_at(message, received, place);
+    match answer {
+        Given::Next(number, slot) => {
+            let description = slot.description;
+            let high = 0x100000000 * code(description) as u64;
+            high + 0x10000 * slot.new as u64 + 0x100 * number as u64
+        }
+        Given::NoMore => 0,
+        Given::Refused(refusal) => refusals::number(refusal) as u64,
     }
 }

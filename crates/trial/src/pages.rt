@@ -46,7 +46,7 @@ fn write_blocks(
     message: &[u8],
     out: &mut [u8],
 ) -> usize {
-    let returned = capi::cb_write_blocks(message, schedule, used, out);
+    let returned = block_calls::cb_write_blocks(message, schedule, used, out);
     let next = told::number(line, at, returned as u64);
     told::output(line, next, out)
 }
@@ -83,7 +83,7 @@ fn writing_of(line: &[u8], at: usize, heading: Heading) -> usize {
 }
 
 fn write_text(line: &[u8], at: usize, heading: Heading, text: &[u16], page: &mut [u8]) -> usize {
-    let returned = capi::cb_write_text(
+    let returned = text_calls::cb_write_text(
         heading.serial,
         heading.identifier,
         heading.scheme,
@@ -137,7 +137,7 @@ pub(crate) fn reading(line: &[u8]) -> usize {
 }
 
 fn read_text(line: &[u8], at: usize, page: &[u8], received: usize, text: &mut [u16]) -> usize {
-    let returned = capi::cb_read_text(page, received, text);
+    let returned = text_calls::cb_read_text(page, received, text);
     let next = told::returned(line, at, returned);
     told::output_words(line, next, text)
 }
@@ -152,7 +152,7 @@ pub(crate) fn content(line: &[u8]) -> usize {
 }
 
 fn content_of(line: &[u8], at: usize, page: &[u8], received: usize) -> usize {
-    let returned = capi::cb_content(page, received);
+    let returned = page_calls::cb_content(page, received);
     let next = told::number(line, at, returned as u64);
     told::octets(line, next, page::content(page, received))
 }
@@ -212,14 +212,14 @@ pub(crate) fn packing(line: &[u8]) -> usize {
 // Whether a page is read as the text of septets, and written from it. A text with septet 1B is only read.
 fn is_packing(septets: &[u8; 93], page: &[u8; 88]) -> bool {
     let mut text = [0u16; 93];
-    if capi::cb_read_text(page, 88, &mut text) != 256 * 93 {
+    if text_calls::cb_read_text(page, 88, &mut text) != 256 * 93 {
         return false;
     }
     if !are_read(septets, &text) {
         return false;
     }
     let mut out = [0u8; 88];
-    if capi::cb_write_text(0, 0, 0, 0x11, &text, &mut out) != 256 * 88 {
+    if text_calls::cb_write_text(0, 0, 0, 0x11, &text, &mut out) != 256 * 88 {
         return false;
     }
     if bytes::scan::find(septets, 0, 93, ESCAPE) < 93 {

@@ -133,7 +133,7 @@ fn take_next(line: &[u8], at: usize, texts: bool, state: &mut [u8], piece: &[u8]
 // The text of a page; one whose text is refused cannot be told so.
 fn page_text(line: &[u8], at: usize, page: &[u8], received: usize) -> usize {
     let mut text = [0u16; 93];
-    let returned = capi::cb_read_text(page, received, &mut text);
+    let returned = text_calls::cb_read_text(page, received, &mut text);
     if returned % 256 != 0 {
         return UNREAD;
     }

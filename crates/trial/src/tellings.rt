@@ -28,7 +28,7 @@ pub(crate) fn schedule(line: &[u8]) -> usize {
 }
 
 fn schedule_of(line: &[u8], at: usize, message: &[u8], received: usize) -> usize {
-    let returned = capi::cb_read_schedule(message, received);
+    let returned = schedule_calls::cb_read_schedule(message, received);
     let next = told::ends(line, at, returned);
     descriptions(line, next, message, received, (returned % 256) as u64)
 }
@@ -62,7 +62,7 @@ struct Step {
 
 // What cb_description returns at a place, where the reader of descriptions gives the same.
 fn describe_both(message: &[u8], received: usize, place: usize) -> Step {
-    let returned = capi::cb_description(message, received, place);
+    let returned = schedule_calls::cb_description(message, received, place);
     let step = descriptions::given_at(message, received, place);
     if gives(step, place, returned) {
         return Step {
@@ -167,7 +167,7 @@ pub(crate) fn file(line: &[u8]) -> usize {
     let mut room = fields::room();
     let plan = fields::take_octets(line, 1, &mut room);
     let count = plan.count;
-    let returned = capi::cb_read_plan(&room[..count]);
+    let returned = plan_calls::cb_read_plan(&room[..count]);
     told::returned(line, plan.next, returned)
 }
 
@@ -201,7 +201,7 @@ fn write(
     begin: usize,
     out: &mut [u8],
 ) -> usize {
-    let returned = capi::cb_write_schedule(current, previous, begin, out);
+    let returned = plan_calls::cb_write_schedule(current, previous, begin, out);
     let next = told::returned(line, at, returned);
     told::output(line, next, out)
 }
@@ -218,7 +218,7 @@ pub(crate) fn check(line: &[u8]) -> usize {
     let these = this.count;
     let those = last.count;
     let count = message.count;
-    let returned = capi::cb_check_schedule(
+    let returned = plan_calls::cb_check_schedule(
         &current[..these],
         &previous[..those],
         &room[..count],
@@ -259,7 +259,7 @@ fn decide_both(
     wanted: &[u16],
     held: u64,
 ) -> u32 {
-    let returned = capi::cb_decide(known, message, received, slot, wanted, held);
+    let returned = board_calls::cb_decide(known, message, received, slot, wanted, held);
     if message.len() != MESSAGE {
         return returned;
     }

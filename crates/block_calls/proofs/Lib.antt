@@ -1,0 +1,3 @@
+-- What `block_calls` proves.
+pub mod Answers
+pub mod Determined
