@@ -4,9 +4,9 @@ use Rattle.laws.specs.Radix.{Below}
 use Rattle.laws.proofs.Upto.{each-at}
 use Rattle.calls.specs.Paper.{CallLeft}
 use Rattle.schedule.specs.Paper.{end, place, rank, tells, read}
-use Rattle.schedule_calls.specs.Paper.{packedSlot, slotsCall}
-use Rattle.schedule_calls.proofs.Packed.{code-small}
-use Rattle.schedule_calls.proofs.Slots.{slots-length, slots-told, slots-returned}
+use Rattle.slots_calls.specs.Paper.{packedSlot, slotsCall}
+use Rattle.slots_calls.proofs.Packed.{code-small}
+use Rattle.slots_calls.proofs.Slots.{slots-length, slots-told, slots-returned}
 use Rattle.page.specs.Paper.{header}
 use Rattle.page_calls.specs.Paper.{Headed, headed}
 use Rattle.page_calls.proofs.Headed.{headed-length, headed-read}

@@ -20,8 +20,7 @@ use Rattle.checker.specs.Paper as checker
 use Rattle.board.specs.Paper.{Wanted, Schedule, Decided, undecided, reads, decide}
 use Rattle.board.specs.Coded.{lentSchedule}
 use Rattle.schedule_calls.specs.Paper.{packedGiven}
-use Rattle.schedule_calls.proofs.Packed.{ends-small}
-use Rattle.schedule_calls.proofs.Given.{slot-small, slotNumber}
+use Rattle.schedule_calls.proofs.Given.{ends-small, slotNumber, slot-small}
 use Rattle.plan_calls.specs.Paper.{fileFaults, writtenFrom, checkedBeside}
 use Rattle.board_calls.specs.Paper.{decidedFor}
 use Rattle.calls_unpacked.specs.Claims.{UnpackedIntake, UnpackedWriteText, UnpackedReadText, UnpackedReadPlan, UnpackedWriteSchedule, UnpackedCheckSchedule, UnpackedDecide, UnpackedReadSchedule, UnpackedNext, UnpackedRefusal}

@@ -17,7 +17,8 @@ use Rattle.text.specs.Paper.{written, reading}
 use Rattle.firmware.specs.Paper.{heldIn, intakeCall}
 use Rattle.text_calls.specs.Paper.{writeCall, readCall}
 use Rattle.page_calls.specs.Paper.{headed, headerCall}
-use Rattle.schedule_calls.specs.Paper.{codeOf, slotsCall, scheduleCall, descriptionCall}
+use Rattle.schedule_calls.specs.Paper.{codeOf, scheduleCall, descriptionCall}
+use Rattle.slots_calls.specs.Paper.{slotsCall}
 use Rattle.plan_calls.specs.Paper.{planCall, writtenFrom, writeScheduleCall, checkedBeside, checkScheduleCall}
 use Rattle.board_calls.specs.Paper.{decidedFor, decideCall}
 

@@ -1,6 +1,5 @@
 -- What `plan_calls` proves.
-pub mod Checks
+pub mod Answers
 pub mod Determined
 pub mod Filed
 pub mod Planned
-pub mod Writes

@@ -9,12 +9,20 @@ use Rattle.schedule.specs.declared.Reading.{Reading}
 use Rattle.schedule.specs.declared.Reading.the-variants as readings
 use Rattle.schedule.specs.declared.Given.{Given as GivenCode}
 use Rattle.schedule.specs.declared.Given.the-variants as givens
-use Rattle.schedule.specs.Paper.{end, faults, Read, read, Given, next, noMore, refusal, givenAt, given}
+use Rattle.schedule.specs.Paper.{end, faults, Read, unread, good, read, Given, next, noMore, refusal, givenAt, given}
 use Rattle.schedule.specs.Coded.{toldOf, readOf, givenOf}
 use Rattle.schedule_order.proofs.Ranks.{order-below}
 use Rattle.calls.proofs.Packed.{bit-byte}
 use Rattle.schedule_calls.specs.Paper.{codeOf, packedRead, packedGiven}
-use Rattle.schedule_calls.proofs.Packed.{ends-small}
+
+-- Begin and End have six bits
+pub ends-small : (m : List ℕ) (received : ℕ) → (read m received .begin < 64) × (read m received .end < 64)
+unfolding read
+ends-small m received = go (ruling unread (faults m received) (good m))
+  where
+    go : {r : Read} → Ruling unread (faults m received) (good m) r → (r .begin < 64) × (r .end < 64)
+    go (refuses n a e) = rw e (omega arith, omega arith)
+    go (passes h e) = rw e (omega arith, omega arith)
 
 -- the slot that is given; 0 for none
 abbrev pub slotNumber : Given → ℕ

@@ -1,5 +1,3 @@
 -- What `schedule_calls` proves.
 pub mod Determined
 pub mod Given
-pub mod Packed
-pub mod Slots

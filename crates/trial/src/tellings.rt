@@ -157,7 +157,7 @@ pub(crate) fn slots(line: &[u8]) -> usize {
 }
 
 fn slots_of(line: &[u8], at: usize, message: &[u8], received: usize, slots: &mut [u32]) -> usize {
-    let returned = schedule_calls::cb_slots(message, received, slots);
+    let returned = slots_calls::cb_slots(message, received, slots);
     let next = told::ends(line, at, returned);
     told::output_numbers(line, next, slots)
 }

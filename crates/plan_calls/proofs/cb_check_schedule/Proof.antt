@@ -4,7 +4,7 @@ use Rattle.plan.specs.Coded.{planOf}
 use Rattle.checker.specs.Paper.{Checked}
 use Rattle.checker.specs.Coded.{checkedOf}
 use Rattle.plan_calls.specs.Paper.{checkedBeside}
-use Rattle.plan_calls.proofs.Checks.{refuses-both, as-beside, named-small, checks-true, checks-refused}
+use Rattle.plan_calls.proofs.Answers.{refuses-both, as-beside, named-small, checks-true, checks-refused}
 use Rattle.plan_calls.proofs.cb_check_schedule.Statement.{statement}
 use Rattle.plan_calls.proofs.cb_check_schedule.Tie as tie
 

@@ -4,7 +4,7 @@ use Rattle.plan.specs.Coded.{planOf}
 use Rattle.sender.specs.Paper.{Writing}
 use Rattle.sender.specs.Coded.{writingOf}
 use Rattle.plan_calls.specs.Paper.{writtenFrom}
-use Rattle.plan_calls.proofs.Writes.{refuses-output, refuses-files, as-filed, message-small, writes-message, refuses-message}
+use Rattle.plan_calls.proofs.Answers.{refuses-output, refuses-files, as-filed, message-small, writes-message, refuses-message}
 use Rattle.plan_calls.proofs.cb_write_schedule.Statement.{statement}
 use Rattle.plan_calls.proofs.cb_write_schedule.Tie as tie
 

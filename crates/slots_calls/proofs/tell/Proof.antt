@@ -1,10 +1,10 @@
--- `schedule_calls::tell` meets its contract: the slots before the loop's are told.
+-- `slots_calls::tell` meets its contract: the slots before the loop's are told.
 use Rattle.laws.proofs.Base.{_≡_, _≤_, _-_, arith, length, take, length-set, needs}
 use Rattle.laws.specs.Upto.{each}
-use Rattle.schedule_calls.specs.Paper.{packedSlot}
-use Rattle.schedule_calls.proofs.Slots.{slots-start, slots-turn, slots-end}
-use Rattle.schedule_calls.proofs.tell.Statement.{statement}
-use Rattle.schedule_calls.proofs.tell.Tie as tie
+use Rattle.slots_calls.specs.Paper.{packedSlot}
+use Rattle.slots_calls.proofs.Slots.{slots-start, slots-turn, slots-end}
+use Rattle.slots_calls.proofs.tell.Statement.{statement}
+use Rattle.slots_calls.proofs.tell.Tie as tie
 
 abbrev Inv-loop : tie.InvT-loop
 Inv-loop message end slots₀ places i₀ slots i = (i ≤ 48) × (length slots ≡ 48) × (take i slots ≡ each (packedSlot message) i)

@@ -1,9 +1,9 @@
--- `schedule_calls::packed_at` meets its contract: the code and the new bit of a slot up to End, packed.
+-- `slots_calls::packed_at` meets its contract: the code and the new bit of a slot up to End, packed.
 use Rattle.laws.proofs.Base.{_<_, arith, needs}
 use Rattle.calls.proofs.Packed.{bit-small}
-use Rattle.schedule_calls.proofs.Packed.{packed-past, packed-inside, packed-fits}
-use Rattle.schedule_calls.proofs.packed_at.Statement.{statement}
-use Rattle.schedule_calls.proofs.packed_at.Tie as tie
+use Rattle.slots_calls.proofs.Packed.{packed-past, packed-inside, packed-fits}
+use Rattle.slots_calls.proofs.packed_at.Statement.{statement}
+use Rattle.slots_calls.proofs.packed_at.Tie as tie
 
 returns : tie.Need-returns
 returns c =

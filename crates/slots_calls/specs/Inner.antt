@@ -6,7 +6,7 @@ use Prim.Native.Nat.{ℕ, _<_}
 use lib.Dec.{ltb}
 use Rattle.schedule.specs.Paper.{end, new, told, tells}
 use Rattle.schedule.specs.Inner.{toldBy}
-use Rattle.schedule_calls.specs.Paper.{packedShown}
+use Rattle.slots_calls.specs.Paper.{packedShown}
 
 -- the number of slot i by its description's place, where e is End
 abbrev pub packedBy : List ℕ → ℕ → ℕ → ℕ → ℕ

@@ -3,21 +3,12 @@ use Rattle.laws.proofs.Base.{_≡_, refl, ap, Bool, true, false, cond, List, �
 use mir.Val.{boolByte}
 use Rattle.calls.proofs.Packed.{bit-byte}
 use Rattle.laws.specs.Radix.{Below}
-use Rattle.laws.proofs.Ruled.{Ruling, refuses, passes, ruling}
 use Rattle.schedule.specs.declared.Slot.{Slot}
-use Rattle.schedule.specs.Paper.{again, optional, advised, octetAt, short, told, new, Shown, faults, Read, unread, good, read}
+use Rattle.schedule.specs.Paper.{again, optional, advised, octetAt, short, told, new, Shown}
 use Rattle.schedule.specs.Coded.{toldOf, shownOf}
-use Rattle.schedule_calls.specs.Paper.{codeOf, packedShown}
-use Rattle.schedule_calls.specs.Inner.{packedBy}
-
--- Begin and End have six bits
-pub ends-small : (m : List ℕ) (received : ℕ) → (read m received .begin < 64) × (read m received .end < 64)
-unfolding read
-ends-small m received = go (ruling unread (faults m received) (good m))
-  where
-    go : {r : Read} → Ruling unread (faults m received) (good m) r → (r .begin < 64) × (r .end < 64)
-    go (refuses n a e) = rw e (omega arith, omega arith)
-    go (passes h e) = rw e (omega arith, omega arith)
+use Rattle.schedule_calls.specs.Paper.{codeOf}
+use Rattle.slots_calls.specs.Paper.{packedShown}
+use Rattle.slots_calls.specs.Inner.{packedBy}
 
 -- a description's code has sixteen bits
 short-small : (x : ℕ) → codeOf (short x) < 65536
