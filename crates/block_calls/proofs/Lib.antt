@@ -1,3 +1,2 @@
 -- What `block_calls` proves.
-pub mod Answers
 pub mod Determined

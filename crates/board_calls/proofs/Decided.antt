@@ -1,16 +1,12 @@
--- Laws of what the board's decision for a list's identifiers packs into.
+-- The board's decision for a wanted list is that for the identifiers that C lists.
 use Rattle.laws.proofs.Base.{_≡_, refl, sym, ap, _∙_, Bool, true, false, cond, not, _&&_, List, [], _∷_, ℕ, _-_, _≤_, arith, leb, ltb, length, take, take-all, ltb-false}
 use Rattle.laws.specs.Ruled.{ruled}
 use Rattle.laws.specs.Search.{some}
-use Rattle.refusals.specs.declared.Refusal.{Refusal}
-use Rattle.refusals.specs.Number.{numberOf}
 use Rattle.schedule.specs.Paper.{Told, first, again, optional, advised, tells}
 use Rattle.board.specs.declared.Wanted.{Wanted as WantedCode}
-use Rattle.board.specs.declared.Decision.{Decision}
-use Rattle.board.specs.declared.Decision.the-variants.{Read, Skip, Refused}
 use Rattle.board.specs.Paper.{Wanted, Schedule, Decided, matches15, isWanted, isHeld, firstMatches, readsFor, tellsOf, reads, undecided, decide}
-use Rattle.board.specs.Coded.{idsOf, wantedOf, lentSchedule, decidedOf}
-use Rattle.board_calls.specs.Paper.{decidedFor, packedDecided}
+use Rattle.board.specs.Coded.{idsOf, wantedOf, lentSchedule}
+use Rattle.board_calls.specs.Paper.{decidedFor}
 
 -- wanted lists with the same identifiers
 module _ (w v : Wanted) (same : take (w .count) (w .ids) ≡ take (v .count) (v .ids)) where
@@ -50,7 +46,6 @@ decide-agree s n w v h count same = go (ltb 64 (v .count)) refl
     go true e = rw (count, e)
     go false e = rw (reads-agree w v (same (ltb-false 64 (v .count) e)) s n h, count)
 
--- the decision for the wanted list is that for the identifiers that C lists
 pub as-listed : (known : Bool) (m : List ℕ) (received slot : ℕ) (list : List ℕ) (held : ℕ) (w : WantedCode) {d : Decided}
     → (w .count ≡ length list) × (length list ≤ 64 → take (length list) (idsOf (w .ids)) ≡ list)
     → d ≡ decide (lentSchedule known m received) slot (wantedOf w) held → d ≡ decidedFor known m received slot list held
@@ -58,12 +53,3 @@ as-listed known m received slot list held w same e =
     e
     ∙ decide-agree (lentSchedule known m received) slot (wantedOf w) (record { count = length list; ids = list }) held (same .0)
     (λ few. rw (same .0) (same .1 few ∙ sym (take-all (length list) list (omega arith))))
-
-pub decides-read : {a : Decision} {d : Decided} → decidedOf a ≡ d → a ≡ Read → 256 ≡ packedDecided d
-decides-read e k = ap packedDecided (rw k at e)
-
-pub decides-skip : {a : Decision} {d : Decided} → decidedOf a ≡ d → a ≡ Skip → 0 ≡ packedDecided d
-decides-skip e k = ap packedDecided (rw k at e)
-
-pub decides-refused : {a : Decision} {d : Decided} {f : Refusal} {r : ℕ} → decidedOf a ≡ d → r ≡ numberOf f → a ≡ Refused f → r ≡ packedDecided d
-decides-refused e n k = omega (arith, n, ap packedDecided (rw k at e))

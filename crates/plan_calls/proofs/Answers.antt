@@ -1,5 +1,5 @@
 -- Laws of what the schedule writer's and the checker's answers for the plans of two files leave a C caller with.
-use Rattle.laws.proofs.Base.{_≡_, sym, ap, _∙_, Bool, true, false, cond, List, ℕ, _+_, _*_, _≤_, arith, length, eqb, eqb-true, eq-eqb, ne-eqb, not-false}
+use Rattle.laws.proofs.Base.{_≡_, sym, ap, _∙_, Bool, true, false, cond, List, ℕ, _≤_, arith, length, eqb, eqb-true, eq-eqb, ne-eqb, not-false}
 use Rattle.laws.specs.Ruled.{ruled}
 use Rattle.laws.specs.Upto.{lowest}
 use Rattle.laws.proofs.Ruled.{Ruling, refuses, passes, ruling}
@@ -12,16 +12,16 @@ use Rattle.plan.specs.Paper.{Plan, readPlan}
 use Rattle.plan.specs.Coded.{planOf}
 use Rattle.plan.proofs.GoodPlan.{good-counted}
 use Rattle.sender.specs.declared.Writing.{Writing as WritingCode}
-use Rattle.sender.specs.declared.Writing.the-variants.{Written, Refused}
+use Rattle.sender.specs.declared.Writing.the-variants.{Written}
 use Rattle.sender.specs.Paper.{Writing, unwritten, write}
 use Rattle.sender.specs.Coded.{writingOf}
 use Rattle.sender.proofs.Cases.{accepts}
 use Rattle.checker.specs.declared.Checking.{Checking}
-use Rattle.checker.specs.declared.Checking.the-variants as checkings
+use Rattle.checker.specs.declared.Checking.the-variants.{Refused}
 use Rattle.checker.specs.Paper.{Checked, unchecked, untrueAt, untrue, verdict, faults, check}
 use Rattle.checker.specs.Coded.{checkedOf}
 use Rattle.calls.specs.Claims.{IsLeft}
-use Rattle.calls.proofs.Packed.{left-number, left-done}
+use Rattle.calls.proofs.Packed.{left-number}
 use Rattle.plan_calls.specs.declared.Files.{Files}
 use Rattle.plan_calls.specs.Paper.{fileFaults, writtenFrom, writtenLeft, writeScheduleCall, checkedBeside, packedChecked, checkScheduleCall}
 use Rattle.plan_calls.specs.Coded.{filesOf}
@@ -58,14 +58,6 @@ message-small c p b o q e k =
     let w = rw k at e in
     let s = accepts c p b o (sym (ap (λ (z : Writing). z .number) w)) in
     omega (arith, s .few, ap (λ (z : Writing). z .used) (w ∙ s .writes))
-
-pub writes-message : {a : WritingCode} {q : List ℕ} {w : Writing} {u : ℕ} → writingOf a q ≡ w → a ≡ Written u
-    → IsLeft (256 * u) q (writtenLeft w)
-writes-message {u = u} e k = left-done u ∙ ap writtenLeft (rw k at e)
-
-pub refuses-message : {a : WritingCode} {q : List ℕ} {w : Writing} {f : Refusal} {r : ℕ} → writingOf a q ≡ w → r ≡ numberOf f → a ≡ Refused f
-    → IsLeft r q (writtenLeft w)
-refuses-message e n k = left-number n ∙ ap writtenLeft (rw k at e)
 
 -- the lowest of n numbers, counted from 1, is no more than n
 lowest-few : (f : ℕ → Bool) (n : ℕ) → lowest f n ≤ n
@@ -104,11 +96,5 @@ module _ (c p m : List ℕ) (received : ℕ) (f : Files) (e : filesOf f ≡ file
       ∙ (λ i. check (e i .current) (e i .previous) m received)
       ∙ files-good c p unchecked f e (check (readPlan c .plan) (readPlan p .plan) m received) k
 
-pub named-small : (c p : Plan) (m : List ℕ) (received : ℕ) {a : Checking} {f : Refusal} {s : ℕ} → checkedOf a ≡ check c p m received → a ≡ checkings.Refused f s → s ≤ 48
+pub named-small : (c p : Plan) (m : List ℕ) (received : ℕ) {a : Checking} {f : Refusal} {s : ℕ} → checkedOf a ≡ check c p m received → a ≡ Refused f s → s ≤ 48
 named-small c p m received e k = omega (arith, slot-few c p m received, ap (λ (z : Checked). z .slot) (rw k at e))
-
-pub checks-true : {a : Checking} {x : Checked} → checkedOf a ≡ x → a ≡ checkings.True → 0 ≡ packedChecked x
-checks-true e k = ap packedChecked (rw k at e)
-
-pub checks-refused : {a : Checking} {x : Checked} {f : Refusal} {s r : ℕ} → checkedOf a ≡ x → r ≡ numberOf f → a ≡ checkings.Refused f s → r + 256 * s ≡ packedChecked x
-checks-refused e n k = omega (arith, n, ap packedChecked (rw k at e))

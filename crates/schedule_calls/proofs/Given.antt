@@ -1,19 +1,15 @@
--- Laws of what the schedule room's answers pack into.
-use Rattle.laws.proofs.Base.{_≡_, refl, ap, _∙_, Bool, true, false, List, ℕ, _+_, _*_, _<_, arith, ltb, ltb-true}
-use mir.Val.{boolByte}
+-- What the schedule room's answers pack fits its place.
+use Rattle.laws.proofs.Base.{_≡_, refl, ap, Bool, true, false, List, ℕ, _+_, _*_, _<_, arith, ltb, ltb-true}
 use Rattle.laws.proofs.Ruled.{Ruling, refuses, passes, ruling}
-use Rattle.refusals.specs.declared.Refusal.{Refusal}
-use Rattle.refusals.specs.Number.{numberOf}
 use Rattle.schedule.specs.declared.Slot.{Slot}
 use Rattle.schedule.specs.declared.Reading.{Reading}
 use Rattle.schedule.specs.declared.Reading.the-variants as readings
 use Rattle.schedule.specs.declared.Given.{Given as GivenCode}
 use Rattle.schedule.specs.declared.Given.the-variants as givens
 use Rattle.schedule.specs.Paper.{end, faults, Read, unread, good, read, Given, next, noMore, refusal, givenAt, given}
-use Rattle.schedule.specs.Coded.{toldOf, readOf, givenOf}
+use Rattle.schedule.specs.Coded.{readOf, givenOf}
 use Rattle.schedule_order.proofs.Ranks.{order-below}
-use Rattle.calls.proofs.Packed.{bit-byte}
-use Rattle.schedule_calls.specs.Paper.{codeOf, packedRead, packedGiven}
+use Rattle.schedule_calls.specs.Paper.{packedRead}
 
 -- Begin and End have six bits
 pub ends-small : (m : List ℕ) (received : ℕ) → (read m received .begin < 64) × (read m received .end < 64)
@@ -51,18 +47,5 @@ begin-end-small m received e k =
 pub reads-schedule : {x : Reading} {r : Read} {b d : ℕ} → readOf x ≡ r → x ≡ readings.Read b d → 0x100 * b + 0x10000 * d ≡ packedRead r
 reads-schedule e k = omega (arith, ap packedRead (rw k at e))
 
-pub refuses-schedule : {x : Reading} {r : Read} {f : Refusal} {n : ℕ} → readOf x ≡ r → n ≡ numberOf f → x ≡ readings.Refused f → n ≡ packedRead r
-refuses-schedule e q k = omega (arith, q, ap packedRead (rw k at e))
-
 pub given-small : (m : List ℕ) (received place : ℕ) {x : GivenCode} {i : ℕ} {s : Slot} → givenOf x ≡ given m received place → x ≡ givens.Next i s → i < 64
 given-small m received place e k = omega (arith, slot-small m received place, ap slotNumber (rw k at e))
-
-pub gives-next : {x : GivenCode} {g : Given} {i : ℕ} {s : Slot} {c : ℕ} → givenOf x ≡ g → c ≡ codeOf (toldOf (s .description)) → x ≡ givens.Next i s
-    → 0x100000000 * c + 0x10000 * boolByte (s .new) + 0x100 * i ≡ packedGiven g
-gives-next {s = s} e p k = omega (arith, bit-byte (s .new), p, ap packedGiven (rw k at e))
-
-pub gives-none : {x : GivenCode} {g : Given} → givenOf x ≡ g → x ≡ givens.NoMore → 0 ≡ packedGiven g
-gives-none e k = ap packedGiven (rw k at e)
-
-pub gives-refused : {x : GivenCode} {g : Given} {f : Refusal} {r : ℕ} → givenOf x ≡ g → r ≡ numberOf f → x ≡ givens.Refused f → r ≡ packedGiven g
-gives-refused e n k = n ∙ ap packedGiven (rw k at e)

@@ -1,9 +1,9 @@
 -- `board_calls::cb_decide` meets its contract: the board's decision for the list's identifiers, packed.
-use Rattle.laws.proofs.Base.{_≡_, needs}
+use Rattle.laws.proofs.Base.{_≡_, ap, arith, needs}
 use Rattle.board.specs.Paper.{Decided}
 use Rattle.board.specs.Coded.{decidedOf}
-use Rattle.board_calls.specs.Paper.{decidedFor}
-use Rattle.board_calls.proofs.Decided.{as-listed, decides-read, decides-skip, decides-refused}
+use Rattle.board_calls.specs.Paper.{decidedFor, packedDecided}
+use Rattle.board_calls.proofs.Decided.{as-listed}
 use Rattle.board_calls.proofs.cb_decide.Statement.{statement}
 use Rattle.board_calls.proofs.cb_decide.Tie as tie
 
@@ -20,13 +20,14 @@ listed c =
     as-listed (a .known) (a .message .now) (a .received) (a .slot) (a .wanted .now) (a .held) (w .result) (w .ensures) (c .decide-on .ensures)
 
 returns : tie.Need-returns
-returns c = decides-read (listed (c .before .before)) (c .enum-told .given .1)
+returns c = ap packedDecided (rw (c .enum-told .given .1) at (listed (c .before .before)))
 
 returns-2 : tie.Need-returns-2
-returns-2 c = decides-skip (listed (c .before .before)) (c .enum-told2 .given .1)
+returns-2 c = ap packedDecided (rw (c .enum-told2 .given .1) at (listed (c .before .before)))
 
 returns-3 : tie.Need-returns-3
-returns-3 c = decides-refused (listed (c .before .before .before .before)) (c .number .ensures) (c .before .before .answer .given .1)
+returns-3 c =
+    omega (arith, c .number .ensures, ap packedDecided (rw (c .before .before .answer .given .1) at (listed (c .before .before .before .before))))
 
 pub cb-decide-spec : {M : Type 1} → statement M
 cb-decide-spec =

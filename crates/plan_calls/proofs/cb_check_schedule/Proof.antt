@@ -1,10 +1,10 @@
 -- `plan_calls::cb_check_schedule` meets its contract: the files, then the checker's answer, packed.
-use Rattle.laws.proofs.Base.{_≡_, _≤_, _<_, arith, needs}
+use Rattle.laws.proofs.Base.{_≡_, ap, _≤_, _<_, arith, needs}
 use Rattle.plan.specs.Coded.{planOf}
 use Rattle.checker.specs.Paper.{Checked}
 use Rattle.checker.specs.Coded.{checkedOf}
-use Rattle.plan_calls.specs.Paper.{checkedBeside}
-use Rattle.plan_calls.proofs.Answers.{refuses-both, as-beside, named-small, checks-true, checks-refused}
+use Rattle.plan_calls.specs.Paper.{checkedBeside, packedChecked}
+use Rattle.plan_calls.proofs.Answers.{refuses-both, as-beside, named-small}
 use Rattle.plan_calls.proofs.cb_check_schedule.Statement.{statement}
 use Rattle.plan_calls.proofs.cb_check_schedule.Tie as tie
 
@@ -44,10 +44,11 @@ checks c =
     (c .check-schedule .ensures)
 
 returns-2 : tie.Need-returns-2
-returns-2 c = checks-true (checks (c .before .before)) (c .enum-told2 .given .1)
+returns-2 c = ap packedChecked (rw (c .enum-told2 .given .1) at (checks (c .before .before)))
 
 returns-3 : tie.Need-returns-3
-returns-3 c = checks-refused (checks (c .before .before .before .before)) (c .number2 .ensures) (c .before .before .answer .given .1)
+returns-3 c =
+    omega (arith, c .number2 .ensures, ap packedChecked (rw (c .before .before .answer .given .1) at (checks (c .before .before .before .before))))
 
 pub cb-check-schedule-spec : {M : Type 1} → statement M
 cb-check-schedule-spec =

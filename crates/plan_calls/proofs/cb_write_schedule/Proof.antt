@@ -1,10 +1,11 @@
 -- `plan_calls::cb_write_schedule` meets its contract: the output's length, then the files, then the writer's answer, packed.
-use Rattle.laws.proofs.Base.{_≡_, _≤_, arith, needs}
+use Rattle.laws.proofs.Base.{_≡_, ap, _∙_, _≤_, arith, needs}
+use Rattle.calls.proofs.Packed.{left-number, left-done}
 use Rattle.plan.specs.Coded.{planOf}
 use Rattle.sender.specs.Paper.{Writing}
 use Rattle.sender.specs.Coded.{writingOf}
-use Rattle.plan_calls.specs.Paper.{writtenFrom}
-use Rattle.plan_calls.proofs.Answers.{refuses-output, refuses-files, as-filed, message-small, writes-message, refuses-message}
+use Rattle.plan_calls.specs.Paper.{writtenFrom, writtenLeft}
+use Rattle.plan_calls.proofs.Answers.{refuses-output, refuses-files, as-filed, message-small}
 use Rattle.plan_calls.proofs.cb_write_schedule.Statement.{statement}
 use Rattle.plan_calls.proofs.cb_write_schedule.Tie as tie
 
@@ -43,10 +44,12 @@ writes c =
     (c .write-schedule .ensures)
 
 returns-3 : tie.Need-returns-3
-returns-3 c = writes-message (writes (c .before .before .before .before .before)) (c .before .answer .given .1)
+returns-3 c = left-done _ ∙ ap writtenLeft (rw (c .before .answer .given .1) at (writes (c .before .before .before .before .before)))
 
 returns-4 : tie.Need-returns-4
-returns-4 c = refuses-message (writes (c .before .before .before .before .before .before)) (c .number3 .ensures) (c .before .before .answer2 .given .1)
+returns-4 c =
+    left-number (c .number3 .ensures)
+    ∙ ap writtenLeft (rw (c .before .before .answer2 .given .1) at (writes (c .before .before .before .before .before .before)))
 
 pub cb-write-schedule-spec : {M : Type 1} → statement M
 cb-write-schedule-spec =

@@ -1,8 +1,9 @@
 -- `schedule_calls::cb_description` meets its contract: the schedule room's answer, packed.
-use Rattle.laws.proofs.Base.{_≤_, _<_, arith, needs}
+use Rattle.laws.proofs.Base.{ap, _∙_, _≤_, _<_, arith, needs}
 use mir.Val.{boolByte}
-use Rattle.calls.proofs.Packed.{bit-small}
-use Rattle.schedule_calls.proofs.Given.{given-small, gives-next, gives-none, gives-refused}
+use Rattle.calls.proofs.Packed.{bit-byte, bit-small}
+use Rattle.schedule_calls.specs.Paper.{packedGiven}
+use Rattle.schedule_calls.proofs.Given.{given-small}
 use Rattle.schedule_calls.proofs.cb_description.Statement.{statement}
 use Rattle.schedule_calls.proofs.cb_description.Tie as tie
 
@@ -17,13 +18,17 @@ bit : (c : tie.After-struct-known) → boolByte (c .before .before .before .answ
 bit c = bit-small (c .before .before .before .answer .given .0 .1 .0 .new)
 
 returns : tie.Need-returns
-returns c = gives-next (c .before .before .before .before .before .description-at .ensures) (c .before .code .ensures) (c .before .before .before .answer .given .1)
+returns c =
+    let k = c .before .before .before .answer .given in
+    omega
+    (arith, bit-byte (k .0 .1 .0 .new), c .before .code .ensures, ap packedGiven (rw (k .1) at (c .before .before .before .before .before .description-at .ensures)))
 
 returns-2 : tie.Need-returns-2
-returns-2 c = gives-none (c .before .before .description-at .ensures) (c .enum-told .given .1)
+returns-2 c = ap packedGiven (rw (c .enum-told .given .1) at (c .before .before .description-at .ensures))
 
 returns-3 : tie.Need-returns-3
-returns-3 c = gives-refused (c .before .before .before .before .description-at .ensures) (c .number .ensures) (c .before .before .answer2 .given .1)
+returns-3 c =
+    c .number .ensures ∙ ap packedGiven (rw (c .before .before .answer2 .given .1) at (c .before .before .before .before .description-at .ensures))
 
 pub cb-description-spec : {M : Type 1} → statement M
 cb-description-spec =

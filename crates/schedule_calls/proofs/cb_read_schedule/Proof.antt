@@ -1,6 +1,7 @@
 -- `schedule_calls::cb_read_schedule` meets its contract: the schedule room's answer, packed.
-use Rattle.laws.proofs.Base.{_<_, arith, needs}
-use Rattle.schedule_calls.proofs.Given.{begin-end-small, reads-schedule, refuses-schedule}
+use Rattle.laws.proofs.Base.{ap, _<_, arith, needs}
+use Rattle.schedule_calls.specs.Paper.{packedRead}
+use Rattle.schedule_calls.proofs.Given.{begin-end-small, reads-schedule}
 use Rattle.schedule_calls.proofs.cb_read_schedule.Statement.{statement}
 use Rattle.schedule_calls.proofs.cb_read_schedule.Tie as tie
 
@@ -15,7 +16,9 @@ returns : tie.Need-returns
 returns c = reads-schedule (c .before .before .before .read-schedule .ensures) (c .before .answer .given .1)
 
 returns-2 : tie.Need-returns-2
-returns-2 c = refuses-schedule (c .before .before .before .before .read-schedule .ensures) (c .number .ensures) (c .before .before .answer2 .given .1)
+returns-2 c =
+    omega
+    (arith, c .number .ensures, ap packedRead (rw (c .before .before .answer2 .given .1) at (c .before .before .before .before .read-schedule .ensures)))
 
 pub cb-read-schedule-spec : {M : Type 1} → statement M
 cb-read-schedule-spec =

@@ -1,6 +1,8 @@
 -- `text_calls::cb_read_text` meets its contract: the text room's answer, packed.
-use Rattle.laws.proofs.Base.{_≤_, arith, needs}
-use Rattle.text_calls.proofs.Answers.{characters-small, reads-characters, reads-refused}
+use Rattle.laws.proofs.Base.{ap, _∙_, _≤_, arith, needs}
+use Rattle.calls.proofs.Packed.{left-number, left-done}
+use Rattle.text_calls.specs.Paper.{readLeft}
+use Rattle.text_calls.proofs.Answers.{characters-small}
 use Rattle.text_calls.proofs.cb_read_text.Statement.{statement}
 use Rattle.text_calls.proofs.cb_read_text.Tie as tie
 
@@ -12,11 +14,13 @@ few c =
     characters-small (a .page .now) (a .received) (a .text .now) _ (b .read-text .ensures) (c .before .answer .given .1)
 
 returns : tie.Need-returns
-returns c = reads-characters (c .before .before .before .before .before .read-text .ensures) (c .before .answer .given .1)
+returns c =
+    left-done _ ∙ ap readLeft (rw (c .before .answer .given .1) at (c .before .before .before .before .before .read-text .ensures))
 
 returns-2 : tie.Need-returns-2
 returns-2 c =
-    reads-refused (c .before .before .before .before .before .before .read-text .ensures) (c .number .ensures) (c .before .before .answer2 .given .1)
+    left-number (c .number .ensures)
+    ∙ ap readLeft (rw (c .before .before .answer2 .given .1) at (c .before .before .before .before .before .before .read-text .ensures))
 
 pub cb-read-text-spec : {M : Type 1} → statement M
 cb-read-text-spec =

@@ -1,6 +1,8 @@
 -- `text_calls::cb_write_text` meets its contract: the text room's answer, packed.
-use Rattle.laws.proofs.Base.{_≤_, arith, needs}
-use Rattle.text_calls.proofs.Answers.{used-small, writes-used, writes-refused}
+use Rattle.laws.proofs.Base.{ap, _∙_, _≤_, arith, needs}
+use Rattle.calls.proofs.Packed.{left-number, left-done}
+use Rattle.text_calls.specs.Paper.{writtenLeft}
+use Rattle.text_calls.proofs.Answers.{used-small}
 use Rattle.text_calls.proofs.cb_write_text.Statement.{statement}
 use Rattle.text_calls.proofs.cb_write_text.Tie as tie
 
@@ -13,11 +15,13 @@ few c =
     (b .write-text .ensures) (c .before .answer .given .1)
 
 returns : tie.Need-returns
-returns c = writes-used (c .before .before .before .before .before .write-text .ensures) (c .before .answer .given .1)
+returns c =
+    left-done _ ∙ ap writtenLeft (rw (c .before .answer .given .1) at (c .before .before .before .before .before .write-text .ensures))
 
 returns-2 : tie.Need-returns-2
 returns-2 c =
-    writes-refused (c .before .before .before .before .before .before .write-text .ensures) (c .number .ensures) (c .before .before .answer2 .given .1)
+    left-number (c .number .ensures)
+    ∙ ap writtenLeft (rw (c .before .before .answer2 .given .1) at (c .before .before .before .before .before .before .write-text .ensures))
 
 pub cb-write-text-spec : {M : Type 1} → statement M
 cb-write-text-spec =
