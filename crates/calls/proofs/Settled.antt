@@ -1,5 +1,5 @@
 -- A contract that says what is left settles it.
-use Rattle.laws.proofs.Base.{_≡_, sym, ap, _∙_, ℕ}
+use Rattle.laws.proofs.Base.{sym, ap, _∙_, ℕ}
 use Rattle.calls.specs.Paper.{CallLeft}
 use Rattle.calls.specs.Claims.{Settles, SettlesNumber}
 

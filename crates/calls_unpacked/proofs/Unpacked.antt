@@ -10,7 +10,6 @@ use Rattle.calls.proofs.Packed.{apart, bit-most}
 use Rattle.block.specs.Paper.{refusal as refused, step}
 use Rattle.block_history.proofs.History.{number-small}
 use Rattle.firmware.specs.Paper.{heldIn, moved, intakeCall}
-use Rattle.page.specs.Paper.{Heading}
 use Rattle.plan.specs.Paper.{Plan, planNumber, Read as PlanRead, filledPlan, listed, faults as planFaults, refusal as planRefusal, readPlan}
 use Rattle.plan.proofs.GoodPlan.{plan-low}
 use Rattle.schedule.specs.Paper.{end, faults, Read, unread, good, read, Given, next, noMore, refusal, givenAt, given}
