@@ -40,8 +40,8 @@ checks c =
     let g = c .before .before .before in
     let f = g .before .before in
     let a = f .before .before .before .before .args in
-    as-beside (a .current .now) (a .previous .now) (a .message .now) (a .received) (f .read-plans .result) (f .read-plans .ensures) (g .enum-told .given .1)
-    (c .check-schedule .ensures)
+    as-beside (a .current .now) (a .previous .now) (a .message .now) (a .received)
+    (f .read-plans .result) (f .read-plans .ensures) (g .enum-told .given .1) (c .check-schedule .ensures)
 
 returns-2 : tie.Need-returns-2
 returns-2 c = ap packedChecked (rw (c .enum-told2 .given .1) at (checks (c .before .before)))

@@ -40,8 +40,8 @@ writes c =
     let g = c .before .before .before .before in
     let f = g .before .before in
     let a = f .before .before .before .before .before .args in
-    as-filed (a .current .now) (a .previous .now) (a .begin) (a .out .now) (f .before .if1 .left) (f .read-plans .result) (f .read-plans .ensures) (g .enum-told .given .1)
-    (c .write-schedule .ensures)
+    as-filed (a .current .now) (a .previous .now) (a .begin) (a .out .now) (f .before .if1 .left)
+    (f .read-plans .result) (f .read-plans .ensures) (g .enum-told .given .1) (c .write-schedule .ensures)
 
 returns-3 : tie.Need-returns-3
 returns-3 c = left-done _ ∙ ap writtenLeft (rw (c .before .answer .given .1) at (writes (c .before .before .before .before .before)))

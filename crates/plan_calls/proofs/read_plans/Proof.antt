@@ -9,14 +9,16 @@ returns c =
     let t = c .before .before .before .before in
     let s = t .before in
     let a = s .before .before .before .args in
-    current-good (a .current .now) (a .previous .now) (s .read-plan .result) (t .read-plan2 .result) (s .read-plan .ensures) (t .read-plan2 .ensures) (c .enum-told .given .1)
+    current-good (a .current .now) (a .previous .now) (s .read-plan .result) (t .read-plan2 .result)
+    (s .read-plan .ensures) (t .read-plan2 .ensures) (c .enum-told .given .1)
 
 returns-2 : tie.Need-returns-2
 returns-2 c =
     let t = c .before .before .before .before .before in
     let s = t .before in
     let a = s .before .before .before .args in
-    current-refused (a .current .now) (a .previous .now) (s .read-plan .result) (t .read-plan2 .result) (s .read-plan .ensures) (t .read-plan2 .ensures) (c .before .verdict .given .1)
+    current-refused (a .current .now) (a .previous .now) (s .read-plan .result) (t .read-plan2 .result)
+    (s .read-plan .ensures) (t .read-plan2 .ensures) (c .before .verdict .given .1)
 
 pub read-plans-spec : {M : Type 1} → statement M
 read-plans-spec =

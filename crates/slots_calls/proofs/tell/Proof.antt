@@ -20,8 +20,11 @@ loop-holds c =
 loop-again : tie.Need-loop-again Inv-loop μ-loop
 loop-again c =
     let l = c .before .before .loop in
-    let b = c .before .before .before .before .before in
-    (search needs, simp length-set (omega arith), slots-turn (b .args .message .now) (b .args .t2) (b .args .end) (b .pre .1) (l .slots) (l .i) (l .inv .2) (c .packed-at .result) (c .packed-at .ensures) (omega arith))
+    let b = c .before .before .before .before .before in (
+      search needs,
+      simp length-set (omega arith),
+      slots-turn (b .args .message .now) (b .args .t2) (b .args .end) (b .pre .1) (l .slots) (l .i) (l .inv .2) _ (c .packed-at .ensures) (omega arith),
+    )
 
 returns : tie.Need-returns Inv-loop μ-loop
 returns c =
