@@ -12,13 +12,13 @@ use Rattle.plan_calls.proofs.cb_write_schedule.Tie as tie
 returns : tie.Need-returns
 returns c =
     let a = c .before .before .before .before .before .args in
-    refuses-output (a .current .now) (a .previous .now) (a .begin) (a .out .now) (c .number .ensures) (c .before .if1 .taken)
+    refuses-output (a .current .now) (a .previous .now) (a .begin) (a .out .now) (c .number .ensures) (λ e. omega arith)
 
 returns-2 : tie.Need-returns-2
 returns-2 c =
     let f = c .before .before .before .before in
     let a = f .before .before .before .before .before .args in
-    refuses-files (a .current .now) (a .previous .now) (a .begin) (a .out .now) (f .before .if1 .left) (f .read-plans .result) (f .read-plans .ensures)
+    refuses-files (a .current .now) (a .previous .now) (a .begin) (a .out .now) (omega arith) (f .read-plans .result) (f .read-plans .ensures)
     (c .before .before .verdict .given .1) (c .number2 .ensures)
 
 -- what the answer counts is small
@@ -40,7 +40,7 @@ writes c =
     let g = c .before .before .before .before in
     let f = g .before .before in
     let a = f .before .before .before .before .before .args in
-    as-filed (a .current .now) (a .previous .now) (a .begin) (a .out .now) (f .before .if1 .left)
+    as-filed (a .current .now) (a .previous .now) (a .begin) (a .out .now) (omega arith)
     (f .read-plans .result) (f .read-plans .ensures) (g .enum-told .given .1) (c .write-schedule .ensures)
 
 returns-3 : tie.Need-returns-3
