@@ -1,7 +1,12 @@
--- Calls that meet the contract of `board_calls` return the same set.
-use Rattle.laws.proofs.Base.{_≡_, sym, _∙_, Bool, List, ℕ}
-use Rattle.board_calls.specs.Paper.{enterCall}
+-- Calls that meet a contract of `board_calls` return the same number.
+use Rattle.laws.proofs.Base.{Bool, List, ℕ}
+use Rattle.calls.specs.Claims.{SettlesNumber}
+use Rattle.calls.proofs.Settled.{settles-number}
+use Rattle.board_calls.specs.Paper.{decideCall, enterCall}
 
-pub determined-cb-enter : (known : Bool) (m : List ℕ) (received slot held r s : ℕ)
-    → r ≡ enterCall known m received slot held → s ≡ enterCall known m received slot held → r ≡ s
-determined-cb-enter known m received slot held r s a b = a ∙ sym b
+pub determined-cb-decide : (known : Bool) (m : List ℕ) (received slot : ℕ) (wanted : List ℕ) (held : ℕ)
+    → SettlesNumber (decideCall known m received slot wanted held)
+determined-cb-decide known m received slot wanted held = settles-number (decideCall known m received slot wanted held)
+
+pub determined-cb-enter : (known : Bool) (m : List ℕ) (received slot held : ℕ) → SettlesNumber (enterCall known m received slot held)
+determined-cb-enter known m received slot held = settles-number (enterCall known m received slot held)

@@ -1,3 +1,5 @@
 -- What `board_calls` proves.
+pub mod Decided
 pub mod Determined
 pub mod Nothing
+pub mod Wanted

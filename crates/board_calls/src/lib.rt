@@ -1,7 +1,59 @@
-// The entry for C by which a board keeps the set of slots whose pages it holds.
+// The entries for C by which a board decides for a slot, and keeps the set of slots whose pages it holds.
 ghost use mathlib.Core.Path.{_≡_};
-ghost use Rattle.board_calls.specs.Paper.{enterCall};
+ghost use Prim.Native.Nat.{_≤_};
+ghost use lib.ListN.{length, take};
+ghost use Rattle.board.specs.Coded.{idsOf};
+ghost use Rattle.board_calls.specs.Paper.{decideCall, enterCall};
+use board::Decision;
 use board::Held;
+use board::Wanted;
+use page::MessageId;
+
+// 01 Numbers given, 42: the most identifiers that are wanted at a time.
+const WANTED: usize = 64;
+
+// A wanted list as the board takes it: the first 64 identifiers, and how many there are.
+fn wanted_of(list: &[u16]) -> Wanted
+    ensures { λ r. ⌜ (r .count ≡ length (now (list .entry))) × (length (now (list .entry)) ≤ 64 → take (length (now (list .entry))) (idsOf (r .ids)) ≡ now (list .entry)) ⌝ }
+{
+    let mut ids = [MessageId(0); 64];
+    let mut i = 0;
+    while i < WANTED {
+        if i >= list.len() {
+            return Wanted {
+                count: list.len(),
+                ids,
+            };
+        }
+        ids[i] = MessageId(list[i]);
+        i += 1;
+    }
+    Wanted {
+        count: list.len(),
+        ids,
+    }
+}
+
+// Reads or skips a slot: number + 256 × (1 read, 0 skip).
+#[no_mangle]
+pub extern "C" fn cb_decide(
+    known: bool,
+    message: &[u8],
+    received: usize,
+    slot: usize,
+    wanted: &[u16],
+    held: u64,
+) -> u32
+    ensures { λ r. ⌜ r ≡ decideCall known (now (message .entry)) received slot (now (wanted .entry)) held ⌝ }
+{
+    let list = wanted_of(wanted);
+    let answer = board::decide_on(known, message, received, slot, list, Held(held));
+    match answer {
+        Decision::Read => 256,
+        Decision::Skip => 0,
+        Decision::Refused(refusal) => refusals::number(refusal) as u32,
+    }
+}
 
 // The held set with the page got in a slot entered, under its first's slot where the schedule tells a repeat.
 #[no_mangle]

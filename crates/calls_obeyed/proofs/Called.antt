@@ -1,15 +1,16 @@
 -- Demand 3 over the calls for C follows from demand 3, for each number comes out of what a call returns.
-use Rattle.laws.proofs.Base.{_≡_, refl, sym, ap, _∙_, Bool, true, false, not, List, _∷_, ℕ, zero, suc, _+_, _*_, _/_, _%_, _<_, arith, eqb, length}
+use Rattle.laws.proofs.Base.{_≡_, refl, sym, ap, _∙_, Bool, true, false, not, List, _∷_, ℕ, zero, suc, _*_, _%_, arith, eqb, length}
 use Rattle.laws.proofs.Ruled.{NoneHolds, ruled-map, none-holds, ruled-none, unless0-numbered}
-use Rattle.plan.specs.Paper.{readPlan, lowestAt}
+use Rattle.plan.specs.Paper.{readPlan}
 use Rattle.sender.specs.Paper.{Writing, unwritten, write}
 use Rattle.checker.specs.Paper.{Checked, unchecked, check}
-use Rattle.board.specs.Paper.{Decided}
 use Rattle.block.specs.Paper.{lastUsed}
 use Rattle.delivery.proofs.Accepted.{ours-accepted}
-use Rattle.board_obeyed.specs.Claims.{Obeys, WantedPage, Why, after}
+use Rattle.board_obeyed.specs.Claims.{Obeys, after}
 use Rattle.board_obeyed.proofs.Obeyed.{wakes, wakes-only}
-use Rattle.capi.specs.Paper.{bitOf, fileFaults, writtenFrom, checkedBeside, checkScheduleCall, decidedFor, decideCall}
+use Rattle.calls.specs.Paper.{bitOf}
+use Rattle.plan_calls.specs.Paper.{fileFaults, writtenFrom, checkedBeside, packedChecked, checkScheduleCall}
+use Rattle.board_calls.specs.Paper.{packedDecided, decidedFor}
 use Rattle.calls_unpacked.proofs.Unpacked.{unpacked-write-schedule, unpacked-check-schedule, unpacked-decide}
 use Rattle.calls_obeyed.specs.Claims.{planIn, listed, CallsAccepted, ObeysCalls, CallsWake, CallsWakeOnly, afterSlots, CallsPeriod}
 
@@ -44,7 +45,7 @@ module _ (c p : List ℕ) where
 
   -- and the other way
   true-call : Good c p → (m : List ℕ) (received : ℕ) → check (planIn c) (planIn p) m received ≡ unchecked 0 → checkScheduleCall c p m received ≡ 0
-  true-call good m received e = ap (λ (y : Checked). y .number + 256 * y .slot) (checks good m received ∙ e)
+  true-call good m received e = ap packedChecked (checks good m received ∙ e)
 
 pub calls-accepted : CallsAccepted
 calls-accepted c p b o z =
@@ -58,28 +59,21 @@ calls-accepted c p b o z =
       blocks = true-call c p (w .0) (write (planIn c) (planIn p) b o .output) (22 * lastUsed (write (planIn c) (planIn p) b o .used)) (a .used);
     })
 
-module _ (c p m : List ℕ) (received : ℕ) (w : List ℕ) (o : ObeysCalls c p m received w) where
-  pub obeys : Obeys (planIn c) (planIn p) m received (listed w)
-  obeys = record { accepted = accepts c p m received (o .accepted); few = o .few }
-
-  wake : (held i : ℕ) → WantedPage (planIn c) (listed w) i → lowestAt (planIn c) i ≡ suc i → decideCall true m received (suc i) w held ≡ 256
-  wake held i q l =
-      ap (λ (d : Decided). d .number + 256 * bitOf (d .read)) (wakes (planIn c) (planIn p) m received (listed w) obeys held i q l)
-
-  wake-only : (held i : ℕ) → i < planIn c .count → decideCall true m received (suc i) w held / 256 ≡ 1 → Why (planIn c) m (listed w) held i
-  wake-only held i l e =
-      wakes-only (planIn c) (planIn p) m received (listed w) obeys held i l
-      (bit-read (decidedFor true m received (suc i) w held .read) (sym (unpacked-decide true m received (suc i) w held .1) ∙ e))
-    where
-      bit-read : (b : Bool) → bitOf b ≡ 1 → b ≡ true
-      bit-read true e = refl
-      bit-read false e = absurd (omega (arith, e))
+pub obeys : (c p m : List ℕ) (received : ℕ) (w : List ℕ) → ObeysCalls c p m received w → Obeys (planIn c) (planIn p) m received (listed w)
+obeys c p m received w o = record { accepted = accepts c p m received (o .accepted); few = o .few }
 
 pub calls-wake : CallsWake
-calls-wake = wake
+calls-wake c p m received w o held i q l =
+    ap packedDecided (wakes (planIn c) (planIn p) m received (listed w) (obeys c p m received w o) held i q l)
 
 pub calls-wake-only : CallsWakeOnly
-calls-wake-only = wake-only
+calls-wake-only c p m received w o held i l e =
+    wakes-only (planIn c) (planIn p) m received (listed w) (obeys c p m received w o) held i l
+    (bit-read (decidedFor true m received (suc i) w held .read) (sym (unpacked-decide true m received (suc i) w held .1) ∙ e))
+  where
+    bit-read : (b : Bool) → bitOf b ≡ 1 → b ≡ true
+    bit-read true e = refl
+    bit-read false e = absurd (omega (arith, e))
 
 -- a decision to read, as the number that C sees
 read-one : (b : Bool) → eqb (bitOf b) 1 ≡ b

@@ -9,20 +9,21 @@ use Rattle.schedule.specs.Paper.{new, place, tells, read}
 use Rattle.sender.specs.Paper as sender
 use Rattle.checker.specs.Paper.{check, isTrue}
 use Rattle.board.specs.Paper.{isWanted, isHeld, tellsOf, reads, decide}
-use Rattle.capi.specs.Paper.{writeScheduleCall, decideCall}
+use Rattle.plan_calls.specs.Paper.{writeScheduleCall}
+use Rattle.board_calls.specs.Paper.{decideCall}
 use Rattle.board_obeyed.specs.Claims.{WantedPage}
 use Rattle.calls_obeyed.specs.Claims.{planIn, listed, ObeysCalls}
 
 -- 01 Where the edges are: a plan file of two slots, both serial number 0010, identifier 8001, parameter 11; and one of no slots
 abbrev current : List ℕ
-current = 67 ∷ 66 ∷ 80 ∷ 0 ∷ 1 ∷ 2 ∷ 2 ∷ 0 ∷ 16 ∷ 128 ∷ 1 ∷ 17 ∷ 2 ∷ 0 ∷ 16 ∷ 128 ∷ 1 ∷ 17 ∷ []
+current = 0x43 ∷ 0x42 ∷ 0x50 ∷ 0 ∷ 1 ∷ 2 ∷ 2 ∷ 0 ∷ 0x10 ∷ 0x80 ∷ 1 ∷ 0x11 ∷ 2 ∷ 0 ∷ 0x10 ∷ 0x80 ∷ 1 ∷ 0x11 ∷ []
 
 abbrev previous : List ℕ
-previous = 67 ∷ 66 ∷ 80 ∷ 0 ∷ 1 ∷ 0 ∷ []
+previous = 0x43 ∷ 0x42 ∷ 0x50 ∷ 0 ∷ 1 ∷ 0 ∷ []
 
 -- 01 Where the edges are: the message, 11 octets and then 2B
 abbrev message : List ℕ
-message = (1 ∷ 2 ∷ 192 ∷ 0 ∷ 0 ∷ 0 ∷ 0 ∷ 0 ∷ 128 ∷ 1 ∷ 1 ∷ []) ++ replicate 77 43
+message = (1 ∷ 2 ∷ 0xc0 ∷ 0 ∷ 0 ∷ 0 ∷ 0 ∷ 0 ∷ 0x80 ∷ 1 ∷ 1 ∷ []) ++ replicate 77 0x2b
 
 pub written : writeScheduleCall current previous 1 (replicate 88 0) ≡ record { returned = 256 * 11; memory = message }
 unfolding readPlan entriesIn entryIn planNumber bad some sender.write sender.descriptions sender.octetsOfAll sender.plannedTold sender.newAt sender.newBits sender.usedPart sender.padded upto.picked upto.each hasPage lowestSlot holds samePage firstFrom

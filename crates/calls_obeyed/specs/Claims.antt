@@ -8,8 +8,8 @@ use lib.ListN.{length}
 use Rattle.block.specs.Paper.{lastUsed}
 use Rattle.plan.specs.Paper.{Plan, readPlan, entryAt, pageAt, lowestAt}
 use Rattle.board.specs.Paper.{Wanted}
-use Rattle.capi.specs.Paper.{writeScheduleCall, checkScheduleCall, decideCall}
-use Rattle.board_calls.specs.Paper.{enterCall}
+use Rattle.plan_calls.specs.Paper.{writeScheduleCall, checkScheduleCall}
+use Rattle.board_calls.specs.Paper.{decideCall, enterCall}
 use Rattle.board_obeyed.specs.Claims.{WantedPage, Why, Board, after}
 
 -- 01 The plan: the plan that a file holds

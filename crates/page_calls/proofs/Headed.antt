@@ -28,6 +28,5 @@ module _ (p : List ℕ) where
   pub reads-header : (h : Header) → headingOf h ≡ header six → length p ≡ 88
       → 0x100 * h .scheme + 0x10000 * h .serial .0 + 0x100000000 * h .id .0 + 0x1000000000000 * h .parameter ≡ headerCall p
   reads-header h q e =
-      let same = q ∙ six-header in
       omega
-      (arith, ap packedHeaded (headed-read e), ap (λ (x : Heading). x .scheme) same, ap (λ (x : Heading). x .serial) same, ap (λ (x : Heading). x .id) same, ap (λ (x : Heading). x .parameter) same)
+      (arith, ap packedHeaded (headed-read e), ap (λ (x : Heading). packedHeaded (record { number = 0; heading = x })) (q ∙ six-header))

@@ -1,4 +1,3 @@
 -- What `schedule_calls` proves.
 pub mod Determined
-pub mod Packed
-pub mod Slots
+pub mod Given

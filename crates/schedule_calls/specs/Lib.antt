@@ -1,3 +1,2 @@
 -- What `schedule_calls` defines.
 pub mod Paper
-pub mod Inner

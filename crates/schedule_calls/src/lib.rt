@@ -1,14 +1,10 @@
-// The entry for C that tells all slots of a schedule message in one reading, and descriptions as numbers.
+// The entries for C that read a schedule message, Begin and End or one description; and descriptions as numbers.
 ghost use mathlib.Core.Path.{_≡_};
-ghost use lib.ListN.{length};
-ghost use Rattle.laws.specs.Upto.{each};
 ghost use Rattle.schedule.specs.Coded.{toldOf};
-ghost use Rattle.schedule_calls.specs.Paper.{codeOf, packedSlot, slotsCall};
-ghost use Rattle.schedule_calls.specs.Inner.{Shows, packedBy};
-use refusals::Refusal;
+ghost use Rattle.schedule_calls.specs.Paper.{codeOf, scheduleCall, descriptionCall};
 use schedule::Description;
+use schedule::Given;
 use schedule::Reading;
-use sizes::SLOTS;
 
 // A description as one number.
 pub fn code(description: Description) -> u32
@@ -22,46 +18,31 @@ pub fn code(description: Description) -> u32
     }
 }
 
-// Slot i, counted from 0, as one number, by its description's place: code + 2^16 × new bit, and 0 past End.
-fn packed_at(message: &[u8], end: usize, i: usize, at: usize) -> u32
-    ensures { λ r. ⌜ r ≡ packedBy (now (message .entry)) end i at ⌝ }
-{
-    if i >= end {
-        return 0;
-    }
-    let slot = schedule::shown(message, i, at);
-    let description = slot.description;
-    code(description) + 0x10000 * slot.new as u32
-}
-
-// Tells each slot of a message that is read, by the places of its descriptions.
-fn tell(message: &[u8], places: [usize; 48], end: usize, slots: &mut [u32])
-    requires { ⌜ (length (now slots) ≡ 48) × Shows (now message) places end ⌝ }
-    ensures { λ r. ⌜ now (slots .exit) ≡ each (packedSlot (now (message .entry))) 48 ⌝ }
-{
-    let mut i = 0;
-    while i < SLOTS {
-        slots[i] = packed_at(message, end, i, places[i]);
-        i += 1;
-    }
-}
-
-// Tells all slots of a schedule message, each as code + 2^16 × new bit: number + 2^8 × Begin + 2^16 × End.
+// Reads a schedule message: number + 2^8 × Begin + 2^16 × End.
 #[no_mangle]
-pub extern "C" fn cb_slots(message: &[u8], received: usize, slots: &mut [u32]) -> u32
-    ensures { λ r. ⌜ record { returned = r; memory = now (slots .exit) } ≡ slotsCall (now (message .entry)) received (now (slots .entry)) ⌝ }
+pub extern "C" fn cb_read_schedule(message: &[u8], received: usize) -> u32
+    ensures { λ r. ⌜ r ≡ scheduleCall (now (message .entry)) received ⌝ }
 {
-    if slots.len() != SLOTS {
-        return refusals::number(Refusal::OutputLength) as u32;
-    }
-    let found = schedule::read_places(message, received);
-    let answer = found.answer;
+    let answer = schedule::read_schedule(message, received);
     match answer {
+        Reading::Read(begin, end) => 0x100 * begin as u32 + 0x10000 * end as u32,
         Reading::Refused(refusal) => refusals::number(refusal) as u32,
-        Reading::Read(begin, end) => {
-            let places = found.places;
-            tell(message, places, end, slots);
-            0x100 * begin as u32 + 0x10000 * end as u32
+    }
+}
+
+// Gives the description that stands after `place` others: number + 2^8 × slot + 2^16 × new bit + 2^32 × code.
+#[no_mangle]
+pub extern "C" fn cb_description(message: &[u8], received: usize, place: usize) -> u64
+    ensures { λ r. ⌜ r ≡ descriptionCall (now (message .entry)) received place ⌝ }
+{
+    let answer = schedule::description_at(message, received, place);
+    match answer {
+        Given::Next(number, slot) => {
+            let description = slot.description;
+            let high = 0x100000000 * code(description) as u64;
+            high + 0x10000 * slot.new as u64 + 0x100 * number as u64
         }
+        Given::NoMore => 0,
+        Given::Refused(refusal) => refusals::number(refusal) as u64,
     }
 }

@@ -1,0 +1,2 @@
+-- What `block_calls` proves.
+pub mod Determined

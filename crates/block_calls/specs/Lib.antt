@@ -1,0 +1,2 @@
+-- What `block_calls` defines.
+pub mod Paper

@@ -1,0 +1,3 @@
+-- What `calls` proves.
+pub mod Packed
+pub mod Settled

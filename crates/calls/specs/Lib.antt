@@ -1,0 +1,3 @@
+-- What `calls` defines.
+pub mod Claims
+pub mod Paper

@@ -1,2 +1,0 @@
--- What `capi` defines.
-pub mod Paper

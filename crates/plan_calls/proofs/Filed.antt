@@ -1,0 +1,61 @@
+-- Laws of two plan files that are read together.
+use Rattle.laws.proofs.Base.{_≡_, refl, sym, ap, _∙_, Bool, true, false, cond, not, List, ℕ, eqb, ne-eqb, eqb-true}
+use Rattle.laws.specs.Ruled.{ruled}
+use Rattle.laws.proofs.Outcome.{Outcome, refuses, passes, outcome}
+use Rattle.laws.proofs.Ruled.{none-holds, ruled-none, unless0-numbered}
+use Rattle.refusals.specs.declared.Refusal.{Refusal}
+use Rattle.refusals.specs.Number.{numberOf}
+use Rattle.refusals.proofs.Inverse.{numberOf-positive}
+use Rattle.plan.specs.declared.Reading.{Reading}
+use Rattle.plan.specs.declared.Verdict.the-variants.{Good, Refused}
+use Rattle.plan.specs.Paper.{Read, readPlan}
+use Rattle.plan.specs.Coded.{verdictOf, planOf, readingOf}
+use Rattle.plan_calls.specs.declared.Files.{Files}
+use Rattle.plan_calls.specs.Paper.{fileFaults}
+use Rattle.plan_calls.specs.Coded.{filesOf}
+use Rattle.plan_calls.specs.Inner.{Filed, filed}
+
+-- a number that answers unless it is 0
+unless-self : (n : ℕ) → n ≡ cond (not (eqb n 0)) n 0
+unless-self n = go (eqb n 0) refl
+  where
+    go : (b : Bool) → eqb n 0 ≡ b → n ≡ cond (not (eqb n 0)) n 0
+    go true e = rw e (eqb-true n 0 e)
+    go false e = rw e
+
+module _ (c p : List ℕ) where
+  module _ (x y : Reading) (d : readingOf x ≡ readPlan c) (e : readingOf y ≡ readPlan p) where
+    -- what is read of both, with a number
+    with-number : (n : ℕ) → n ≡ filed c p .number → record { number = n; current = planOf (x .plan); previous = planOf (y .plan) } ≡ filed c p
+    with-number n q = λ i. record { number = q i; current = d i .plan; previous = e i .plan }
+
+    pub current-good : x .verdict ≡ Good
+        → record { number = verdictOf (y .verdict); current = planOf (x .plan); previous = planOf (y .plan) } ≡ filed c p
+    current-good k =
+        let good : readPlan c .number ≡ 0 = sym (ap (λ (r : Read). r .number) d) ∙ ap verdictOf k in
+        with-number (verdictOf (y .verdict)) (rw good (ap (λ (r : Read). r .number) e ∙ unless-self (readPlan p .number)))
+
+    pub current-refused : {f : Refusal} → x .verdict ≡ Refused f
+        → record { number = numberOf f; current = planOf (x .plan); previous = planOf (y .plan) } ≡ filed c p
+    current-refused {f} k =
+        let same : numberOf f ≡ readPlan c .number = sym (ap verdictOf k) ∙ ap (λ (r : Read). r .number) d in
+        with-number (numberOf f) (rw (← same, ne-eqb (numberOf f) 0 (numberOf-positive f)))
+
+  -- what the tests of two files make of an answer
+  module _ {A : Type 0} (by : ℕ → A) (f : Files) (e : filesOf f ≡ filed c p) (x : A) where
+    pub files-refused : {g : Refusal} → f .verdict ≡ Refused g → by (numberOf g) ≡ ruled by (fileFaults c p) x
+    files-refused {g} k = go (outcome (fileFaults c p))
+      where
+        number : numberOf g ≡ filed c p .number
+        number = sym (ap verdictOf k) ∙ ap (λ (z : Filed). z .number) e
+
+        go : Outcome (fileFaults c p) → by (numberOf g) ≡ ruled by (fileFaults c p) x
+        go (refuses n a q) = ap by (number ∙ q ℕ (λ (m : ℕ). m) 0) ∙ sym (q A by x)
+        go (passes h q) = absurd (numberOf-positive g (number ∙ q ℕ (λ (m : ℕ). m) 0))
+
+    pub files-good : f .verdict ≡ Good → x ≡ ruled by (fileFaults c p) x
+    files-good k =
+        sym
+        (ruled-none by (fileFaults c p) x
+        (none-holds (fileFaults c p) 0 (unless0-numbered (readPlan c .number), (unless0-numbered (readPlan p .number), tt))
+        (sym (ap (λ (z : Filed). z .number) e) ∙ ap verdictOf k)))

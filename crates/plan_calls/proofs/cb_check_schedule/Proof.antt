@@ -1,0 +1,60 @@
+-- `plan_calls::cb_check_schedule` meets its contract: the files, then the checker's answer, packed.
+use Rattle.laws.proofs.Base.{_≡_, ap, _≤_, _<_, arith, needs}
+use Rattle.plan.specs.Coded.{planOf}
+use Rattle.checker.specs.Paper.{Checked}
+use Rattle.checker.specs.Coded.{checkedOf}
+use Rattle.plan_calls.specs.Paper.{checkedBeside, packedChecked}
+use Rattle.plan_calls.proofs.Answers.{refuses-both, as-beside, named-small}
+use Rattle.plan_calls.proofs.cb_check_schedule.Statement.{statement}
+use Rattle.plan_calls.proofs.cb_check_schedule.Tie as tie
+
+returns : tie.Need-returns
+returns c =
+    let f = c .before .before .before .before in
+    let a = f .before .before .before .before .args in
+    refuses-both (a .current .now) (a .previous .now) (a .message .now) (a .received) (f .read-plans .result) (f .read-plans .ensures)
+    (c .before .before .verdict .given .1) (c .number .ensures)
+
+-- the slot that is named is small
+few : (c : tie.After-number2) → c .before .before .answer .given .0 .1 .0 ≤ 48
+few c =
+    let w = c .before .before .before .before in
+    let f = w .before .before .before .before .before in
+    let a = f .before .before .before .before .args in
+    named-small (planOf (f .read-plans .result .current)) (planOf (f .read-plans .result .previous)) (a .message .now) (a .received)
+    (w .check-schedule .ensures) (c .before .before .answer .given .1)
+
+add-result : tie.Need-add-result
+add-result c =
+    let small : c .number2 .result < 256 = search needs in
+    omega (arith, few c, small)
+
+-- the checker's answer is that for the files
+abbrev checked : tie.After-check-schedule → Checked
+checked c =
+    let a = c .before .before .before .before .before .before .before .before .before .args in
+    checkedBeside (a .current .now) (a .previous .now) (a .message .now) (a .received)
+
+checks : (c : tie.After-check-schedule) → checkedOf (c .check-schedule .result) ≡ checked c
+checks c =
+    let g = c .before .before .before in
+    let f = g .before .before in
+    let a = f .before .before .before .before .args in
+    as-beside (a .current .now) (a .previous .now) (a .message .now) (a .received)
+    (f .read-plans .result) (f .read-plans .ensures) (g .enum-told .given .1) (c .check-schedule .ensures)
+
+returns-2 : tie.Need-returns-2
+returns-2 c = ap packedChecked (rw (c .enum-told2 .given .1) at (checks (c .before .before)))
+
+returns-3 : tie.Need-returns-3
+returns-3 c =
+    omega (arith, c .number2 .ensures, ap packedChecked (rw (c .before .before .answer .given .1) at (checks (c .before .before .before .before))))
+
+pub cb-check-schedule-spec : {M : Type 1} → statement M
+cb-check-schedule-spec =
+    tie.close
+    (tie.spec
+    (λ c κs. search needs) (λ c. search needs) (λ c κs. search needs) (λ c. search needs) returns
+    (λ c. search needs) (λ c κs. search needs) (λ c. search needs) (λ c. search needs)
+    (λ c κs. search needs) (λ c. search needs) (λ c. omega (arith, few c)) (λ c. omega (arith, few c)) add-result returns-2
+    returns-3)

@@ -1,0 +1,61 @@
+-- `plan_calls::cb_write_schedule` meets its contract: the output's length, then the files, then the writer's answer, packed.
+use Rattle.laws.proofs.Base.{_≡_, ap, _∙_, _≤_, arith, needs}
+use Rattle.calls.proofs.Packed.{left-number, left-done}
+use Rattle.plan.specs.Coded.{planOf}
+use Rattle.sender.specs.Paper.{Writing}
+use Rattle.sender.specs.Coded.{writingOf}
+use Rattle.plan_calls.specs.Paper.{writtenFrom, writtenLeft}
+use Rattle.plan_calls.proofs.Answers.{refuses-output, refuses-files, as-filed, message-small}
+use Rattle.plan_calls.proofs.cb_write_schedule.Statement.{statement}
+use Rattle.plan_calls.proofs.cb_write_schedule.Tie as tie
+
+returns : tie.Need-returns
+returns c =
+    let a = c .before .before .before .before .before .args in
+    refuses-output (a .current .now) (a .previous .now) (a .begin) (a .out .now) (c .number .ensures) (λ e. omega arith)
+
+returns-2 : tie.Need-returns-2
+returns-2 c =
+    let f = c .before .before .before .before in
+    let a = f .before .before .before .before .before .args in
+    refuses-files (a .current .now) (a .previous .now) (a .begin) (a .out .now) (omega arith) (f .read-plans .result) (f .read-plans .ensures)
+    (c .before .before .verdict .given .1) (c .number2 .ensures)
+
+-- what the answer counts is small
+few : (c : tie.After-known-told2) → c .before .answer .given .0 .0 ≤ 88
+few c =
+    let w = c .before .before .before .before .before in
+    let f = w .before .before .before .before .before .before .read-plans .result in
+    let a = w .before .before .before .before .before .before .before .before .before .before .before .args in
+    message-small (planOf (f .current)) (planOf (f .previous)) (a .begin) (a .out .now) _ (w .write-schedule .ensures) (c .before .answer .given .1)
+
+-- the writer's answer is that for the files
+abbrev written : tie.After-write-schedule → Writing
+written c =
+    let a = c .before .before .before .before .before .before .before .before .before .before .before .args in
+    writtenFrom (a .current .now) (a .previous .now) (a .begin) (a .out .now)
+
+writes : (c : tie.After-write-schedule) → writingOf (c .write-schedule .result) (c .write-schedule .last .1 .1 .1 .0) ≡ written c
+writes c =
+    let g = c .before .before .before .before in
+    let f = g .before .before in
+    let a = f .before .before .before .before .before .args in
+    as-filed (a .current .now) (a .previous .now) (a .begin) (a .out .now) (omega arith)
+    (f .read-plans .result) (f .read-plans .ensures) (g .enum-told .given .1) (c .write-schedule .ensures)
+
+returns-3 : tie.Need-returns-3
+returns-3 c = left-done _ ∙ ap writtenLeft (rw (c .before .answer .given .1) at (writes (c .before .before .before .before .before)))
+
+returns-4 : tie.Need-returns-4
+returns-4 c =
+    left-number (c .number3 .ensures)
+    ∙ ap writtenLeft (rw (c .before .before .answer2 .given .1) at (writes (c .before .before .before .before .before .before)))
+
+pub cb-write-schedule-spec : {M : Type 1} → statement M
+cb-write-schedule-spec =
+    tie.close
+    (tie.spec
+    (λ c κs. search needs) (λ c. search needs) returns (λ c κs. search needs) (λ c. search needs)
+    (λ c κs. search needs) (λ c. search needs) returns-2 (λ c. search needs) (λ c κs. search needs)
+    (λ c. search needs) (λ c. omega (arith, few c)) (λ c. omega (arith, few c)) (λ c. search needs) (λ c κs. search needs)
+    (λ c. search needs) (λ c. search needs) returns-3 (λ c. search needs) returns-4)

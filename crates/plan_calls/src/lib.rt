@@ -1,0 +1,105 @@
+// The entries for C that take plans, as files: they read them, and write and check schedule messages beside them.
+ghost use mathlib.Core.Path.{_≡_};
+ghost use Rattle.plan_calls.specs.Paper.{planCall, writeScheduleCall, checkScheduleCall};
+ghost use Rattle.plan_calls.specs.Coded.{filesOf};
+ghost use Rattle.plan_calls.specs.Inner.{filed};
+use checker::Checking;
+use plan::Plan;
+use plan::Verdict;
+use refusals::Refusal;
+use sender::Writing;
+use sizes::MESSAGE;
+
+// Reads a plan file: number + 256 × count.
+#[no_mangle]
+pub extern "C" fn cb_read_plan(file: &[u8]) -> u32
+    ensures { λ r. ⌜ r ≡ planCall (now (file .entry)) ⌝ }
+{
+    let reading = plan::read_plan(file);
+    let verdict = reading.verdict;
+    match verdict {
+        Verdict::Good => 256 * reading.plan.count as u32,
+        Verdict::Refused(refusal) => refusals::number(refusal) as u32,
+    }
+}
+
+// Two plan files read: what the first refused one is refused by, and their plans.
+struct Files {
+    verdict: Verdict,
+    current: Plan,
+    previous: Plan,
+}
+
+fn read_plans(current: &[u8], previous: &[u8]) -> Files
+    ensures { λ r. ⌜ filesOf r ≡ filed (now (current .entry)) (now (previous .entry)) ⌝ }
+{
+    let this = plan::read_plan(current);
+    let last = plan::read_plan(previous);
+    let verdict = this.verdict;
+    let other = last.verdict;
+    let plan = this.plan;
+    let older = last.plan;
+    match verdict {
+        Verdict::Good => Files {
+            verdict: other,
+            current: plan,
+            previous: older,
+        },
+        Verdict::Refused(refusal) => Files {
+            verdict: Verdict::Refused(refusal),
+            current: plan,
+            previous: older,
+        },
+    }
+}
+
+// Writes the schedule message of a plan file, beside the file before it: number + 256 × used octets.
+#[no_mangle]
+pub extern "C" fn cb_write_schedule(
+    current: &[u8],
+    previous: &[u8],
+    begin: usize,
+    out: &mut [u8],
+) -> u32
+    ensures { λ r. ⌜ record { returned = r; memory = now (out .exit) } ≡ writeScheduleCall (now (current .entry)) (now (previous .entry)) begin (now (out .entry)) ⌝ }
+{
+    if out.len() != MESSAGE {
+        return refusals::number(Refusal::OutputLength) as u32;
+    }
+    let files = read_plans(current, previous);
+    let verdict = files.verdict;
+    if let Verdict::Refused(refusal) = verdict {
+        return refusals::number(refusal) as u32;
+    }
+    let plan = files.current;
+    let older = files.previous;
+    let answer = sender::write_schedule(plan, older, begin, out);
+    match answer {
+        Writing::Written(used) => 256 * used as u32,
+        Writing::Refused(refusal) => refusals::number(refusal) as u32,
+    }
+}
+
+// Checks a schedule message beside two plan files: number + 256 × slot.
+#[no_mangle]
+pub extern "C" fn cb_check_schedule(
+    current: &[u8],
+    previous: &[u8],
+    message: &[u8],
+    received: usize,
+) -> u32
+    ensures { λ r. ⌜ r ≡ checkScheduleCall (now (current .entry)) (now (previous .entry)) (now (message .entry)) received ⌝ }
+{
+    let files = read_plans(current, previous);
+    let verdict = files.verdict;
+    if let Verdict::Refused(refusal) = verdict {
+        return refusals::number(refusal) as u32;
+    }
+    let plan = files.current;
+    let older = files.previous;
+    let answer = checker::check_schedule(plan, older, message, received);
+    match answer {
+        Checking::True => 0,
+        Checking::Refused(refusal, slot) => { refusals::number(refusal) as u32 + 256 * slot as u32 }
+    }
+}

@@ -1,0 +1,4 @@
+-- What `slots_calls` proves.
+pub mod Determined
+pub mod Packed
+pub mod Slots

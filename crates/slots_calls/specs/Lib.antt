@@ -1,0 +1,3 @@
+-- What `slots_calls` defines.
+pub mod Inner
+pub mod Paper

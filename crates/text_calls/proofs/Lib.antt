@@ -1,0 +1,3 @@
+-- What `text_calls` proves.
+pub mod Answers
+pub mod Determined

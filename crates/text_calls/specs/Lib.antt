@@ -1,0 +1,2 @@
+-- What `text_calls` defines.
+pub mod Paper
