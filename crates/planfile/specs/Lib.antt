@@ -1,3 +1,3 @@
 -- What `planfile` defines.
-pub mod Refused
-pub mod Taken
+pub mod Inner
+pub mod Paper

@@ -4,11 +4,11 @@ ghost use Rattle.refusals.specs.Number.{numberOf};
 ghost use Rattle.lines.specs.Paper.{allBehind};
 ghost use Rattle.plan.specs.Paper.{planNumber};
 ghost use Rattle.plan.specs.Coded.{planOf};
-ghost use Rattle.planfile.specs.Refused.{numbered, refused, beginRefused};
-ghost use Rattle.planfile.specs.Taken.{takenOf, taken, untaken};
+ghost use Rattle.planfile.specs.Paper.{numbered, refused, beginRefused};
+ghost use Rattle.planfile.specs.Inner.{takenOf, taken, untaken};
+use files::Filled;
+use files::Opened;
 use libc::STDERR_FILENO;
-use lines::Filled;
-use lines::Opened;
 use plan::Plan;
 use plan::Verdict;
 use refusals::Refusal;
@@ -103,14 +103,10 @@ fn take_open(program: &[u8], about: &[u8], fd: i32, path: &[u8]) -> Taken
     ensures { λ r. ⌜ planNumber (planOf (r .plan)) ≡ 0 ⌝ }
 {
     let mut file = [0u8; 295];
-    let got = lines::fill(fd, &mut file);
+    let got = files::fill(program, path, fd, &mut file);
     match got {
         Filled::Octets(count) => take_octets(program, about, &file[..count]),
-        Filled::Fault(_) => {
-            let mut line = [0u8; lines::NAMES];
-            lines::say_fault(program, path, &mut line);
-            none_taken()
-        }
+        Filled::Fault(_) => none_taken(),
     }
 }
 
@@ -119,7 +115,7 @@ pub fn take(program: &[u8], about: &[u8], i: usize) -> Taken
     ensures { λ r. ⌜ planNumber (planOf (r .plan)) ≡ 0 ⌝ }
 {
     let mut path = io::buffer();
-    let opened = lines::open_named(program, i, &mut path);
+    let opened = files::open_named(program, i, &mut path);
     match opened {
         Opened::File(fd, length) => {
             let taken = take_open(program, about, fd, &path[..length]);

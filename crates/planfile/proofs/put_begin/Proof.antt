@@ -2,7 +2,7 @@
 use Rattle.laws.proofs.Base.{needs}
 use Rattle.lines.specs.Paper.{ascii}
 use Rattle.lines.proofs.Texts.{and-then, and-last, and-others}
-use Rattle.planfile.specs.Refused.{numbered}
+use Rattle.planfile.specs.Paper.{numbered}
 use Rattle.planfile.proofs.put_begin.Statement.{statement}
 use Rattle.planfile.proofs.put_begin.Tie as tie
 
@@ -16,13 +16,13 @@ returns c =
     let led = given .before .before .before .before in
     let number = led .before .before .before .before .before in
     let named = number .before .before .before .before in
-    and-then _ _ _ _ _ _ (named .put .ensures)
-    (and-others (numbered 21) _ _ _ _ _ (number .put-number .ensures)
-    (and-then _ _ _ _ _ _ (led .put2 .ensures)
-    (and-then _ _ _ _ _ _ (given .put3 .ensures)
-    (and-then _ _ _ _ _ _ (limited .put4 .ensures)
-    (and-then _ _ _ _ _ _ (counted .put-number2 .ensures)
-    (and-last _ _ _ _ (end .put5 .ensures)))))))
+    and-then _ _ _ _ (named .put .ensures)
+    (and-others (numbered 21) _ _ _ (number .put-number .ensures)
+    (and-then _ _ _ _ (led .put2 .ensures)
+    (and-then _ _ _ _ (given .put3 .ensures)
+    (and-then _ _ _ _ (limited .put4 .ensures)
+    (and-then _ _ _ _ (counted .put-number2 .ensures)
+    (and-last _ _ _ (end .put5 .ensures)))))))
 
 pub put-begin-spec : {M : Type 1} → statement M
 put-begin-spec =

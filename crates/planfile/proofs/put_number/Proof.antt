@@ -11,7 +11,7 @@ returns c =
     let third = c .before .before in
     let second = third .before .before .before .before .before in
     let first = second .before .before .before .before in
-    and-then _ _ _ _ _ _ (first .put .ensures) (and-then _ _ _ _ _ _ (second .put-number .ensures) (and-last _ _ _ _ (third .put2 .ensures)))
+    and-then _ _ _ _ (first .put .ensures) (and-then _ _ _ _ (second .put-number .ensures) (and-last _ _ _ (third .put2 .ensures)))
 
 pub put-number-spec : {M : Type 1} → statement M
 put-number-spec =

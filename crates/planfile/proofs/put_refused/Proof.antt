@@ -2,7 +2,7 @@
 use Rattle.laws.proofs.Base.{needs}
 use Rattle.refusals.specs.Number.{numberOf}
 use Rattle.lines.specs.Paper.{ascii}
-use Rattle.planfile.specs.Refused.{numbered}
+use Rattle.planfile.specs.Paper.{numbered}
 use Rattle.lines.proofs.Texts.{and-then, and-last, and-others}
 use Rattle.planfile.proofs.Lines.{renumbered}
 use Rattle.planfile.proofs.put_refused.Statement.{statement}
@@ -18,11 +18,11 @@ returns c =
     let first = second .before .before .before .before .before in
     let refusal = first .before .before .before .before .before .args .refusal in
     let number = second .before .before .number in
-    and-then _ _ _ _ _ _ (first .put .ensures)
-    (and-others (numbered (numberOf refusal)) _ _ _ _ _ (renumbered _ _ _ _ _ (number .ensures) (second .put-number .ensures))
-    (and-then _ _ _ _ _ _ (third .put2 .ensures)
-    (and-then _ _ _ _ _ _ (fourth .put-words .ensures)
-    (and-last _ _ _ _ (fifth .put3 .ensures)))))
+    and-then _ _ _ _ (first .put .ensures)
+    (and-others (numbered (numberOf refusal)) _ _ _ (renumbered _ _ _ _ _ (number .ensures) (second .put-number .ensures))
+    (and-then _ _ _ _ (third .put2 .ensures)
+    (and-then _ _ _ _ (fourth .put-words .ensures)
+    (and-last _ _ _ (fifth .put3 .ensures)))))
 
 pub put-refused-spec : {M : Type 1} → statement M
 put-refused-spec =

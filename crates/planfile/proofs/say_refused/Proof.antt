@@ -1,21 +1,15 @@
 -- `planfile::say_refused` meets its contract: the line is that of `put_refused`, and ends within the memory for it.
-use Rattle.laws.proofs.Base.{sym, _≤_, arith, length, length-take-le, needs}
+use Rattle.laws.proofs.Base.{sym, arith, length-take-le, needs}
 use Rattle.lines.proofs.Texts.{ends-all}
 use Rattle.planfile.proofs.say_refused.Statement.{statement}
 use Rattle.planfile.proofs.say_refused.Tie as tie
 
-few : (c : tie.After-put-refused) → c .put-refused .result ≤ length (c .before .before .before .before .before .args .text .now)
-few c = ends-all _ _ _ _ (omega arith) (c .put-refused .ensures)
-
 slice-reshare-prefix-write-all : tie.Need-slice-reshare-prefix-write-all
-slice-reshare-prefix-write-all c = omega (arith, few (c .before .before), c .before .before .put-refused .kept)
-
-slice-aggregate-write-all : tie.Need-slice-aggregate-write-all
-slice-aggregate-write-all c = sym (length-take-le _ _ (omega (arith, few (c .before .before .before), c .before .before .before .put-refused .kept)))
+slice-reshare-prefix-write-all c = let put = c .before .before .put-refused in omega (arith, ends-all _ _ _ (omega arith) (put .ensures), put .kept)
 
 pub say-refused-spec : {M : Type 1} → statement M
 say-refused-spec =
     tie.close
     (tie.spec
-    (λ c κs. search needs) slice-reshare-prefix-write-all slice-aggregate-write-all
+    (λ c κs. search needs) slice-reshare-prefix-write-all (λ c. sym (length-take-le _ _ (slice-reshare-prefix-write-all (c .before))))
     (λ c κs. search needs) (λ c. search needs) (λ c. search needs))
