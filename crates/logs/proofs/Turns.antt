@@ -72,7 +72,8 @@ module _ {f : ℕ → Given → List ℕ} {size : ℕ} {state text log message :
   leaves e = rw (cut-behind (g .all) octets (g .whole), after-append start (cut (g .all)) (cut octets), ← held) e
 
   module _ {state′ text′ : List ℕ} {end′ : ℕ}
-      (listed : (take end′ text′ ≡ listing f (heldIn state) number (cut (take (r .octets) log′))) × (state′ ≡ lent (after (heldIn state) (cut (take (r .octets) log′)))) × (end′ ≤ size)) where
+      (listed : (take end′ text′ ≡ listing f (heldIn state) number (cut (take (r .octets) log′)))
+      × (state′ ≡ lent (after (heldIn state) (cut (take (r .octets) log′)))) × (end′ ≤ size)) where
     -- a chunk more, the last one or not
     pub turn-told : Continues f state′ text′ end′
     turn-told =
