@@ -127,9 +127,9 @@ fn write(current: Plan, previous: Plan, begin: usize, typed: &[u8]) {
 fn say_why(refusal: Refusal, typed: &[u8], count: usize) {
     let mut line = [0u8; files::NAMES];
     if let Refusal::BeginOrEnd = refusal {
-        planfile::say_begin(b"cbwrite", typed, count, &mut line);
+        refusal_lines::say_begin(b"cbwrite", typed, count, &mut line);
     } else {
-        planfile::say_refused(b"cbwrite", b"", refusal, &mut line);
+        refusal_lines::say_refused(b"cbwrite", b"", refusal, &mut line);
     }
 }
 

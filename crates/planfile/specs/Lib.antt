@@ -1,3 +1,2 @@
 -- What `planfile` defines.
 pub mod Inner
-pub mod Paper

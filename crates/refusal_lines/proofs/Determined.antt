@@ -2,7 +2,7 @@
 use Rattle.laws.proofs.Base.{_≡_, List, ℕ}
 use Rattle.lines.specs.Paper.{PutLeft, allBehind}
 use Rattle.lines.proofs.Determined.{determined-texts}
-use Rattle.planfile.specs.Paper.{refused, beginRefused}
+use Rattle.refusal_lines.specs.Paper.{refused, beginRefused}
 
 pub determined-say-refused : (program about : List ℕ) (number : ℕ) (t : List ℕ) (a b : PutLeft) → a ≡ allBehind (refused program about number) 0 t
     → b ≡ allBehind (refused program about number) 0 t → a ≡ b
