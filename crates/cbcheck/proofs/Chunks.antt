@@ -1,6 +1,8 @@
 -- A log that is read chunk by chunk is checked as if it were read at once.
-use Rattle.lines.proofs.Chunks.{in-chunks as listing-in-chunks}
-use Rattle.cbcheck.specs.Listing.{lineOf, InChunks}
+use Rattle.checker.specs.Inner.{Plans}
+use Rattle.logs.specs.Claims.{InChunks}
+use Rattle.logs.proofs.Chunks.{in-chunks as listing-in-chunks}
+use Rattle.cbcheck.specs.Paper.{lineOf}
 
-pub in-chunks : InChunks
+pub in-chunks : (b : Plans) → InChunks (lineOf b)
 in-chunks b = listing-in-chunks (lineOf b)

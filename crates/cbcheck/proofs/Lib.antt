@@ -1,4 +1,4 @@
 -- What `cbcheck` proves.
 pub mod Chunks
 pub mod Handed
-pub mod Said
+pub mod Wide

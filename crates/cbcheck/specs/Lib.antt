@@ -1,2 +1,3 @@
 -- What `cbcheck` defines.
-pub mod Listing
+pub mod Inner
+pub mod Paper

@@ -1,21 +1,22 @@
 // Checks the schedule messages of a log of blocks from a file or standard input beside two plan files, a line for each: cbcheck CURRENT PREVIOUS [FILE].
 ghost use mathlib.Core.Path.{_≡_};
-ghost use Prim.Native.Nat.{_+_, _≤_, _<_};
+ghost use Prim.Native.Nat.{_≤_, _<_};
 ghost use lib.ListN.{length, take};
 ghost use Rattle.refusals.specs.Number.{numberOf};
 ghost use Rattle.block.specs.Paper.{start};
 ghost use Rattle.block_history.specs.Claims.{after};
 ghost use Rattle.firmware.specs.Paper.{lent, heldIn};
 ghost use Rattle.checker.specs.Coded.{checkedOf, plansOf};
-ghost use Rattle.lines.specs.Paper.{cut};
-ghost use Rattle.lines.specs.Inner.{Puts};
-ghost use Rattle.lines.specs.Turns.{GoesOn};
-ghost use Rattle.cbcheck.specs.Listing.{numbers, reason, line, lineOf, lineFor, lines};
+ghost use Rattle.lines.specs.Paper.{allBehind};
+ghost use Rattle.logs.specs.Paper.{cut};
+ghost use Rattle.logs.specs.Inner.{Continues};
+ghost use Rattle.cbcheck.specs.Paper.{numbers, reason, line, lineOf, lines};
+ghost use Rattle.cbcheck.specs.Inner.{lineFor};
+use arguments::Asked;
 use checker::Checking;
 use checker::Plans;
+use files::Opened;
 use libc::STDERR_FILENO;
-use lines::Asked;
-use lines::Opened;
 use refusals::Refusal;
 
 // Room for the longest line of each piece of a chunk.
@@ -24,7 +25,7 @@ const ROOM: usize = 146432;
 fn main() {
     let mut word = io::buffer();
     let length = os::arg(1, &mut word);
-    let asked = lines::asked_for(os::arg_count(), &word[..length], 3, 4);
+    let asked = arguments::asked_for(os::arg_count(), &word[..length], 3, 4);
     match asked {
         Asked::Work => check_named(),
         Asked::Help => say_help(),
@@ -33,7 +34,7 @@ fn main() {
 }
 
 fn say_help() {
-    lines::write_text(
+    files::write_text(
         b"cbcheck",
         b"usage: cbcheck CURRENT PREVIOUS [FILE]\n\
         Checks the schedule messages of a log of blocks, FILE or standard input, beside two plan files, a line for each message.\n\
@@ -67,14 +68,14 @@ fn check_named() {
 
 fn check_log(plans: Plans) {
     let mut name = io::buffer();
-    let opened = lines::open_log(b"cbcheck", 3, &mut name);
+    let opened = files::open_log(b"cbcheck", 3, &mut name);
     if let Opened::File(fd, length) = opened {
         list_opened(plans, &name[..length], fd);
     }
 }
 
 fn list_opened(plans: Plans, name: &[u8], fd: i32) {
-    let mut state = lines::started();
+    let mut state = logs::started();
     let mut out = lines_buffer();
     list_all(plans, b"cbcheck", name, fd, &mut state, &mut out);
 }
@@ -96,17 +97,17 @@ fn list_all(
     out: &mut [u8],
 ) -> usize
     requires { ⌜ (now state ≡ lent start) × (length (now out) ≡ 146432) ⌝ }
-    ensures { λ r. ⌜ GoesOn (lineOf (plansOf plans)) (now (state .exit)) (now (out .exit)) r ⌝ }
+    ensures { λ r. ⌜ Continues (lineOf (plansOf plans)) (now (state .exit)) (now (out .exit)) r ⌝ }
 {
-    let mut log = [0u8; lines::WHOLE];
+    let mut log = [0u8; logs::WHOLE];
     let mut message = [0u8; 88];
     let mut number: u64 = 1;
     let mut end = 0;
-    while number < lines::LAST {
-        let chunk = lines::read_chunk(program, name, fd, number, &mut log);
+    while number < logs::LAST {
+        let chunk = logs::read_chunk(program, name, fd, number, &mut log);
         let octets = chunk.octets;
         end = list(plans, state, number, &log[..octets], &mut message, out);
-        if !lines::write_chunk(program, chunk, &out[..end]) {
+        if !logs::write_chunk(program, chunk, &out[..end]) {
             return end;
         }
         number = chunk.next;
@@ -130,7 +131,7 @@ fn list(
     let mut number = first;
     let mut end = 0;
     while at < log.len() {
-        let next = lines::piece_end(at, log.len());
+        let next = logs::piece_end(at, log.len());
         let returned = firmware::cb_intake(state, &log[at..next], message);
         end = put_answer(plans, number, returned, &message[..], out, end);
         number += 1;
@@ -148,8 +149,7 @@ fn put_answer(
     out: &mut [u8],
     at: usize,
 ) -> usize
-    requires { ⌜ at + 143 ≤ length (now out) ⌝ }
-    ensures { λ r. ⌜ Puts (lineFor (plansOf plans) number returned (now (message .entry))) 143 at (now (out .entry)) (now (out .exit)) r ⌝ }
+    ensures { λ r. ⌜ record { end = r; text = now (out .exit) } ≡ allBehind (lineFor (plansOf plans) number returned (now (message .entry))) at (now (out .entry)) ⌝ }
 {
     if returned % 256 != 7 {
         return at;
@@ -161,8 +161,7 @@ fn put_answer(
 
 // Puts the line of what the checker answers to the message that a block completes.
 fn put_checking(number: u64, checking: Checking, out: &mut [u8], at: usize) -> usize
-    requires { ⌜ at + 143 ≤ length (now out) ⌝ }
-    ensures { λ r. ⌜ Puts (line number (checkedOf checking)) 143 at (now (out .entry)) (now (out .exit)) r ⌝ }
+    ensures { λ r. ⌜ record { end = r; text = now (out .exit) } ≡ allBehind (line number (checkedOf checking)) at (now (out .entry)) ⌝ }
 {
     match checking {
         Checking::True => {
@@ -174,34 +173,26 @@ fn put_checking(number: u64, checking: Checking, out: &mut [u8], at: usize) -> u
 }
 
 fn put_refused(number: u64, refusal: Refusal, slot: usize, out: &mut [u8], at: usize) -> usize
-    requires { ⌜ at + 143 ≤ length (now out) ⌝ }
-    ensures { λ r. ⌜ Puts (line number (record { number = numberOf refusal; slot = slot })) 143 at (now (out .entry)) (now (out .exit)) r ⌝ }
+    ensures { λ r. ⌜ record { end = r; text = now (out .exit) } ≡ allBehind (line number (record { number = numberOf refusal; slot = slot })) at (now (out .entry)) ⌝ }
 {
     let answer = refusals::number(refusal) as u64;
     let a = put_numbers(number, answer, slot as u64, out, at);
     let b = put_reason(refusal, slot, out, a);
-    out[b] = b'\n';
-    b + 1
+    lines::put_octet(b'\n', out, b)
 }
 
 // Puts three numbers, with a space behind each.
 fn put_numbers(number: u64, answer: u64, slot: u64, out: &mut [u8], at: usize) -> usize
-    requires { ⌜ at + 63 ≤ length (now out) ⌝ }
-    ensures { λ r. ⌜ Puts (numbers number answer slot) 63 at (now (out .entry)) (now (out .exit)) r ⌝ }
+    ensures { λ r. ⌜ record { end = r; text = now (out .exit) } ≡ allBehind (numbers number answer slot) at (now (out .entry)) ⌝ }
 {
-    let a = lines::put_number(number, out, at);
-    out[a] = b' ';
-    let b = lines::put_number(answer, out, a + 1);
-    out[b] = b' ';
-    let c = lines::put_number(slot, out, b + 1);
-    out[c] = b' ';
-    c + 1
+    let a = lines::put_marked(number, b' ', out, at);
+    let b = lines::put_marked(answer, b' ', out, a);
+    lines::put_marked(slot, b' ', out, b)
 }
 
 // Puts the words of a refusal. One that names a slot says that this slot is untrue.
 fn put_reason(refusal: Refusal, slot: usize, out: &mut [u8], at: usize) -> usize
-    requires { ⌜ at + 79 ≤ length (now out) ⌝ }
-    ensures { λ r. ⌜ Puts (reason (numberOf refusal) slot) 79 at (now (out .entry)) (now (out .exit)) r ⌝ }
+    ensures { λ r. ⌜ record { end = r; text = now (out .exit) } ≡ allBehind (reason (numberOf refusal) slot) at (now (out .entry)) ⌝ }
 {
     if slot == 0 {
         return words::put_words(refusal, out, at);

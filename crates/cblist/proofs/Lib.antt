@@ -1,2 +1,3 @@
 -- What `cblist` proves.
 pub mod Chunks
+pub mod Wide

@@ -1,2 +1,2 @@
 -- What `cblist` defines.
-pub mod Listing
+pub mod Paper

@@ -1,22 +1,22 @@
 // Lists a log of blocks from a file or standard input: the number of each, the intake's answer, and the octets received.
 ghost use mathlib.Core.Path.{_≡_};
-ghost use Prim.Native.Nat.{_+_, _/_, _%_, _≤_, _<_};
+ghost use Prim.Native.Nat.{_/_, _%_, _≤_, _<_};
 ghost use lib.ListN.{length, take};
 ghost use Rattle.firmware.specs.Paper.{lent, heldIn};
 ghost use Rattle.block.specs.Paper.{start};
 ghost use Rattle.block_history.specs.Claims.{after};
-ghost use Rattle.lines.specs.Paper.{cut};
-ghost use Rattle.lines.specs.Inner.{Puts};
-ghost use Rattle.lines.specs.Turns.{GoesOn};
-ghost use Rattle.cblist.specs.Listing.{line, lineOf, lines};
+ghost use Rattle.lines.specs.Paper.{allBehind};
+ghost use Rattle.logs.specs.Paper.{cut};
+ghost use Rattle.logs.specs.Inner.{Continues};
+ghost use Rattle.cblist.specs.Paper.{line, lineOf, lines};
+use arguments::Asked;
+use files::Opened;
 use libc::STDERR_FILENO;
-use lines::Asked;
-use lines::Opened;
 
 fn main() {
     let mut word = io::buffer();
     let length = os::arg(1, &mut word);
-    let asked = lines::asked_for(os::arg_count(), &word[..length], 1, 2);
+    let asked = arguments::asked_for(os::arg_count(), &word[..length], 1, 2);
     match asked {
         Asked::Work => list_named(),
         Asked::Help => say_help(),
@@ -25,7 +25,7 @@ fn main() {
 }
 
 fn say_help() {
-    lines::write_text(
+    files::write_text(
         b"cblist",
         b"usage: cblist [FILE]\n\
         Lists a log of blocks, FILE or standard input: 23 octets are a block, and a shorter tail is a piece too.\n\
@@ -42,16 +42,16 @@ fn say_usage() {
 // Lists the log that the argument names, or standard input.
 fn list_named() {
     let mut name = io::buffer();
-    let opened = lines::open_log(b"cblist", 1, &mut name);
+    let opened = files::open_log(b"cblist", 1, &mut name);
     if let Opened::File(fd, length) = opened {
         list_opened(&name[..length], fd);
     }
 }
 
 fn list_opened(name: &[u8], fd: i32) {
-    let mut state = lines::started();
+    let mut state = logs::started();
     let mut text = io::large_buffer();
-    if lines::write_text(b"cblist", b"block answer octets\n") {
+    if files::write_text(b"cblist", b"block answer octets\n") {
         list_all(b"cblist", name, fd, &mut state, &mut text);
     }
 }
@@ -59,17 +59,17 @@ fn list_opened(name: &[u8], fd: i32) {
 // Lists a log to its end, chunk after chunk. The text and the state are left as after the last chunk; answers the length of its lines.
 fn list_all(program: &[u8], name: &[u8], fd: i32, state: &mut [u8], text: &mut [u8]) -> usize
     requires { ⌜ (now state ≡ lent start) × (length (now text) ≡ 65536) ⌝ }
-    ensures { λ r. ⌜ GoesOn lineOf (now (state .exit)) (now (text .exit)) r ⌝ }
+    ensures { λ r. ⌜ Continues lineOf (now (state .exit)) (now (text .exit)) r ⌝ }
 {
-    let mut log = [0u8; lines::WHOLE];
+    let mut log = [0u8; logs::WHOLE];
     let mut message = [0u8; 88];
     let mut number: u64 = 1;
     let mut end = 0;
-    while number < lines::LAST {
-        let chunk = lines::read_chunk(program, name, fd, number, &mut log);
+    while number < logs::LAST {
+        let chunk = logs::read_chunk(program, name, fd, number, &mut log);
         let octets = chunk.octets;
         end = list(state, number, &log[..octets], &mut message, text);
-        if !lines::write_chunk(program, chunk, &text[..end]) {
+        if !logs::write_chunk(program, chunk, &text[..end]) {
             return end;
         }
         number = chunk.next;
@@ -86,7 +86,7 @@ fn list(state: &mut [u8], first: u64, log: &[u8], message: &mut [u8], text: &mut
     let mut number = first;
     let mut end = 0;
     while at < log.len() {
-        let next = lines::piece_end(at, log.len());
+        let next = logs::piece_end(at, log.len());
         let returned = firmware::cb_intake(state, &log[at..next], message);
         end = put_line(number, returned, text, end);
         number += 1;
@@ -97,14 +97,9 @@ fn list(state: &mut [u8], first: u64, log: &[u8], message: &mut [u8], text: &mut
 
 // Puts the line of a block behind the text so far, and answers where the text ends.
 fn put_line(number: u64, returned: u32, text: &mut [u8], at: usize) -> usize
-    requires { ⌜ at + 63 ≤ length (now text) ⌝ }
-    ensures { λ r. ⌜ Puts (line number (returned % 256) (returned / 256)) 63 at (now (text .entry)) (now (text .exit)) r ⌝ }
+    ensures { λ r. ⌜ record { end = r; text = now (text .exit) } ≡ allBehind (line number (returned % 256) (returned / 256)) at (now (text .entry)) ⌝ }
 {
-    let a = lines::put_number(number, text, at);
-    text[a] = b' ';
-    let b = lines::put_number((returned % 256) as u64, text, a + 1);
-    text[b] = b' ';
-    let c = lines::put_number((returned / 256) as u64, text, b + 1);
-    text[c] = b'\n';
-    c + 1
+    let a = lines::put_marked(number, b' ', text, at);
+    let b = lines::put_marked((returned % 256) as u64, b' ', text, a);
+    lines::put_marked((returned / 256) as u64, b'\n', text, b)
 }

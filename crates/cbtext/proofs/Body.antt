@@ -6,7 +6,7 @@ use Rattle.page.specs.Paper.{header, octet}
 use Rattle.text.specs.Paper.{Reading, septetsReceived, trimmed, shown, reading}
 use Rattle.text.proofs.Cases.{reading-13, reading-0}
 use Rattle.text_back.proofs.Reader.{characters-bounded}
-use Rattle.cbtext.specs.Listing.{textPart, hexPart, body}
+use Rattle.cbtext.specs.Paper.{textPart, hexPart, body}
 
 -- the header is in the first six octets
 pub header-front : (p : List ℕ) → header (getD p 0 0 ∷ getD p 1 0 ∷ getD p 2 0 ∷ getD p 3 0 ∷ getD p 4 0 ∷ getD p 5 0 ∷ []) ≡ header p

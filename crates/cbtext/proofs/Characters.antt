@@ -2,7 +2,7 @@
 use Rattle.laws.proofs.Base.{_≡_, refl, ap, _∙_, List, [], _∷_, _++_, append-assoc, append-nil, ℕ, suc, _+_, _*_, _/_, _%_, _≤_, _<_, mul-suc, mul-zero, add-one, arith, length, getD, take, set, length-set, take-suc, take-all, eq-eqb, ne-eqb, lt-ltb, le-ltb}
 use Rattle.lines.specs.Inner.{Puts}
 use Rattle.lines.proofs.Behind.{puts-none, puts-octet, puts-wider, puts-then}
-use Rattle.cbtext.specs.Listing.{utf8, character, joined}
+use Rattle.cbtext.specs.Paper.{utf8, character, joined}
 
 module _ (n : ℕ) (t : List ℕ) (h : n + 3 ≤ length t) where
   -- one, two and three octets
@@ -66,14 +66,14 @@ pub record Joins (f : ℕ → List ℕ) (wide : ℕ) (xs t₀ t : List ℕ) (n i
   pub few : i ≤ length xs
   pub puts : Puts (joined f (take i xs)) (wide * i) n t₀ t end
 
-module _ (f : ℕ → List ℕ) (wide : ℕ) (xs t₀ : List ℕ) (n : ℕ) where
+module _ {f : ℕ → List ℕ} {wide : ℕ} {xs t₀ : List ℕ} {n : ℕ} where
   pub joins-start : Joins f wide xs t₀ t₀ n 0 n
   unfolding joined
   joins-start = record { size = refl; few = omega arith; puts = rw (mul-zero wide) (puts-none n t₀) }
 
-  pub joins-turn : (t t′ : List ℕ) (i end e : ℕ) → Joins f wide xs t₀ t n i end → i < length xs → length t′ ≡ length t
+  pub joins-turn : {t t′ : List ℕ} {i end e : ℕ} → Joins f wide xs t₀ t n i end → i < length xs → length t′ ≡ length t
       → Puts (f (getD xs i 0)) wide end t t′ e → Joins f wide xs t₀ t′ n (i + 1) e
-  joins-turn t t′ i end e j h size put =
+  joins-turn {t} {t′} {i} {end} {e} j h size put =
       let longer : joined f (take (suc i) xs) ≡ joined f (take i xs) ++ f (getD xs i 0) =
       rw (take-suc xs i 0 h) (joined-append f (take i xs) (getD xs i 0 ∷ []) ∙ ap (λ (l : List ℕ). joined f (take i xs) ++ l) (joined-one f (getD xs i 0))) in
       record {
@@ -82,7 +82,7 @@ module _ (f : ℕ → List ℕ) (wide : ℕ) (xs t₀ : List ℕ) (n : ℕ) wher
         puts = rw (add-one i, longer, mul-suc wide i) (puts-then (j .puts) put);
       }
 
-  pub joins-end : (t : List ℕ) (i end : ℕ) → Joins f wide xs t₀ t n i end → length xs ≤ i → Puts (joined f xs) (wide * length xs) n t₀ t end
-  joins-end t i end j h =
+  pub joins-end : {t : List ℕ} {i end : ℕ} → Joins f wide xs t₀ t n i end → length xs ≤ i → Puts (joined f xs) (wide * length xs) n t₀ t end
+  joins-end {t} {i} {end} j h =
       let all : i ≡ length xs = omega (arith, j .few) in
       rw (all, take-all (length xs) xs (omega arith)) at (j .puts)

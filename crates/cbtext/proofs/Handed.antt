@@ -1,12 +1,12 @@
 -- What an intake call leaves, as the line of its answer takes it.
 use Rattle.laws.proofs.Base.{_≡_, refl, sym, ap, _∙_, Bool, true, false, cond, List, [], ℕ, length, eqb, eqb-true}
 use Rattle.block.specs.Paper.{Given}
-use Rattle.lines.proofs.Complete.{Complete, handed-output}
-use Rattle.lines.proofs.Listed.{Taken}
-use Rattle.cbtext.specs.Listing.{lineOf, pageLine}
+use Rattle.logs.proofs.Complete.{Complete, handed-output}
+use Rattle.logs.proofs.Listed.{Taken}
+use Rattle.cbtext.specs.Paper.{lineOf, pageLine}
 use Rattle.cbtext.specs.Inner.{Handed, lineFor}
 
-module _ (g : Given) (returned : ℕ) (s p p′ : List ℕ) (t : Taken g returned s p p′) (whole : g .number ≡ 0 → Complete g) where
+module _ {g : Given} {returned : ℕ} {s p p′ : List ℕ} (t : Taken g returned s p p′) (whole : g .number ≡ 0 → Complete g) where
   -- a page complete is what the call leaves in the output
   output : g .number ≡ 0 → p′ ≡ g .octets
   output z = handed-output g returned s p p′ t (whole z)

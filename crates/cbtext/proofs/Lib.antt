@@ -3,3 +3,4 @@ pub mod Body
 pub mod Characters
 pub mod Chunks
 pub mod Handed
+pub mod Wide

@@ -6,7 +6,7 @@ use Prim.Native.Nat.{ℕ, _/_, _%_}
 use lib.ListN.{length}
 use lib.Dec.{eqb}
 use Rattle.sizes.specs.Paper.{wholeBlocks}
-use Rattle.cbtext.specs.Listing.{pageLine}
+use Rattle.cbtext.specs.Paper.{pageLine}
 
 -- a page complete is whole, and so are the blocks received
 abbrev pub Handed : ℕ → List ℕ → Type 0

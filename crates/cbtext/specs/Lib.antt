@@ -1,3 +1,3 @@
 -- What `cbtext` defines.
 pub mod Inner
-pub mod Listing
+pub mod Paper

@@ -7,14 +7,15 @@ ghost use Rattle.sizes.specs.Paper.{wholeBlocks};
 ghost use Rattle.block.specs.Paper.{start};
 ghost use Rattle.block_history.specs.Claims.{after};
 ghost use Rattle.firmware.specs.Paper.{lent, heldIn};
-ghost use Rattle.lines.specs.Paper.{hexadecimal, cut};
+ghost use Rattle.lines.specs.Paper.{hexadecimal, allBehind};
 ghost use Rattle.lines.specs.Inner.{Puts};
-ghost use Rattle.lines.specs.Turns.{GoesOn};
-ghost use Rattle.cbtext.specs.Listing.{utf8, character, joined, textPart, hexPart, names, parts, heading, body, pageLine, lineOf, pageLines};
+ghost use Rattle.logs.specs.Paper.{cut};
+ghost use Rattle.logs.specs.Inner.{Continues};
+ghost use Rattle.cbtext.specs.Paper.{utf8, character, joined, textPart, hexPart, names, parts, heading, body, pageLine, lineOf, pageLines};
 ghost use Rattle.cbtext.specs.Inner.{Handed, lineFor};
+use arguments::Asked;
+use files::Opened;
 use libc::STDERR_FILENO;
-use lines::Asked;
-use lines::Opened;
 use page::MessageId;
 use page::Serial;
 use text::Got;
@@ -25,7 +26,7 @@ const ROOM: usize = 366592;
 fn main() {
     let mut word = io::buffer();
     let length = os::arg(1, &mut word);
-    let asked = lines::asked_for(os::arg_count(), &word[..length], 1, 2);
+    let asked = arguments::asked_for(os::arg_count(), &word[..length], 1, 2);
     match asked {
         Asked::Work => list_named(),
         Asked::Help => say_help(),
@@ -34,7 +35,7 @@ fn main() {
 }
 
 fn say_help() {
-    lines::write_text(
+    files::write_text(
         b"cbtext",
         b"usage: cbtext [FILE]\n\
         Shows the pages of a log of blocks, FILE or standard input, a line for each page that is complete.\n\
@@ -58,14 +59,14 @@ fn lines_buffer() -> [u8; ROOM]
 // Shows the log that the argument names, or standard input.
 fn list_named() {
     let mut name = io::buffer();
-    let opened = lines::open_log(b"cbtext", 1, &mut name);
+    let opened = files::open_log(b"cbtext", 1, &mut name);
     if let Opened::File(fd, length) = opened {
         list_opened(&name[..length], fd);
     }
 }
 
 fn list_opened(name: &[u8], fd: i32) {
-    let mut state = lines::started();
+    let mut state = logs::started();
     let mut out = lines_buffer();
     list_all(b"cbtext", name, fd, &mut state, &mut out);
 }
@@ -73,17 +74,17 @@ fn list_opened(name: &[u8], fd: i32) {
 // Shows a log to its end, chunk after chunk. The lines and the state are left as after the last chunk; answers the length of its lines.
 fn list_all(program: &[u8], name: &[u8], fd: i32, state: &mut [u8], out: &mut [u8]) -> usize
     requires { ⌜ (now state ≡ lent start) × (length (now out) ≡ 366592) ⌝ }
-    ensures { λ r. ⌜ GoesOn lineOf (now (state .exit)) (now (out .exit)) r ⌝ }
+    ensures { λ r. ⌜ Continues lineOf (now (state .exit)) (now (out .exit)) r ⌝ }
 {
-    let mut log = [0u8; lines::WHOLE];
+    let mut log = [0u8; logs::WHOLE];
     let mut page = [0u8; 88];
     let mut number: u64 = 1;
     let mut end = 0;
-    while number < lines::LAST {
-        let chunk = lines::read_chunk(program, name, fd, number, &mut log);
+    while number < logs::LAST {
+        let chunk = logs::read_chunk(program, name, fd, number, &mut log);
         let octets = chunk.octets;
         end = list(state, number, &log[..octets], &mut page, out);
-        if !lines::write_chunk(program, chunk, &out[..end]) {
+        if !logs::write_chunk(program, chunk, &out[..end]) {
             return end;
         }
         number = chunk.next;
@@ -100,7 +101,7 @@ fn list(state: &mut [u8], first: u64, log: &[u8], page: &mut [u8], out: &mut [u8
     let mut number = first;
     let mut end = 0;
     while at < log.len() {
-        let next = lines::piece_end(at, log.len());
+        let next = logs::piece_end(at, log.len());
         let returned = firmware::cb_intake(state, &log[at..next], page);
         end = put_answer(number, returned, &page[..], out, end);
         number += 1;
@@ -132,38 +133,34 @@ fn put_page(number: u64, page: &[u8], received: usize, out: &mut [u8], at: usize
 
 // Puts a block's number and what the page's header says.
 fn put_heading(number: u64, page: &[u8], out: &mut [u8], at: usize) -> usize
-    requires { ⌜ (length (now page) ≡ 88) × (at + 72 ≤ length (now out)) ⌝ }
-    ensures { λ r. ⌜ Puts (heading number (now (page .entry))) 72 at (now (out .entry)) (now (out .exit)) r ⌝ }
+    requires { ⌜ length (now page) ≡ 88 ⌝ }
+    ensures { λ r. ⌜ record { end = r; text = now (out .exit) } ≡ allBehind (heading number (now (page .entry))) at (now (out .entry)) ⌝ }
 {
     let header = page::read_header([page[0], page[1], page[2], page[3], page[4], page[5]]);
     let serial = header.serial;
     let id = header.id;
     let parameter = header.parameter;
     let a = put_names(number, serial, id, out, at);
-    out[a] = b' ';
-    put_parameter(parameter, out, a + 1)
+    let b = lines::put_octet(b' ', out, a);
+    put_parameter(parameter, out, b)
 }
 
 // Puts a block's number, and a page's serial number and identifier.
 fn put_names(number: u64, serial: Serial, id: MessageId, out: &mut [u8], at: usize) -> usize
-    requires { ⌜ at + 30 ≤ length (now out) ⌝ }
-    ensures { λ r. ⌜ Puts (names number (serial .0) (id .0)) 30 at (now (out .entry)) (now (out .exit)) r ⌝ }
+    ensures { λ r. ⌜ record { end = r; text = now (out .exit) } ≡ allBehind (names number (serial .0) (id .0)) at (now (out .entry)) ⌝ }
 {
-    let a = lines::put_number(number, out, at);
-    out[a] = b' ';
-    let b = lines::put_hex(serial.0 as u64, 4, out, a + 1);
-    out[b] = b' ';
-    lines::put_hex(id.0 as u64, 4, out, b + 1)
+    let a = lines::put_marked(number, b' ', out, at);
+    let b = lines::put_hex(serial.0 as u64, 4, out, a);
+    let c = lines::put_octet(b' ', out, b);
+    lines::put_hex(id.0 as u64, 4, out, c)
 }
 
 // Puts the page and the total of a page parameter.
 fn put_parameter(parameter: u8, out: &mut [u8], at: usize) -> usize
-    requires { ⌜ at + 41 ≤ length (now out) ⌝ }
-    ensures { λ r. ⌜ Puts (parts parameter) 41 at (now (out .entry)) (now (out .exit)) r ⌝ }
+    ensures { λ r. ⌜ record { end = r; text = now (out .exit) } ≡ allBehind (parts parameter) at (now (out .entry)) ⌝ }
 {
-    let a = lines::put_number((parameter / 16) as u64, out, at);
-    out[a] = b'/';
-    lines::put_number((parameter % 16) as u64, out, a + 1)
+    let a = lines::put_marked((parameter / 16) as u64, b'/', out, at);
+    lines::put_number((parameter % 16) as u64, out, a)
 }
 
 // Puts what was received of a page: its text, or its content where the scheme is another.

@@ -11,14 +11,14 @@ use Rattle.sender.specs.declared.Writing.{Writing as Answer}
 use Rattle.sender.specs.declared.Writing.the-variants.{Written, Refused}
 use Rattle.cbwrite.specs.Paper.{sentBy, composed}
 
-module _ (c p : Plan) (b : ℕ) (o m : List ℕ) (answer : Answer) (wrote : writingOf answer m ≡ write c p b (replicate 88 0)) where
+module _ (c p : Plan) (b : ℕ) (o m : List ℕ) {answer : Answer} (wrote : writingOf answer m ≡ write c p b (replicate 88 0)) where
   -- what the output is by a known answer
   by : (known : Answer) → answer ≡ known → sentBy (writingOf known m) o ≡ composed c p b o
   unfolding composed
   by known told = ap (λ (w : Writing). sentBy w o) (ap (λ (a : Answer). writingOf a m) (sym told) ∙ wrote)
 
-  pub written-composed : (used : ℕ) → answer ≡ Written used → written m schedule used o ≡ composed c p b o
-  written-composed used told = by (Written used) told
+  pub written-composed : {used : ℕ} → answer ≡ Written used → written m schedule used o ≡ composed c p b o
+  written-composed {used} told = by (Written used) told
 
-  pub refused-composed : (why : Refusal) → answer ≡ Refused why → record { number = numberOf why; output = o } ≡ composed c p b o
-  refused-composed why told = (rw (ne-eqb (numberOf why) 0 (numberOf-positive why)) at (by (Refused why) told))
+  pub refused-composed : {why : Refusal} → answer ≡ Refused why → record { number = numberOf why; output = o } ≡ composed c p b o
+  refused-composed {why} told = (rw (ne-eqb (numberOf why) 0 (numberOf-positive why)) at (by (Refused why) told))

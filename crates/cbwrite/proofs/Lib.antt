@@ -1,2 +1,3 @@
 -- What `cbwrite` proves.
 pub mod Composed
+pub mod Typed

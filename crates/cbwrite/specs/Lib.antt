@@ -1,2 +1,3 @@
 -- What `cbwrite` defines.
+pub mod Inner
 pub mod Paper

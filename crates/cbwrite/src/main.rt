@@ -4,10 +4,11 @@ ghost use Prim.Native.Nat.{min};
 ghost use Rattle.block.specs.Coded.{sentOf};
 ghost use Rattle.plan.specs.Coded.{planOf};
 ghost use Rattle.cbwrite.specs.Paper.{composed};
+ghost use Rattle.cbwrite.specs.Inner.{typed};
+use arguments::Asked;
 use block::Kind;
 use block::Sent;
 use libc::STDERR_FILENO;
-use lines::Asked;
 use plan::Plan;
 use refusals::Refusal;
 use sender::Writing;
@@ -24,7 +25,7 @@ const MOST: usize = 1000;
 fn main() {
     let mut word = io::buffer();
     let length = os::arg(1, &mut word);
-    let asked = lines::asked_for(os::arg_count(), &word[..length], 4, 4);
+    let asked = arguments::asked_for(os::arg_count(), &word[..length], 4, 4);
     match asked {
         Asked::Work => write_named(),
         Asked::Help => say_help(),
@@ -33,7 +34,7 @@ fn main() {
 }
 
 fn say_help() {
-    lines::write_text(
+    files::write_text(
         b"cbwrite",
         b"usage: cbwrite CURRENT PREVIOUS BEGIN\n\
         Writes the schedule message of a plan file, beside the plan file before it, to standard output.\n\
@@ -74,7 +75,9 @@ fn capped(number: usize) -> usize
 }
 
 // Begin in decimal.
-fn begin_of(digits: &[u8]) -> Begin {
+fn begin_of(digits: &[u8]) -> Begin
+    ensures { λ r. ⌜ r ≡ typed (now (digits .entry)) ⌝ }
+{
     if digits.len() == 0 {
         return Begin::NoNumber;
     }
@@ -114,7 +117,7 @@ fn write(current: Plan, previous: Plan, begin: usize, typed: &[u8]) {
     let answer = compose(current, previous, begin, &mut blocks);
     match answer {
         Sent::Done => {
-            lines::write_text(b"cbwrite", &blocks);
+            files::write_text(b"cbwrite", &blocks);
         }
         Sent::Refused(refusal) => say_why(refusal, typed, current.count),
     }
@@ -122,11 +125,11 @@ fn write(current: Plan, previous: Plan, begin: usize, typed: &[u8]) {
 
 // Says why nothing was written. A wrong Begin is told as it was typed.
 fn say_why(refusal: Refusal, typed: &[u8], count: usize) {
-    let mut line = [0u8; lines::NAMES];
+    let mut line = [0u8; files::NAMES];
     if let Refusal::BeginOrEnd = refusal {
-        planfile::say_begin(b"cbwrite", typed, count, &mut line);
+        refusal_lines::say_begin(b"cbwrite", typed, count, &mut line);
     } else {
-        planfile::say_refused(b"cbwrite", b"", refusal, &mut line);
+        refusal_lines::say_refused(b"cbwrite", b"", refusal, &mut line);
     }
 }
 

@@ -1,5 +1,6 @@
 -- Laws of what stands behind a text: the cases of `behind`, and one thing put behind another.
 use Rattle.laws.proofs.Base.{_≡_, refl, sym, ap, _∙_, Bool, true, false, List, [], _∷_, _++_, append-assoc, append-nil, ℕ, _+_, _-_, _≤_, _<_, add-one, arith, length, take, drop, set, length-take, length-drop, length-append, take-at, take-suc-set, leb, le-leb, lt-leb, leb-true, leb-false}
+use lib.Seq.{set-split}
 use borrow.Rule.Slice.PartMut.{midOf, putMid}
 use Rattle.laws.proofs.Parts.{put-copy}
 use Rattle.lines.specs.Paper.{PutLeft, behind}
@@ -51,9 +52,17 @@ module _ (s : List ℕ) (n : ℕ) (t : List ℕ) where
         room = omega arith;
       }
 
+-- one octet stored
+pub behind-octet : (x n : ℕ) (t : List ℕ) → n < length t → record { end = n + 1; text = set t n x } ≡ behind (x ∷ []) n t
+behind-octet x n t h =
+    let text : set t n x ≡ take n t ++ (x ∷ drop (n + 1) t) = rw (add-one n) (set-split t n x h) in
+    let put : _≡_ {A = PutLeft} (record { end = n + 1; text = set t n x }) (record { end = n + 1; text = take n t ++ (x ∷ drop (n + 1) t) }) =
+    λ i. record { end = n + 1; text = text i } in
+    put ∙ sym (behind-fits (x ∷ []) n t (omega arith))
+
 -- what is put ends within its memory
-pub ends-inside : (s : List ℕ) (n : ℕ) (t : List ℕ) (left : PutLeft) → n ≤ length t → left ≡ behind s n t → left .end ≤ length t
-ends-inside s n t left h q = go (leb (n + length s) (length t)) refl
+pub ends-inside : (s : List ℕ) (n : ℕ) (t : List ℕ) {left : PutLeft} → n ≤ length t → left ≡ behind s n t → left .end ≤ length t
+ends-inside s n t {left} h q = go (leb (n + length s) (length t)) refl
   where
     go : (b : Bool) → leb (n + length s) (length t) ≡ b → left .end ≤ length t
     go true e =
@@ -100,3 +109,18 @@ puts-then {s} {s′} {m} {m′} {n} {t} p q =
 pub puts-marked : {s s′ : List ℕ} {m m′ n : ℕ} {t t₁ t₂ : List ℕ} {a b : ℕ} (x : ℕ) → Puts s m n t t₁ a → a < length t₁ → Puts s′ m′ (a + 1) (set t₁ a x) t₂ b
     → Puts (s ++ (x ∷ s′)) (m + (1 + m′)) n t t₂ b
 puts-marked {s} {s′} {m} {m′} {n} {t} {t₁} {t₂} {a} x p h q = puts-then p (puts-then (puts-octet a x t₁ h) q)
+
+module _ (s : List ℕ) (n : ℕ) (t : List ℕ) {left : PutLeft} (e : left ≡ behind s n t) where
+  put : n + length s ≤ length t → Puts s (length s) n t (left .text) (left .end)
+  put h = puts-behind s n t (length s) (left .end) (left .text) e (omega arith) h
+
+  -- room for more is left behind octets for which there is room too
+  pub put-room : (more : ℕ) → n + (length s + more) ≤ length t → left .end + more ≤ length (left .text)
+  put-room more h =
+      let same : length (left .text) ≡ length t = ap (λ (x : PutLeft). length (x .text)) e ∙ length-behind s n t in
+      let p = put (omega arith) in
+      omega (arith, p .room)
+
+  -- octets, and what is put behind them
+  pub put-then : {s′ : List ℕ} {m b : ℕ} {t₂ : List ℕ} → n + length s ≤ length t → Puts s′ m (left .end) (left .text) t₂ b → Puts (s ++ s′) (length s + m) n t t₂ b
+  put-then h q = puts-then (put h) q

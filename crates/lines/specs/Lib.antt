@@ -1,6 +1,3 @@
 -- What `lines` defines.
-pub mod Asked
-pub mod Chunk
 pub mod Inner
 pub mod Paper
-pub mod Turns

@@ -1,14 +1,11 @@
--- The text of a listing: numbers in ASCII, octets behind a text, a log cut into pieces, and the lines of its pieces.
-use mathlib.Core.Path.{_≡_}
+-- Text: numbers in ASCII, and octets behind a text.
 use mathlib.Core.Bool.{cond}
 use mathlib.Core.List.{List, [], _∷_, _++_}
-use Prim.Native.Nat.{ℕ, zero, suc, _+_, _*_, _/_, _%_}
+use Prim.Native.Nat.{ℕ, zero, suc, _+_, _/_, _%_}
 use Prim.Native.Char.{code}
 use Prim.Native.String.{String, [] as none, _∷_ as _before_}
 use lib.ListN.{length, take, drop}
 use lib.Dec.{leb, ltb}
-use Rattle.block.specs.Paper.{Held, Given, step}
-use Rattle.block_history.specs.Claims.{after}
 
 -- the decimal digits of a number that has at most k + 1 of them, in ASCII
 unfoldable pub spelled : ℕ → ℕ → List ℕ
@@ -50,26 +47,11 @@ unfoldable pub allBehind : List (List ℕ) → ℕ → List ℕ → PutLeft
 allBehind [] n t = record { end = n; text = t }
 allBehind (s ∷ ss) n t = allBehind ss (behind s n t .end) (behind s n t .text)
 
--- what the system refused, by the program's name and its own
-abbrev pub faulty : List ℕ → List ℕ → List (List ℕ)
-faulty program name = program ∷ ascii ": " ∷ name ∷ []
+-- a number in decimal, and an octet behind it
+abbrev pub marked : ℕ → ℕ → List (List ℕ)
+marked n mark = decimal n ∷ (mark ∷ []) ∷ []
 
--- k pieces of 23 octets of a log from a place on
-unfoldable pub pieces : ℕ → ℕ → List ℕ → List (List ℕ)
-pieces zero at log = []
-pieces (suc k) at log = take 23 (drop at log) ∷ pieces k (at + 23) log
-
--- 01 cblist: a log, 23 octets at a time, and a shorter tail
-abbrev pub cut : List ℕ → List (List ℕ)
-cut log = pieces ((length log + 22) / 23) 0 log
-
--- the lines of pieces taken in order from a state, the first of them with number n, where f gives the line of a numbered answer
-unfoldable pub listing : (ℕ → Given → List ℕ) → Held → ℕ → List (List ℕ) → List ℕ
-listing f h n [] = []
-listing f h n (p ∷ ps) = f n (step h p) ++ listing f (step h p .next) (n + 1) ps
-
--- a log listed in chunks of whole pieces is listed as one
-abbrev pub InChunks : (ℕ → Given → List ℕ) → Type 0
-InChunks f =
-    (h : Held) (n k : ℕ) (chunk rest : List ℕ) → length chunk ≡ 23 * k
-    → listing f h n (cut (chunk ++ rest)) ≡ listing f h n (cut chunk) ++ listing f (after h (cut chunk)) (n + k) (cut rest)
+-- texts as one
+unfoldable pub flat : List (List ℕ) → List ℕ
+flat [] = []
+flat (s ∷ ss) = s ++ flat ss

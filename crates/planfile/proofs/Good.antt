@@ -7,7 +7,7 @@ use Rattle.plan.specs.declared.Verdict.the-variants as verdicts
 use Rattle.plan.specs.Paper.{Read, planNumber, readPlan}
 use Rattle.plan.specs.Coded.{planOf, verdictOf, readingOf}
 use Rattle.plan.proofs.ReadGood.{read-is-good}
-use Rattle.planfile.specs.Taken.{Taken, taken, untaken}
+use Rattle.planfile.specs.Inner.{Taken, taken, untaken}
 
 module _ (t : Taken) where
   pub untaken-good : t ≡ untaken → planNumber (t .plan) ≡ 0

@@ -1,4 +1,2 @@
 -- What `planfile` proves.
-pub mod Determined
 pub mod Good
-pub mod Lines

@@ -1,3 +1,2 @@
 -- What `planfile` defines.
-pub mod Refused
-pub mod Taken
+pub mod Inner

@@ -2,7 +2,7 @@
 use Rattle.laws.proofs.Base.{_≡_, List, ℕ}
 use Rattle.lines.specs.Paper.{PutLeft, behind}
 use Rattle.lines.proofs.Determined.{determined-put}
-use Rattle.words.specs.Words.{words}
+use Rattle.words.specs.Paper.{words}
 
 pub determined-put-words : (number n : ℕ) (t : List ℕ) (a b : PutLeft) → a ≡ behind (words number) n t → b ≡ behind (words number) n t → a ≡ b
 determined-put-words number = determined-put (words number)

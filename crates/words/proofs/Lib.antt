@@ -1,4 +1,4 @@
 -- What `words` proves.
 pub mod Determined
 pub mod Few
-pub mod Table
+pub mod Parts

@@ -1,2 +1,3 @@
 -- What `words` defines.
-pub mod Words
+pub mod Inner
+pub mod Paper

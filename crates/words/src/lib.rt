@@ -2,122 +2,108 @@
 ghost use mathlib.Core.Path.{_≡_};
 ghost use Rattle.refusals.specs.Number.{numberOf};
 ghost use Rattle.lines.specs.Paper.{behind};
-ghost use Rattle.words.specs.Words.{find, words, ofIntake, ofText, ofLength, ofSchedule, ofPlan, ofSlot};
+ghost use Rattle.words.specs.Paper.{words};
+ghost use Rattle.words.specs.Inner.{allWords};
 use refusals::Refusal;
+
+// Where the words of each number from 0 on start; they end where those of the next one start.
+const STARTS: [usize; 44] = [
+    0,
+    0,
+    0,
+    31,
+    71,
+    108,
+    133,
+    177,
+    177,
+    220,
+    220,
+    255,
+    289,
+    308,
+    337,
+    402,
+    433,
+    466,
+    498,
+    542,
+    542,
+    570,
+    610,
+    645,
+    685,
+    731,
+    731,
+    731,
+    731,
+    731,
+    731,
+    763,
+    790,
+    861,
+    922,
+    958,
+    987,
+    987,
+    987,
+    987,
+    987,
+    1024,
+    1047,
+    1077,
+];
 
 // Puts the words of a refusal behind the first octets of a text, and answers where they end. Where they do not fit, nothing is put.
 pub fn put_words(refusal: Refusal, text: &mut [u8], at: usize) -> usize
     ensures { λ r. ⌜ record { end = r; text = now (text .exit) } ≡ behind (words (numberOf refusal)) at (now (text .entry)) ⌝ }
 {
-    put_numbered(refusals::number(refusal), text, at)
+    put_numbered(
+        refusals::number(refusal),
+        b"the piece is not 23 octets long\
+        the block's link discriminator is not 01\
+        the block's sequence code is reserved\
+        the block is a null block\
+        the block is not the next one of its message\
+        the state is not one that the intake leaves\
+        the text is over 93 characters long\
+        a character is not in the alphabet\
+        the text ends in CR\
+        the coding scheme is above 0F\
+        the page parameter has a zero half, or its page is over its total\
+        the output has the wrong length\
+        the message is not 88 octets long\
+        the used octets are 0 or over 88\
+        the octets received are not 22, 44, 66 or 88\
+        the message's type is not 00\
+        Begin is not 1 to End, or End is over 48\
+        a slot past End has its new bit set\
+        a description passes the octets received\
+        a repeat names no first transmission before it\
+        the file does not begin with CBP\
+        the file's version is not 1\
+        the file is short, counts over 48 slots, or is not as long as it counts\
+        an entry's kind is over 2, or one with no page has octets set\
+        the descriptions need over 80 octets\
+        the current plan has no slots\
+        End is not the plan's number of slots\
+        the slot is not 1 to 48\
+        over 64 identifiers are wanted",
+        text,
+        at,
+    )
 }
 
-fn put_numbered(number: u8, text: &mut [u8], at: usize) -> usize
+// Puts the words of a number, a part of all words.
+fn put_numbered(number: u8, all: &[u8], text: &mut [u8], at: usize) -> usize
+    requires { ⌜ now all ≡ allWords ⌝ }
     ensures { λ r. ⌜ record { end = r; text = now (text .exit) } ≡ behind (words number) at (now (text .entry)) ⌝ }
 {
-    if number < 10 {
-        return put_intake_words(number, text, at);
+    if 42 < number {
+        return at;
     }
-    if number < 15 {
-        return put_text_words(number, text, at);
-    }
-    if number < 20 {
-        return put_length_words(number, text, at);
-    }
-    if number < 30 {
-        return put_schedule_words(number, text, at);
-    }
-    if number < 40 {
-        return put_plan_words(number, text, at);
-    }
-    put_slot_words(number, text, at)
-}
-
-fn put_intake_words(number: u8, text: &mut [u8], at: usize) -> usize
-    ensures { λ r. ⌜ record { end = r; text = now (text .exit) } ≡ behind (find ofIntake number) at (now (text .entry)) ⌝ }
-{
-    match number {
-        2 => lines::put(b"the piece is not 23 octets long", text, at),
-        3 => lines::put(b"the block's link discriminator is not 01", text, at),
-        4 => lines::put(b"the block's sequence code is reserved", text, at),
-        5 => lines::put(b"the block is a null block", text, at),
-        6 => lines::put(b"the block is not the next one of its message", text, at),
-        8 => lines::put(b"the state is not one that the intake leaves", text, at),
-        _ => at,
-    }
-}
-
-fn put_text_words(number: u8, text: &mut [u8], at: usize) -> usize
-    ensures { λ r. ⌜ record { end = r; text = now (text .exit) } ≡ behind (find ofText number) at (now (text .entry)) ⌝ }
-{
-    match number {
-        10 => lines::put(b"the text is over 93 characters long", text, at),
-        11 => lines::put(b"a character is not in the alphabet", text, at),
-        12 => lines::put(b"the text ends in CR", text, at),
-        13 => lines::put(b"the coding scheme is above 0F", text, at),
-        14 => lines::put(
-            b"the page parameter has a zero half, or its page is over its total",
-            text,
-            at,
-        ),
-        _ => at,
-    }
-}
-
-fn put_length_words(number: u8, text: &mut [u8], at: usize) -> usize
-    ensures { λ r. ⌜ record { end = r; text = now (text .exit) } ≡ behind (find ofLength number) at (now (text .entry)) ⌝ }
-{
-    match number {
-        15 => lines::put(b"the output has the wrong length", text, at),
-        16 => lines::put(b"the message is not 88 octets long", text, at),
-        17 => lines::put(b"the used octets are 0 or over 88", text, at),
-        18 => lines::put(b"the octets received are not 22, 44, 66 or 88", text, at),
-        _ => at,
-    }
-}
-
-fn put_schedule_words(number: u8, text: &mut [u8], at: usize) -> usize
-    ensures { λ r. ⌜ record { end = r; text = now (text .exit) } ≡ behind (find ofSchedule number) at (now (text .entry)) ⌝ }
-{
-    match number {
-        20 => lines::put(b"the message's type is not 00", text, at),
-        21 => lines::put(b"Begin is not 1 to End, or End is over 48", text, at),
-        22 => lines::put(b"a slot past End has its new bit set", text, at),
-        23 => lines::put(b"a description passes the octets received", text, at),
-        24 => lines::put(b"a repeat names no first transmission before it", text, at),
-        _ => at,
-    }
-}
-
-fn put_plan_words(number: u8, text: &mut [u8], at: usize) -> usize
-    ensures { λ r. ⌜ record { end = r; text = now (text .exit) } ≡ behind (find ofPlan number) at (now (text .entry)) ⌝ }
-{
-    match number {
-        30 => lines::put(b"the file does not begin with CBP", text, at),
-        31 => lines::put(b"the file's version is not 1", text, at),
-        32 => lines::put(
-            b"the file is short, counts over 48 slots, or is not as long as it counts",
-            text,
-            at,
-        ),
-        33 => lines::put(
-            b"an entry's kind is over 2, or one with no page has octets set",
-            text,
-            at,
-        ),
-        34 => lines::put(b"the descriptions need over 80 octets", text, at),
-        35 => lines::put(b"the current plan has no slots", text, at),
-        _ => at,
-    }
-}
-
-fn put_slot_words(number: u8, text: &mut [u8], at: usize) -> usize
-    ensures { λ r. ⌜ record { end = r; text = now (text .exit) } ≡ behind (find ofSlot number) at (now (text .entry)) ⌝ }
-{
-    match number {
-        40 => lines::put(b"End is not the plan's number of slots", text, at),
-        41 => lines::put(b"the slot is not 1 to 48", text, at),
-        42 => lines::put(b"over 64 identifiers are wanted", text, at),
-        _ => at,
-    }
+    let starts = STARTS;
+    let from = starts[number as usize];
+    let end = starts[number as usize + 1];
+    lines::put(&all[from..end], text, at)
 }

@@ -1,13 +1,12 @@
 -- `cbcheck::put_answer` meets its contract: only the number 7 has a line.
-use Rattle.laws.proofs.Base.{_%_, arith, needs, eq-eqb, ne-eqb, now}
-use Rattle.lines.proofs.Behind.{puts-none, puts-wider}
+use Rattle.laws.proofs.Base.{_%_, needs, eq-eqb, ne-eqb}
+use Rattle.lines.specs.Paper.{allBehind}
 use Rattle.cbcheck.proofs.put_answer.Statement.{statement}
 use Rattle.cbcheck.proofs.put_answer.Tie as tie
 
 returns : tie.Need-returns
-returns c =
-    let a = c .before .before .before .args in
-    rw (ne-eqb (a .returned % 256) 7 (c .if1 .taken)) (puts-wider 143 (omega arith) (puts-none (a .at) (now (a .out))))
+unfolding allBehind
+returns c = rw (ne-eqb (c .before .before .before .args .returned % 256) 7 (c .if1 .taken))
 
 returns-2 : tie.Need-returns-2
 returns-2 c =

@@ -1,70 +1,45 @@
 -- `cbtext::list` meets its contract. The invariant: the text so far and the lines to come are those of the pages.
-use Rattle.laws.proofs.Base.{_≡_, _∙_, _-_, _+_, _≤_, arith, needs, now, length, take, drop}
-use Rattle.firmware.specs.Paper.{heldIn}
+use Rattle.laws.proofs.Base.{_-_, arith, length, needs}
 use Rattle.block.specs.Paper as block
-use Rattle.lines.proofs.Complete.{complete}
-use Rattle.lines.proofs.Listed.{Listed, Taken, answerAt, taken, line-room, listed-start, listed-turn, listed-end}
-use Rattle.cbtext.specs.Listing.{lineOf}
+use Rattle.logs.proofs.Complete.{complete}
+use Rattle.logs.proofs.Listed.{Listed, Taken, answerAt, taken, line-room, listed-start, listed-turn, listed-end}
+use Rattle.cbtext.specs.Paper.{lineOf}
 use Rattle.cbtext.proofs.Handed.{handed, line-for}
 use Rattle.cbtext.proofs.list.Statement.{statement}
 use Rattle.cbtext.proofs.list.Tie as tie
 
 abbrev Inv-loop : tie.InvT-loop
 Inv-loop state₀ first log page₀ out₀ at₀ number₀ end₀ state page out at number end =
-    Listed lineOf 358 366592 state₀ first log state out at number end × (length page ≡ 88)
+    Listed lineOf 358 366592 state₀ first log state page out at number end
 
 abbrev μ-loop : tie.MeasureT-loop
 μ-loop state₀ first log page₀ out₀ at₀ number₀ end₀ state page out at number end = length log - at
 
 loop-holds : tie.Need-loop-holds Inv-loop μ-loop
-loop-holds c =
-    let s = c .before .before .before .before in
-    let a = s .args in
-    (listed-start lineOf 358 366592 (now (a .state)) (a .first) (now (a .log)) (now (a .out)) (s .pre .0) (s .pre .2) (omega arith) (s .pre .3), s .pre .1)
+loop-holds c = let s = c .before .before .before .before in listed-start lineOf 358 366592 (s .args .first) (s .pre) (omega arith)
 
--- what the call leaves
-called : (c : tie.After-cb-intake Inv-loop μ-loop)
-    → Taken (answerAt (c .before .before .before .before .before .before .loop .state) (c .before .before .before .before .before .before .loop .at) (now (c .before .before .before .before .before .before .before .before .before .before .before .args .log))) (c .cb-intake .result) (c .cb-intake .last .0) (c .before .before .before .before .before .before .loop .page) (c .cb-intake .last .1 .1 .0)
-called c =
-    let next = c .before .before .before .before .piece-end in
-    let l = c .before .before .before .before .before .before .loop in
-    taken (l .state) (now (c .before .before .before .before .before .before .before .before .before .before .before .args .log)) (l .page) (l .at) (c .cb-intake .result) (next .result) (c .cb-intake .last .0) (c .cb-intake .last .1 .1 .0) (c .before .before .before .before .before .loop-test .taken)
-    (l .inv .0 .state-size) (l .inv .1) (next .ensures) (c .cb-intake .ensures)
+-- the place of a turn's piece, from that of its call
+abbrev next : tie.After-cb-intake Inv-loop μ-loop → tie.After-piece-end Inv-loop μ-loop
+next c = c .before .before .before .before
 
 put-answer-requires : tie.Need-put-answer-requires Inv-loop μ-loop
 put-answer-requires c κs =
     let call = c .before .before .before .before .before .before in
-    let l = c .before .before .before .before .before .before .before .before .before .before .before .before .loop in
-    let a = c .before .before .before .before .before .before .before .before .before .before .before .before .before .before .before .before .before .args in
-    let whole = complete block.page (heldIn (l .state)) (take 23 (drop (l .at) (now (a .log)))) in
-    let wide =
-    line-room lineOf 358 366592 (now (a .state)) (a .first) (now (a .log)) (l .state) (l .out) (l .at) (l .number) (l .end) (l .inv .0) (c .before .before .before .before .before .before .before .before .before .before .before .loop-test .taken) in
-    let room : l .end + 358 ≤ length (l .out) = omega (arith, l .inv .0 .text-size) in
-    (handed (answerAt (l .state) (l .at) (now (a .log))) (call .cb-intake .result) (call .cb-intake .last .0) (l .page) (call .cb-intake .last .1 .1 .0) (called call) whole, room)
+    let n = next call in
+    let l = n .before .before .loop in
+    let t = taken (l .inv) (n .before .loop-test .taken) (n .piece-end .ensures) (call .cb-intake .ensures) in
+    (handed t (complete block.page _ _), line-room (l .inv) (n .before .loop-test .taken))
 
 loop-again : tie.Need-loop-again Inv-loop μ-loop
 loop-again c =
-    let put = c .before .before .put-answer in
-    let call = c .before .before .before .before .before .before .before .before .before in
-    let next = c .before .before .before .before .before .before .before .before .before .before .before .before .before .piece-end in
-    let turn = c .before .before .before .before .before .before .before .before .before .before .before .before .before .before .loop-test .taken in
-    let l = c .before .before .before .before .before .before .before .before .before .before .before .before .before .before .before .loop in
-    let a = c .before .before .before .before .before .before .before .before .before .before .before .before .before .before .before .before .before .before .before .before .args in
-    let g = answerAt (l .state) (l .at) (now (a .log)) in
-    let t = called call in
-    let whole = complete block.page (heldIn (l .state)) (take 23 (drop (l .at) (now (a .log)))) in
-    let line = line-for g (call .cb-intake .result) (call .cb-intake .last .0) (l .page) (call .cb-intake .last .1 .1 .0) t whole (l .number) in (
-      listed-turn lineOf 358 366592 (now (a .state)) (a .first) (now (a .log)) (l .state) (l .out) (l .at) (l .number) (l .end) (l .inv .0) turn
-          (next .result) (put .result) (call .cb-intake .last .0) (put .last .1 .1 .1 .0) (next .ensures) (call .cb-intake .kept .0) (put .kept .1 .1 .1 .0) (t .state)
-          (rw line at (put .ensures)),
-      call .cb-intake .kept .1 .1 .0 ∙ l .inv .1,
-    )
-
-returns : tie.Need-returns Inv-loop μ-loop
-returns c =
-    let l = c .before .loop in
-    let a = c .before .before .before .before .before .before .args in
-    listed-end lineOf 358 366592 (now (a .state)) (a .first) (now (a .log)) (l .state) (l .out) (l .at) (l .number) (l .end) (l .inv .0) (c .loop-test .left)
+    let put = c .before .before in
+    let call = put .before .before .before .before .before .before .before in
+    let n = next call in
+    let l = n .before .before .loop in
+    let turn = n .before .loop-test .taken in
+    let line = line-for (taken (l .inv) turn (n .piece-end .ensures) (call .cb-intake .ensures)) (complete block.page _ _) (l .number) in
+    listed-turn (l .inv) turn (n .piece-end .ensures) (call .cb-intake .ensures) (call .cb-intake .kept .0) (call .cb-intake .kept .1 .1 .0) (put .put-answer .kept .1 .1 .1 .0)
+    (rw line at (put .put-answer .ensures))
 
 pub list-spec : {M : Type 1} → statement M
 list-spec =
@@ -73,4 +48,4 @@ list-spec =
     Inv-loop μ-loop loop-holds (λ c κs. search needs) (λ c. search needs) (λ c. search needs)
     (λ c. search needs) (λ c κs. search needs) put-answer-requires (λ c. search needs)
     (λ c. search needs) loop-again (λ c. search needs) (λ c. search needs) (λ c. search needs)
-    returns)
+    (λ c. listed-end (c .before .loop .inv) (c .loop-test .left)))

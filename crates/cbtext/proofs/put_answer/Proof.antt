@@ -16,7 +16,7 @@ put-page-requires c κs =
     (whole .0, whole .1, s .pre .1)
 
 returns-2 : tie.Need-returns-2
-returns-2 c = rw (eq-eqb (c .before .before .before .before .before .before .before .args .returned % 256) 0 (c .before .before .before .before .if1 .left)) (c .before .before .put-page .ensures)
+returns-2 c = rw (eq-eqb (_ % 256) 0 (c .before .before .before .before .if1 .left)) (c .before .before .put-page .ensures)
 
 pub put-answer-spec : {M : Type 1} → statement M
 put-answer-spec = tie.close (tie.spec returns (λ c. search needs) put-page-requires (λ c. search needs) returns-2)

@@ -21,7 +21,9 @@ returns-2 c =
     rw (character-cr (s .args .point) (c .before .if1 .left) (c .if2 .taken)) (puts-two (s .args .at) (s .args .out .now) (s .pre) 92 114)
 
 returns-3 : tie.Need-returns-3
-returns-3 c = rw (character-other (c .before .before .before .before .before .before .before .args .point) (c .before .before .before .before .before .if1 .left) (c .before .before .before .before .if2 .left)) (c .before .before .put-utf8 .ensures)
+returns-3 c =
+    let e = c .before .before .before .before in
+    rw (character-other (e .before .before .before .args .point) (e .before .if1 .left) (e .if2 .left)) (c .before .before .put-utf8 .ensures)
 
 pub put-character-spec : {M : Type 1} → statement M
 put-character-spec =

@@ -13,33 +13,23 @@ Inv-loop content out₀ at i₀ end₀ out i end = Joins (hexadecimal 2) 2 conte
 abbrev μ-loop : tie.MeasureT-loop
 μ-loop content out₀ at i₀ end₀ out i end = length content - i
 
-loop-holds : tie.Need-loop-holds Inv-loop μ-loop
-loop-holds c = let a = c .before .before .args in joins-start (hexadecimal 2) 2 (a .content .now) (a .out .now) (a .at)
-
 cast-put-hex : tie.Need-cast-put-hex Inv-loop μ-loop
 cast-put-hex c = omega (arith, c .shared-slice-known2 .given (c .before .before .loop .i) .fits)
 
 loop-again : tie.Need-loop-again Inv-loop μ-loop
 loop-again c =
     let put = c .before .before .put-hex in
-    let turn = c .before .before .before .before .before .loop-test .taken in
-    let l = c .before .before .before .before .before .before .loop in
-    let s = c .before .before .before .before .before .before .before .before .before in
-    let a = s .args in
-    let x = getD (a .content .now) (l .i) 0 in
-    let room : l .end + 2 ≤ length (l .out) = omega (arith, l .inv .size, l .inv .puts .room, s .pre) in
-    let one = puts-behind (hexadecimal 2 x) (l .end) (l .out) 2 (put .result) (put .last .1 .1 .0) (put .ensures) (omega (arith, length-hexadecimal 2 x)) room in
-    joins-turn (hexadecimal 2) 2 (a .content .now) (a .out .now) (a .at) (l .out) (put .last .1 .1 .0) (l .i) (l .end) (put .result) (l .inv) turn (put .kept .1 .1 .0) one
-
-returns : tie.Need-returns Inv-loop μ-loop
-returns c =
-    let l = c .before .loop in
-    let a = c .before .before .before .before .args in
-    joins-end (hexadecimal 2) 2 (a .content .now) (a .out .now) (a .at) (l .out) (l .i) (l .end) (l .inv) (c .loop-test .left)
+    let test = c .before .before .before .before .before in
+    let l = test .before .loop in
+    let x = getD (test .before .before .before .before .args .content .now) (l .i) 0 in
+    let room : l .end + 2 ≤ length (l .out) = omega (arith, l .inv .size, l .inv .puts .room, test .before .before .before .before .pre) in
+    joins-turn (l .inv) (test .loop-test .taken) (put .kept .1 .1 .0)
+    (puts-behind (hexadecimal 2 x) (l .end) (l .out) 2 (put .result) (put .last .1 .1 .0) (put .ensures) (omega (arith, length-hexadecimal 2 x)) room)
 
 pub put-octets-spec : {M : Type 1} → statement M
 put-octets-spec =
     tie.close
     (tie.spec
-    Inv-loop μ-loop loop-holds (λ c. search needs) cast-put-hex (λ c κs. search needs)
-    (λ c. search needs) (λ c. search needs) loop-again (λ c. search needs) returns)
+    Inv-loop μ-loop (λ c. joins-start) (λ c. search needs) cast-put-hex (λ c κs. search needs)
+    (λ c. search needs) (λ c. search needs) loop-again (λ c. search needs)
+    (λ c. joins-end (c .before .loop .inv) (c .loop-test .left)))

@@ -27,7 +27,8 @@ returns-2 : tie.Need-returns-2
 returns-2 c =
     let b = c .before .before .before .before in
     let a = start (b .before) .args in
-    behind-copy (a .octets .now) (a .at) (a .text .now) (c .before .before .copy .last .1 .0) (a .at + length (a .octets .now)) (room b) refl (c .before .before .copy .ensures .1)
+    let copy = c .before .before .copy in
+    behind-copy (a .octets .now) (a .at) (a .text .now) (copy .last .1 .0) (a .at + length (a .octets .now)) (room b) refl (copy .ensures .1)
 
 pub put-spec : {M : Type 1} → statement M
 put-spec =

@@ -12,8 +12,11 @@ Inv-loop number count text₀ at i₀ rest₀ text i rest = Written number count
 abbrev μ-loop : tie.MeasureT-loop
 μ-loop number count text₀ at i₀ rest₀ text i rest = i
 
+abbrev start : tie.After-has-room Inv-loop μ-loop → tie.Start Inv-loop μ-loop
+start c = c .before .before
+
 -- past the test the digits fit
-room : (c : tie.Else1 Inv-loop μ-loop) → c .before .before .before .args .at + c .before .before .before .args .count ≤ length (c .before .before .before .args .text .now)
+room : (c : tie.Else1 Inv-loop μ-loop) → start (c .before) .args .at + start (c .before) .args .count ≤ length (start (c .before) .args .text .now)
 room c = leb-true _ _ (sym (c .before .has-room .ensures) ∙ not-false _ (c .if1 .left))
 
 returns : tie.Need-returns Inv-loop μ-loop
@@ -36,8 +39,8 @@ loop-again : tie.Need-loop-again Inv-loop μ-loop
 loop-again c =
     let l = c .before .before .loop in
     let a = c .before .before .before .before .before .before .args in
-    let turn = written-turn (a .number) (a .count) (a .at) (a .text .now) (l .text) (room (c .before .before .before)) (l .i) (l .rest) (l .inv) (c .before .loop-test .taken) in
-    rw (c .hex-digit .ensures) turn
+    rw (c .hex-digit .ensures)
+    (written-turn (a .number) (a .count) (a .at) (a .text .now) (l .text) (room (c .before .before .before)) (l .i) (l .rest) (l .inv) (c .before .loop-test .taken))
 
 add-result : tie.Need-add-result Inv-loop μ-loop
 add-result c = omega (arith, room (c .before .before))

@@ -1,7 +1,7 @@
 -- `planfile::none_taken` meets its contract.
 use Rattle.laws.proofs.Base.{ap, false, needs}
 use Rattle.plan.specs.Paper.{Plan}
-use Rattle.planfile.specs.Taken.{Taken}
+use Rattle.planfile.specs.Inner.{Taken}
 use Rattle.planfile.proofs.none_taken.Statement.{statement}
 use Rattle.planfile.proofs.none_taken.Tie as tie
 

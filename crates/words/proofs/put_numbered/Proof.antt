@@ -1,23 +1,29 @@
--- `words::put_numbered` meets its contract: the tests tell which table has the number, and its words are put.
-use Rattle.laws.proofs.Base.{refl, needs}
-use Rattle.words.specs.Words.{words}
-use Rattle.words.proofs.Table.{says, words-intake, words-text, words-length, words-schedule, words-plan, words-slot}
+-- `words::put_numbered` meets its contract: what is put is the number's part of all words.
+use Rattle.laws.proofs.Base.{ap, _∙_, List, ℕ, _<_, arith, needs}
+use Rattle.lines.specs.Paper.{behind}
+use Rattle.words.proofs.Parts.{part-is, part-inside, says-none}
 use Rattle.words.proofs.put_numbered.Statement.{statement}
 use Rattle.words.proofs.put_numbered.Tie as tie
+
+abbrev number : tie.Else1 → ℕ
+number c = c .before .before .before .args .number
+
+low : (c : tie.Else1) → number c < 43
+low c = omega (arith, c .if1 .left)
+
+part-put-end : tie.Need-part-put-end
+part-put-end c = rw (c .before .before .before .pre) (part-inside (number c) (low c) .1)
+
+returns-2 : tie.Need-returns-2
+returns-2 c =
+    let e = c .before .before .before .before .before in
+    let a = e .before .before .before .args in
+    c .before .before .put .ensures ∙ ap (λ (l : List ℕ). behind l (a .at) (a .text .now)) (part-is (a .all .now) (e .before .before .before .pre) (number e) (low e))
 
 pub put-numbered-spec : {M : Type 1} → statement M
 put-numbered-spec =
     tie.close
     (tie.spec
-    (λ c κs. search needs) (λ c. search needs)
-    (λ c. let p = c .before .before .before .before in says words _ _ _ _ _ _ refl (words-intake _ (p .if1 .taken)) (c .before .before .put-intake-words .ensures))
-    (λ c κs. search needs) (λ c. search needs) (λ c. let p = c .before .before .before .before in
-    says words _ _ _ _ _ _ refl (words-text _ (p .before .if1 .left) (p .if2 .taken)) (c .before .before .put-text-words .ensures))
-    (λ c κs. search needs) (λ c. search needs) (λ c. let p = c .before .before .before .before in
-    says words _ _ _ _ _ _ refl (words-length _ (p .before .if2 .left) (p .if3 .taken)) (c .before .before .put-length-words .ensures))
-    (λ c κs. search needs) (λ c. search needs) (λ c. let p = c .before .before .before .before in
-    says words _ _ _ _ _ _ refl (words-schedule _ (p .before .if3 .left) (p .if4 .taken)) (c .before .before .put-schedule-words .ensures))
-    (λ c κs. search needs) (λ c. search needs) (λ c. let p = c .before .before .before .before in
-    says words _ _ _ _ _ _ refl (words-plan _ (p .before .if4 .left) (p .if5 .taken)) (c .before .before .put-plan-words .ensures))
-    (λ c κs. search needs) (λ c. search needs) (λ c. let p = c .before .before .before .before in
-    says words _ _ _ _ _ _ refl (words-slot _ (p .if5 .left)) (c .before .before .put-slot-words .ensures)))
+    (λ c. says-none _ _ _ (c .if1 .taken)) (λ c. search needs) (λ c. search needs) (λ c. search needs)
+    (λ c. search needs) (λ c. search needs) (λ c. part-inside (number c) (low c) .0)
+    (λ c. part-inside (number c) (low c) .0) part-put-end (λ c κs. search needs) (λ c. search needs) returns-2)

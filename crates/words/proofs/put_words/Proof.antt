@@ -1,13 +1,20 @@
 -- `words::put_words` meets its contract: what is put are the words of the refusal's number.
-use Rattle.laws.proofs.Base.{refl, sym, needs}
-use Rattle.words.specs.Words.{words}
-use Rattle.words.proofs.Table.{says}
+use Rattle.laws.proofs.Base.{refl, ap, _∙_, ℕ, needs}
+use Rattle.lines.specs.Paper.{ascii, behind}
+use Rattle.words.specs.Paper.{words}
+use Rattle.words.specs.Inner.{joined}
 use Rattle.words.proofs.put_words.Statement.{statement}
 use Rattle.words.proofs.put_words.Tie as tie
 
+put-numbered-requires : tie.Need-put-numbered-requires
+unfolding ascii joined
+put-numbered-requires c κs = refl
+
+returns : tie.Need-returns
+returns c =
+    let number = c .before .before .before .before .before in
+    let a = number .before .before .args in
+    c .before .before .put-numbered .ensures ∙ ap (λ (n : ℕ). behind (words n) (a .at) (a .text .now)) (number .number .ensures)
+
 pub put-words-spec : {M : Type 1} → statement M
-put-words-spec =
-    tie.close
-    (tie.spec
-    (λ c κs. search needs) (λ c κs. search needs) (λ c. search needs)
-    (λ c. says words _ _ _ _ _ _ (sym (c .before .before .before .before .number .ensures)) refl (c .before .before .put-numbered .ensures)))
+put-words-spec = tie.close (tie.spec (λ c κs. search needs) (λ c. search needs) put-numbered-requires (λ c. search needs) returns)

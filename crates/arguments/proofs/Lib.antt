@@ -1,0 +1,4 @@
+-- What `arguments` proves.
+pub mod Cases
+pub mod Determined
+pub mod Same

@@ -1,0 +1,2 @@
+-- What `arguments` defines.
+pub mod Paper

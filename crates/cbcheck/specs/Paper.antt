@@ -1,0 +1,35 @@
+-- The lines of a log's schedule messages, checked by what two plans say.
+use mathlib.Core.Bool.{cond}
+use mathlib.Core.List.{List, [], _∷_, _++_}
+use Prim.Native.Nat.{ℕ}
+use lib.Dec.{eqb}
+use Rattle.block.specs.Paper.{Held, Given}
+use Rattle.checker.specs.Paper.{Checked}
+use Rattle.checker.specs.Inner.{Plans, checkBeside}
+use Rattle.lines.specs.Paper.{ascii, decimal, marked, flat}
+use Rattle.logs.specs.Paper.{listing}
+use Rattle.words.specs.Paper.{words}
+
+-- three numbers, with a space behind each
+abbrev pub numbers : ℕ → ℕ → ℕ → List (List ℕ)
+numbers n answer slot = marked n 32 ++ (marked answer 32 ++ marked slot 32)
+
+-- why a message is refused by a number: a slot that comes with it is untrue, else the number's words
+unfoldable pub reason : ℕ → ℕ → List (List ℕ)
+reason number slot = cond (eqb slot 0) (words number ∷ []) (ascii "slot " ∷ decimal slot ∷ ascii " is not told as planned" ∷ [])
+
+-- what is said of a message that is accepted by 0, or refused, and the line's end
+unfoldable pub said : ℕ → ℕ → List (List ℕ)
+said number slot = cond (eqb number 0) (ascii "true\n" ∷ []) (reason number slot ++ ((10 ∷ []) ∷ []))
+
+-- the line of what the checker answers to the message that block n completes: n, the checker's number and slot, and both in words
+abbrev pub line : ℕ → Checked → List (List ℕ)
+line n k = numbers n (k .number) (k .slot) ++ said (k .number) (k .slot)
+
+-- 01 Numbers given: a schedule message complete is answered by 7 and has a line; another answer has none
+abbrev pub lineOf : Plans → ℕ → Given → List ℕ
+lineOf b n g = cond (eqb (g .number) 7) (flat (line n (checkBeside b (g .octets) (g .received)))) []
+
+-- the lines of pieces taken in order from a state, the first of them with number n
+abbrev pub lines : Plans → Held → ℕ → List (List ℕ) → List ℕ
+lines b h n ps = listing (lineOf b) h n ps

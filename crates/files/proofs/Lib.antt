@@ -1,0 +1,2 @@
+-- What `files` proves.
+pub mod Determined

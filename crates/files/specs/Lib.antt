@@ -1,0 +1,3 @@
+-- What `files` defines.
+pub mod Inner
+pub mod Paper

@@ -1,0 +1,12 @@
+-- `logs::started` meets its contract: the memory has the length that a start call asks for.
+use Rattle.laws.proofs.Base.{ap, needs}
+use Rattle.firmware.specs.Paper.{Started, startCall}
+use Rattle.logs.proofs.started.Statement.{statement}
+use Rattle.logs.proofs.started.Tie as tie
+
+returns : tie.Need-returns
+unfolding startCall
+returns c = ap (λ (s : Started). s .state) (c .before .cb-start .ensures)
+
+pub started-spec : {M : Type 1} → statement M
+started-spec = tie.close (tie.spec (λ c. search needs) (λ c κs. search needs) returns)

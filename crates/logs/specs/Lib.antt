@@ -1,0 +1,4 @@
+-- What `logs` defines.
+pub mod Claims
+pub mod Inner
+pub mod Paper

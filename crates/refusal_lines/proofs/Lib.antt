@@ -1,0 +1,2 @@
+-- What `refusal_lines` proves.
+pub mod Determined

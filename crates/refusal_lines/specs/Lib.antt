@@ -1,0 +1,2 @@
+-- What `refusal_lines` defines.
+pub mod Paper

@@ -1,0 +1,69 @@
+-- The words of a number are their part of all words.
+use Rattle.laws.proofs.Base.{_≡_, refl, sym, ap, _∙_, Bool, true, false, cond, not, _&&_, List, [], _∷_, _++_, ℕ, suc, _+_, _-_, _≤_, _<_, add-zero, arith, length, getD, take, drop, take-append-drop, eqb, leb, leb-true, ne-eqb, not-false}
+use Prim.Native.String.{String}
+use Rattle.laws.specs.Upto.{some, each}
+use Rattle.laws.proofs.Upto.{some-false, each-at}
+use Rattle.laws.proofs.Tests.{both}
+use Rattle.lines.specs.Paper.{PutLeft, ascii, behind}
+use Rattle.words.specs.Paper.{find, words, table}
+use Rattle.words.specs.Inner.{joined, allWords}
+
+-- where the words of each number start, as the code has it
+abbrev pub starts : List ℕ
+starts =
+    0 ∷ 0 ∷ 0 ∷ 31 ∷ 71 ∷ 108 ∷ 133 ∷ 177 ∷ 177 ∷ 220 ∷ 220 ∷ 255 ∷ 289 ∷ 308 ∷ 337 ∷ 402 ∷ 433 ∷ 466 ∷ 498 ∷
+    542 ∷ 542 ∷ 570 ∷ 610 ∷ 645 ∷ 685 ∷ 731 ∷ 731 ∷ 731 ∷ 731 ∷ 731 ∷ 731 ∷ 763 ∷ 790 ∷ 861 ∷ 922 ∷ 958 ∷ 987 ∷
+    987 ∷ 987 ∷ 987 ∷ 987 ∷ 1024 ∷ 1047 ∷ 1077 ∷ []
+
+abbrev part : ℕ → List ℕ
+part n = take (getD starts (n + 1) 0 - getD starts n 0) (drop (getD starts n 0) allWords)
+
+parts : each words 43 ≡ each part 43
+unfolding each ascii find joined
+parts = refl
+
+pub part-is : (all : List ℕ) → all ≡ allWords → (n : ℕ) → n < 43 → take (getD starts (n + 1) 0 - getD starts n 0) (drop (getD starts n 0) all) ≡ words n
+part-is all e n h = rw e (sym (each-at part 43 n [] h) ∙ ap (λ (l : List (List ℕ)). getD l n []) (sym parts) ∙ each-at words 43 n [] h)
+
+-- parts lie in the text one behind the other
+abbrev ordered : ℕ → Bool
+ordered n = leb (getD starts n 0) (getD starts (n + 1) 0) && leb (getD starts (n + 1) 0) (length allWords)
+
+all-ordered : some (λ (n : ℕ). not (ordered n)) 43 ≡ false
+unfolding some ascii joined
+all-ordered = refl
+
+pub part-inside : (n : ℕ) → n < 43 → (getD starts n 0 ≤ getD starts (n + 1) 0) × (getD starts (n + 1) 0 ≤ length allWords)
+part-inside n h =
+    let e = both _ _ (not-false _ (some-false (λ (k : ℕ). not (ordered k)) 43 n all-ordered h)) in
+    (leb-true _ _ (e .0), leb-true _ _ (e .1))
+
+-- every number of a table is at most 42
+unfoldable low : List (ℕ × String) → Bool
+low [] = true
+low ((k, w) ∷ t) = leb k 42 && low t
+
+find-none : (t : List (ℕ × String)) (n : ℕ) → low t ≡ true → 42 < n → find t n ≡ []
+unfolding find low
+find-none [] n e h = refl
+find-none ((k, w) ∷ t) n e h =
+    let few = both (leb k 42) (low t) e in
+    rw (ne-eqb n k (λ q. omega (arith, leb-true k 42 (few .0)))) (find-none t n (few .1) h)
+
+-- no words are put
+behind-none : (at : ℕ) (t : List ℕ) → record { end = at; text = t } ≡ behind [] at t
+unfolding behind
+behind-none at t = go (leb (at + 0) (length t))
+  where
+    whole : t ≡ take at t ++ drop (at + 0) t
+    whole = sym (take-append-drop at t) ∙ ap (λ (k : ℕ). take at t ++ drop k t) (sym (add-zero at))
+
+    go : (b : Bool) → _≡_ {A = PutLeft} (record { end = at; text = t })
+        (cond b (record { end = at + 0; text = take at t ++ drop (at + 0) t }) (record { end = at; text = t }))
+    go true = λ i. record { end = sym (add-zero at) i; text = whole i }
+    go false = refl
+
+-- of a number over 42 nothing is put
+pub says-none : (n at : ℕ) (t : List ℕ) → 42 < n → record { end = at; text = t } ≡ behind (words n) at t
+unfolding low
+says-none n at t h = behind-none at t ∙ ap (λ (x : List ℕ). behind x at t) (sym (find-none table n refl h))
