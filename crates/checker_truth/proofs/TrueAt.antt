@@ -1,6 +1,6 @@
 -- The test of a slot decides the rules of document 01's list.
-use Rattle.laws.proofs.Base.{_≡_, refl, sym, ap, _∙_, Bool, true, false, not, Bool·beq, _⊎_, inl, inr, ⊎-elim, ℕ, suc, _<_, arith, eqb, eqb-true, eqb-false, eq-eqb, ne-eqb, not-true}
-use Rattle.laws.proofs.Tests.{both, either}
+use Rattle.laws.proofs.Base.{_≡_, refl, ap, _∙_, true, not, Bool·beq, _⊎_, inl, inr, ⊎-elim, ℕ, suc, _<_, arith, eqb, eqb-true, eqb-false, eq-eqb, ne-eqb, not-true}
+use Rattle.laws.proofs.Tests.{beq-true, beq-refl, both, either}
 use Rattle.laws.proofs.Upto.{below-suc}
 use Rattle.schedule.specs.Paper.{Told, first, again, optional, advised, Shown}
 use Rattle.plan.specs.Paper.{Plan, planNumber, entryAt, lowestAt, low15At, Planned, plannedAt}
@@ -8,16 +8,6 @@ use Rattle.plan.proofs.Lowest.{leading}
 use Rattle.checker.specs.Paper.{leads, repeats, mayTell, newFor, isTrue}
 use Rattle.checker_truth.specs.Claims.{TrueAt}
 use Rattle.plan.proofs.GoodPlan.{kind-few}
-
-beq-true : (a b : Bool) → Bool·beq a b ≡ true → a ≡ b
-beq-true true true e = refl
-beq-true true false e = sym e
-beq-true false true e = e
-beq-true false false e = refl
-
-beq-refl : (a : Bool) → Bool·beq a a ≡ true
-beq-refl true = refl
-beq-refl false = refl
 
 module _ (c p : Plan) (i : ℕ) where
   -- what the plans say of the slot
