@@ -1,7 +1,7 @@
 // The entry for C by which a board keeps the set of slots whose pages it holds.
 ghost use mathlib.Core.Path.{_≡_};
 ghost use Rattle.board_calls.specs.Paper.{enterCall};
-use board::Held;
+use board_held::Held;
 
 // The held set with the page got in a slot entered, under its first's slot where the schedule tells a repeat.
 #[no_mangle]
@@ -14,6 +14,6 @@ pub extern "C" fn cb_enter(
 ) -> u64
     ensures { λ r. ⌜ r ≡ enterCall known (now (message .entry)) received slot held ⌝ }
 {
-    let under = board::entered_under_on(known, message, received, slot);
+    let under = board_held::entered_under_on(known, message, received, slot);
     Held(held).with(under).0
 }

@@ -6,7 +6,8 @@ use Rattle.page.specs.Paper.{samePage}
 use Rattle.plan.specs.Paper.{Plan, filledPlan, bad, planNumber, holds, lowestSlot, hasPage, pageAt, lowestAt}
 use Rattle.schedule.specs.Paper.{again, new, place, tells, read}
 use Rattle.checker.specs.Paper.{check, isTrue}
-use Rattle.board.specs.Paper.{Wanted, isWanted, isHeld, enter, tellsOf, reads, decide, enteredUnder}
+use Rattle.board.specs.Paper.{Wanted, isWanted, reads, decide}
+use Rattle.board_held.specs.Paper.{isHeld, enter, tellsOf, enteredUnder}
 use Rattle.board_obeyed.specs.Claims.{obeyed, Obeys, WantedPage, WantedExactly, Board, after, ended, HeldTruly, Leaves, GetsIn, fresh, noneLost}
 use Rattle.board_obeyed.proofs.Period.{none-held-truly}
 use Rattle.board_obeyed.proofs.Obeyed.{period-with-losses, stays-true, reads-once}

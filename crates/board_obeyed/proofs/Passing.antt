@@ -5,7 +5,7 @@ use Rattle.page.specs.Paper.{Name, samePage}
 use Rattle.plan.specs.Paper.{Plan, entryAt, pageAt}
 use Rattle.board.specs.Paper.{Wanted, decide}
 use Rattle.board_obeyed.specs.Claims.{obeyed, Board, Holds, Has, entering, passing, after}
-use Rattle.board.proofs.Sets.{held-kept}
+use Rattle.board_held.proofs.Sets.{held-kept}
 
 module _ (c : Plan) (m : List ℕ) (received : ℕ) (w : Wanted) where
   -- a slot that isn't lost passes

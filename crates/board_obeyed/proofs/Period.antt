@@ -8,9 +8,10 @@ use Rattle.page.proofs.Sameness.{Same, same-reflexive, same-symmetric, same-tra
 use Rattle.plan.specs.Paper.{Plan, entryAt, pageAt, lowestAt}
 use Rattle.plan.proofs.Lowest.{leading}
 use Rattle.checker_truth.specs.Claims.{Truthful}
-use Rattle.board.specs.Paper.{Wanted, Decided, isHeld, firstMatches, readsFor, decide, enteredUnder, entryFor}
+use Rattle.board.specs.Paper.{Wanted, Decided, firstMatches, readsFor, decide}
+use Rattle.board_held.specs.Paper.{isHeld, enteredUnder, entryFor}
 use Rattle.board.proofs.Matching.{low15-wanted}
-use Rattle.board.proofs.Sets.{held-none, held-others}
+use Rattle.board_held.proofs.Sets.{held-none, held-others}
 use Rattle.board_obeyed.specs.Claims.{obeyed, WantedPage, Board, Holds, Has, HeldTruly, entering, passing, after, namesPage, callsFor, PeriodWithLosses, StaysTrue, fresh, noneLost, Period}
 use Rattle.board_obeyed.proofs.Planned.{Planned, free-slot, advised-slot, lowest-slot, later-slot, planned, leads}
 use Rattle.board_obeyed.proofs.Wakes.{entered-for, repeat-first, reads-for, wakes-truthful}

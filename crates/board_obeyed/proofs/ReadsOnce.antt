@@ -4,8 +4,9 @@ use Rattle.schedule.specs.Paper.{tells}
 use Rattle.plan.specs.Paper.{Plan, entryAt, lowestAt}
 use Rattle.plan.proofs.Lowest.{leading}
 use Rattle.checker_truth.specs.Claims.{Truthful}
-use Rattle.board.specs.Paper.{Wanted, isHeld, enter, firstMatches, readsFor, enteredUnder, entryFor}
-use Rattle.board.proofs.Sets.{Slot, held-entered}
+use Rattle.board.specs.Paper.{Wanted, firstMatches, readsFor}
+use Rattle.board_held.specs.Paper.{isHeld, enter, enteredUnder, entryFor}
+use Rattle.board_held.proofs.Sets.{Slot, held-entered}
 use Rattle.board_obeyed.specs.Claims.{obeyed, namesPage, Board, Holds, after, ReadsOnce}
 use Rattle.board_obeyed.proofs.Planned.{Planned, free-slot, advised-slot, lowest-slot, later-slot, planned}
 use Rattle.board_obeyed.proofs.Wakes.{slot-number, entered-for, reads-for}

@@ -6,13 +6,15 @@ use Rattle.schedule.proofs.Repeats.{false-other}
 use Rattle.plan.specs.Paper.{Plan, entryAt, lowestAt, low15At}
 use Rattle.plan.proofs.Lowest.{leading}
 use Rattle.checker_truth.specs.Claims.{Truthful}
-use Rattle.board.specs.Paper.{Wanted, isWanted, isHeld, firstMatches, readsFor, tellsOf, decide, enteredUnder, entryFor}
+use Rattle.board.specs.Paper.{Wanted, isWanted, firstMatches, readsFor, decide}
+use Rattle.board_held.specs.Paper.{isHeld, tellsOf, enteredUnder, entryFor}
 use Rattle.board_obeyed.specs.Claims.{obeyed, Wakes, Why, marked, led, repeated, WakesOnly}
-use Rattle.board.proofs.Cases.{decide-reads, reads-told, entered-told}
+use Rattle.board.proofs.Cases.{decide-reads, reads-told}
+use Rattle.board_held.proofs.Cases.{entered-told}
 use Rattle.board.proofs.Matching.{low15-wanted}
 use Rattle.board_obeyed.proofs.Planned.{Planned, free-slot, advised-slot, lowest-slot, later-slot, planned, leads}
-use Rattle.board.proofs.Sets.{Slot}
-use Rattle.board.proofs.Telling.{is-read}
+use Rattle.board_held.proofs.Sets.{Slot}
+use Rattle.board_held.proofs.Telling.{is-read}
 
 module _ (c p : Plan) (m : List ℕ) (received : ℕ) (t : Truthful c p m received) where
   -- the schedule tells of every slot of the plan

@@ -14,7 +14,8 @@ use Rattle.schedule.specs.Paper.{end, faults, Read, unread, good, read, Shown, 
 use Rattle.text.specs.Paper.{Writing, written, writerTests, usedOctets, pageOf, Reading, reading, readerTests, shown, trimmed, septetsReceived}
 use Rattle.sender.specs.Paper as sender
 use Rattle.checker.specs.Paper as checker
-use Rattle.board.specs.Paper.{Wanted, Schedule, Decided, undecided, reads, decide}
+use Rattle.board.specs.Paper.{Wanted, Decided, undecided, reads, decide}
+use Rattle.board_held.specs.Paper.{Schedule}
 use Rattle.capi.specs.Paper.{bitOf, codeOf, packedGiven, writeCall, readCall, scheduleCall, descriptionCall, planCall, fileFaults, writtenFrom, writeScheduleCall, checkedBeside, checkScheduleCall, decidedFor, decideCall}
 use Rattle.calls_unpacked.specs.Claims.{answeredCall}
 use Rattle.capi.proofs.Scheduled.{bit-byte, bit-small, ends-small, slot-small, slotNumber}

@@ -9,8 +9,10 @@ use Rattle.schedule.specs.Paper.{Told, first, again, optional, advised, tells}
 use Rattle.board.specs.declared.Wanted.{Wanted as WantedCode}
 use Rattle.board.specs.declared.Decision.{Decision}
 use Rattle.board.specs.declared.Decision.the-variants.{Read, Skip, Refused}
-use Rattle.board.specs.Paper.{Wanted, Schedule, Decided, matches15, isWanted, isHeld, firstMatches, readsFor, tellsOf, reads, undecided, decide}
-use Rattle.board.specs.Coded.{idsOf, wantedOf, lentSchedule, decidedOf}
+use Rattle.board.specs.Paper.{Wanted, Decided, matches15, isWanted, firstMatches, readsFor, reads, undecided, decide}
+use Rattle.board_held.specs.Paper.{Schedule, isHeld, tellsOf}
+use Rattle.board.specs.Coded.{idsOf, wantedOf, decidedOf}
+use Rattle.board_held.specs.Coded.{lentSchedule}
 use Rattle.capi.specs.Paper.{bitOf, decidedFor, decideCall}
 
 ids-set : (ids : List MessageId) (i : ℕ) (x : MessageId) → idsOf (set ids i x) ≡ set (idsOf ids) i (x .0)

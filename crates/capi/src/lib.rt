@@ -10,8 +10,8 @@ ghost use Rattle.capi.specs.Paper.{writeCall, readCall, scheduleCall, de
 use block::Kind;
 use block::Sent;
 use board::Decision;
-use board::Held;
 use board::Wanted;
+use board_held::Held;
 use checker::Checking;
 use page::Handing;
 use page::MessageId;

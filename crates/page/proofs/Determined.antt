@@ -1,7 +1,7 @@
 -- Two answers that meet a public contract of this crate are equal.
-use Rattle.laws.proofs.Base.{_≡_, sym, ap, _∙_, Bool, List, ℕ, _+_, _*_}
+use Rattle.laws.proofs.Base.{_≡_, sym, ap, _∙_, List, ℕ, _+_, _*_}
 use Rattle.refusals.proofs.Inverse.{numberOf-injective, numberOf-positive}
-use Rattle.page.specs.Paper.{Part, header, headerOctets, samePage, handedPart, handedNumber}
+use Rattle.page.specs.Paper.{Part, header, headerOctets, handedPart, handedNumber}
 use Rattle.page.specs.Coded.{keyOf, headingOf, nameOf, numberOfHanding}
 use Rattle.page.specs.declared.Header.{Header}
 use Rattle.page.specs.declared.PageName.{PageName}
@@ -22,9 +22,6 @@ determined-header-octets heading r s p q = p ∙ sym q
 
 pub determined-key : (name : PageName) (r s : ℕ) → r ≡ keyOf (nameOf name) → s ≡ keyOf (nameOf name) → r ≡ s
 determined-key name r s p q = p ∙ sym q
-
-pub determined-same : (a b : PageName) (r s : Bool) → r ≡ samePage (nameOf a) (nameOf b) → s ≡ samePage (nameOf a) (nameOf b) → r ≡ s
-determined-same a b r s p q = p ∙ sym q
 
 handing-injective : (r s : Handing) → numberOfHanding r ≡ numberOfHanding s → r ≡ s
 handing-injective Handed Handed e = cc

@@ -6,9 +6,9 @@ use crate::told;
 use crate::told::DIFFERS;
 use crate::told::NO_ANSWER;
 use board::Decision;
-use board::Held;
-use board::Schedule;
 use board::Wanted;
+use board_held::Held;
+use board_held::Schedule;
 use descriptions::Stepped;
 use page::MessageId;
 use schedule::Given;
@@ -305,7 +305,7 @@ fn enter_both(
     let after = board_calls::cb_enter(known, message, received, slot, held);
     if message.len() == MESSAGE {
         let given = given_of(known, message, received);
-        let under = board::entered_under(given, slot);
+        let under = board_held::entered_under(given, slot);
         if Held(held).with(under).0 != after {
             return DIFFERS;
         }

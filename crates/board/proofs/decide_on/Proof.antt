@@ -1,8 +1,11 @@
 -- `board::decide_on` meets its contract: each answer is told from the places of the descriptions.
 use Rattle.laws.proofs.Base.{sym, _∙_, true, false, arith, needs, not-true, not-false}
-use Rattle.board.specs.Coded.{wantedOf, lentSchedule}
-use Rattle.board.proofs.Cases.{decide-low, decide-high, decide-many, decided-as, reads-untold, tells-unknown}
-use Rattle.board.proofs.Telling.{telling, tells-by, decided-slots}
+use Rattle.board_held.specs.Coded.{lentSchedule}
+use Rattle.board_held.proofs.Cases.{tells-unknown}
+use Rattle.board_held.proofs.Telling.{telling, tells-by}
+use Rattle.board.specs.Coded.{wantedOf}
+use Rattle.board.proofs.Cases.{decide-low, decide-high, decide-many, decided-as, reads-untold}
+use Rattle.board.proofs.Deciding.{decided-slots}
 use Rattle.board.proofs.decide_on.Statement.{statement}
 use Rattle.board.proofs.decide_on.Tie as tie
 
@@ -29,7 +32,7 @@ returns-5 c =
     let s = lentSchedule (a .known) (a .message .now) (a .received) in
     decided-as s (a .slot) (wantedOf (a .wanted)) (a .held .0) (record { some = search needs; low = search needs }) true (search needs)
     (reads-untold s (a .slot) (wantedOf (a .wanted)) (a .held .0)
-    (tells-by (a .known) (a .message .now) (a .received) (a .slot) (t .result) (t .ensures) (not-false _ (c .before .before .before .if4 .left)) false
+    (tells-by (a .message .now) (a .received) (a .slot) (t .result) (t .ensures) (a .known) false (not-false _ (c .before .before .before .if4 .left))
     (sym (c .before .tells-of .ensures) ∙ not-true _ (c .if5 .taken))))
 
 reads-for-requires : tie.Need-reads-for-requires

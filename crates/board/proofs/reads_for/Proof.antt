@@ -1,10 +1,12 @@
 -- `board::reads_for` meets its contract: a repeat of a message that is read names a slot below its own.
 use Rattle.laws.proofs.Base.{_≡_, ap, _∙_, _+_, arith, needs}
 use Rattle.schedule.specs.Inner.{toldBy}
-use Rattle.board.specs.Paper.{firstMatches, entryFor}
+use Rattle.board_held.specs.Paper.{entryFor}
+use Rattle.board_held.proofs.Telling.{Named, entry-named}
+use Rattle.board.specs.Paper.{firstMatches}
 use Rattle.board.specs.Inner.{readsBy}
 use Rattle.board.specs.Coded.{wantedOf}
-use Rattle.board.proofs.Telling.{Named, entry-named, reads-by-entry}
+use Rattle.board.proofs.Deciding.{reads-by-entry}
 use Rattle.board.proofs.reads_for.Statement.{statement}
 use Rattle.board.proofs.reads_for.Tie as tie
 

@@ -1,8 +1,8 @@
--- `board::is_held` meets its contract: the shift divides by the power of two that the definition has.
+-- `board_held::is_held` meets its contract: the shift divides by the power of two that the definition has.
 use Rattle.laws.proofs.Base.{sym, needs}
-use Rattle.board.proofs.Sets.{held-low, held-high, held-bit}
-use Rattle.board.proofs.is_held.Statement.{statement}
-use Rattle.board.proofs.is_held.Tie as tie
+use Rattle.board_held.proofs.Sets.{held-low, held-high, held-bit}
+use Rattle.board_held.proofs.is_held.Statement.{statement}
+use Rattle.board_held.proofs.is_held.Tie as tie
 
 returns : tie.Need-returns
 returns c = sym (held-low _ _ (c .if1 .taken))

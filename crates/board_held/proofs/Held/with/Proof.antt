@@ -1,8 +1,8 @@
--- `board::Held::with` meets its contract: a power of two is added where its bit is clear.
+-- `board_held::Held::with` meets its contract: a power of two is added where its bit is clear.
 use Rattle.laws.proofs.Base.{sym, _∙_, needs}
-use Rattle.board.proofs.Sets.{enter-low, enter-high, enter-held, enter-shifted, enter-fits}
-use Rattle.board.proofs.Held.with.Statement.{statement}
-use Rattle.board.proofs.Held.with.Tie as tie
+use Rattle.board_held.proofs.Sets.{enter-low, enter-high, enter-held, enter-shifted, enter-fits}
+use Rattle.board_held.proofs.Held.with.Statement.{statement}
+use Rattle.board_held.proofs.Held.with.Tie as tie
 
 returns : tie.Need-returns
 returns c = sym (enter-low _ _ (c .if1 .taken))

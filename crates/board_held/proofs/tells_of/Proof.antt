@@ -1,10 +1,11 @@
--- `board::tells_of` meets its contract.
+-- `board_held::tells_of` meets its contract.
 use Rattle.laws.proofs.Base.{sym, ap, _∙_, needs, le-leb, lt-leb}
 use Rattle.schedule.specs.declared.Reading.{Reading}
 use Rattle.schedule.specs.Coded.{readOf}
-use Rattle.board.proofs.Telling.{answers, refused-answers}
-use Rattle.board.proofs.tells_of.Statement.{statement}
-use Rattle.board.proofs.tells_of.Tie as tie
+use Rattle.board_held.specs.Inner.{answers}
+use Rattle.board_held.proofs.Telling.{refused-answers}
+use Rattle.board_held.proofs.tells_of.Statement.{statement}
+use Rattle.board_held.proofs.tells_of.Tie as tie
 
 returns : tie.Need-returns
 returns c =

@@ -1,11 +1,11 @@
--- `board::entered_under_on` meets its contract: the entry is told from the places of the descriptions.
+-- `board_held::entered_under_on` meets its contract: the entry is told from the places of the descriptions.
 use Rattle.laws.proofs.Base.{sym, ap, _∙_, false, arith, needs, not-true, not-false}
-use Rattle.board.specs.Paper.{entryFor}
-use Rattle.board.specs.Coded.{lentSchedule}
-use Rattle.board.proofs.Cases.{entered-untold, tells-unknown}
-use Rattle.board.proofs.Telling.{Telling, telling, tells-by, entered-slot}
-use Rattle.board.proofs.entered_under_on.Statement.{statement}
-use Rattle.board.proofs.entered_under_on.Tie as tie
+use Rattle.board_held.specs.Paper.{entryFor}
+use Rattle.board_held.specs.Coded.{lentSchedule}
+use Rattle.board_held.proofs.Cases.{entered-untold, tells-unknown}
+use Rattle.board_held.proofs.Telling.{Telling, telling, tells-by, entered-slot}
+use Rattle.board_held.proofs.entered_under_on.Statement.{statement}
+use Rattle.board_held.proofs.entered_under_on.Tie as tie
 
 returns : tie.Need-returns
 returns c =
@@ -18,7 +18,7 @@ returns-2 c =
     let a = c .before .before .before .before .before .args in
     let t = c .before .before .read-places in
     sym (entered-untold (lentSchedule (a .known) (a .message .now) (a .received)) (a .slot)
-    (tells-by (a .known) (a .message .now) (a .received) (a .slot) (t .result) (t .ensures) (not-false _ (c .before .before .before .if1 .left)) false
+    (tells-by (a .message .now) (a .received) (a .slot) (t .result) (t .ensures) (a .known) false (not-false _ (c .before .before .before .if1 .left))
     (sym (c .before .tells-of .ensures) ∙ not-true _ (c .if2 .taken))))
 
 -- the message tells of the slot
