@@ -1,7 +1,8 @@
 -- What an intake call leaves, as the line of its answer takes it.
 use Rattle.laws.proofs.Base.{_≡_, refl, Bool, true, false, cond, List, [], ℕ, eqb, eqb-true}
 use Rattle.block.specs.Paper.{Given}
-use Rattle.checker.specs.Inner.{Plans, checkBeside}
+use Rattle.checker.specs.Inner.{checkBeside}
+use Rattle.checker_plans.specs.Inner.{Plans}
 use Rattle.lines.proofs.Complete.{Complete, handed-output}
 use Rattle.lines.proofs.Listed.{Taken}
 use Rattle.cbcheck.specs.Listing.{line, lineOf, lineFor}

@@ -8,7 +8,8 @@ use lib.Dec.{eqb}
 use Rattle.block.specs.Paper.{Held, Given}
 use Rattle.block_history.specs.Claims.{after}
 use Rattle.checker.specs.Paper.{Checked}
-use Rattle.checker.specs.Inner.{Plans, checkBeside}
+use Rattle.checker.specs.Inner.{checkBeside}
+use Rattle.checker_plans.specs.Inner.{Plans}
 use Rattle.lines.specs.Paper.{decimal, cut, listing}
 use Rattle.words.specs.Words.{words}
 

@@ -6,13 +6,14 @@ ghost use Rattle.refusals.specs.Number.{numberOf};
 ghost use Rattle.block.specs.Paper.{start};
 ghost use Rattle.block_history.specs.Claims.{after};
 ghost use Rattle.firmware.specs.Paper.{lent, heldIn};
-ghost use Rattle.checker.specs.Coded.{checkedOf, plansOf};
+ghost use Rattle.checker.specs.Coded.{checkedOf};
+ghost use Rattle.checker_plans.specs.Coded.{plansOf};
 ghost use Rattle.lines.specs.Paper.{cut};
 ghost use Rattle.lines.specs.Inner.{Puts};
 ghost use Rattle.lines.specs.Turns.{GoesOn};
 ghost use Rattle.cbcheck.specs.Listing.{numbers, reason, line, lineOf, lineFor, lines};
 use checker::Checking;
-use checker::Plans;
+use checker_plans::Plans;
 use libc::STDERR_FILENO;
 use lines::Asked;
 use lines::Opened;
@@ -62,7 +63,7 @@ fn check_named() {
     }
     let plan = current.plan;
     let older = previous.plan;
-    check_log(checker::beside(plan, older));
+    check_log(checker_plans::beside(plan, older));
 }
 
 fn check_log(plans: Plans) {

@@ -1,5 +1,5 @@
 -- What is answered of a message, told from the places of its descriptions.
-use Rattle.laws.proofs.Base.{_≡_, sym, ap, _∙_, not, List, map, ℕ, _≤_, getD, List·getD-map}
+use Rattle.laws.proofs.Base.{_≡_, sym, ap, _∙_, not, List, map, ℕ, suc, _≤_, getD, List·getD-map}
 use Rattle.laws.specs.Upto.{lowest}
 use Rattle.laws.proofs.Lowest.{lowest-agree}
 use Rattle.refusals.specs.Number.{numberOf}
@@ -15,7 +15,8 @@ use Rattle.plan.specs.declared.Planned.{Planned as PlannedCode}
 use Rattle.plan.specs.Paper.{Planned}
 use Rattle.plan.specs.Coded.{plannedOf}
 use Rattle.plan.specs.Inner.{nothing}
-use Rattle.checker.specs.Paper.{trueBy, unchecked, untrueAt}
+use Rattle.checker_slots.specs.Inner.{trueBy}
+use Rattle.checker.specs.Paper.{unchecked, untrueAt}
 use Rattle.checker.specs.Inner.{untrueTo, compared}
 use Rattle.checker.specs.Coded.{untrueBy}
 use Rattle.checker.proofs.Answers.{read-refused, end-differs, all-true, one-untrue}
@@ -47,8 +48,8 @@ module _ (n : ℕ) (xs : List PlannedCode) (m : List ℕ) (received : ℕ) (t : 
           l
           ∙ lowest-agree (untrueBy xs m (t .places)) (untrueTo (map plannedOf xs) m) e
           (λ i h.
-          ap (λ (d : Told). not (trueBy (plannedOf (getD xs i nothing)) i (record { new = new m i; told = d }))) (told-at m received (placedOf t) q e good i h)
-          ∙ ap (λ (v : Planned). not (trueBy v i (shown m i))) (sym (List·getD-map plannedOf xs i nothing)))
+          ap (λ (d : Told). not (trueBy (plannedOf (getD xs i nothing)) (suc i) (record { new = new m i; told = d }))) (told-at m received (placedOf t) q e good i h)
+          ∙ ap (λ (v : Planned). not (trueBy v (suc i) (shown m i))) (sym (List·getD-map plannedOf xs i nothing)))
           ∙ ap (lowest (untrueTo (map plannedOf xs) m)) w
 
       pub found-true : s ≡ 0 → unchecked 0 ≡ compared n (map plannedOf xs) m received

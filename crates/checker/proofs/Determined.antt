@@ -4,13 +4,13 @@ use Rattle.refusals.specs.Number.{numberOf}
 use Rattle.refusals.proofs.Inverse.{refusalOf, refusalOf-numberOf, numberOf-positive}
 use Rattle.plan.specs.declared.Plan.{Plan as PlanCode}
 use Rattle.plan.specs.Coded.{planOf}
-use Rattle.plan.proofs.Determined.{verdict-injective, said-injective}
+use Rattle.checker_plans.specs.declared.Plans.{Plans}
+use Rattle.checker_plans.specs.Coded.{plansOf}
 use Rattle.checker.specs.declared.Checking.{Checking}
 use Rattle.checker.specs.declared.Checking.the-variants.{True, Refused}
 use Rattle.checker.specs.Paper.{Checked, check}
-use Rattle.checker.specs.Coded.{checkedOf, plansOf}
-use Rattle.checker.specs.Inner.{Plans, beside, checkBeside}
-use Rattle.checker.specs.declared.Plans.{Plans as PlansCode}
+use Rattle.checker.specs.Coded.{checkedOf}
+use Rattle.checker.specs.Inner.{checkBeside}
 
 -- the code's answer by the paper's
 abbrev checkingFrom : Checked → Checking
@@ -29,14 +29,6 @@ pub determined-check-schedule : (current previous : PlanCode) (m : List ℕ) (re
     → checkedOf s ≡ check (planOf current) (planOf previous) m received → r ≡ s
 determined-check-schedule current previous m received r s a b = checking-injective r s (a ∙ sym b)
 
-pub determined-check-beside : (plans : PlansCode) (m : List ℕ) (received : ℕ) (r s : Checking)
+pub determined-check-beside : (plans : Plans) (m : List ℕ) (received : ℕ) (r s : Checking)
     → checkedOf r ≡ checkBeside (plansOf plans) m received → checkedOf s ≡ checkBeside (plansOf plans) m received → r ≡ s
 determined-check-beside plans m received r s a b = checking-injective r s (a ∙ sym b)
-
-pub determined-beside : (current previous : PlanCode) (r s : PlansCode)
-    → plansOf r ≡ beside (planOf current) (planOf previous) → plansOf s ≡ beside (planOf current) (planOf previous) → r ≡ s
-determined-beside current previous r s a b =
-    let e = a ∙ sym b in
-    let verdict = verdict-injective (r .verdict) (s .verdict) (ap (λ (x : Plans). x .number) e) in
-    let said = said-injective (r .said) (s .said) (ap (λ (x : Plans). x .said) e) in
-    λ i. record { verdict = verdict i; count = e i .count; said = said i }

@@ -5,7 +5,8 @@ use Rattle.laws.proofs.Upto.{below-suc}
 use Rattle.schedule.specs.Paper.{Told, first, again, optional, advised, Shown}
 use Rattle.plan.specs.Paper.{Plan, planNumber, entryAt, lowestAt, low15At, Planned, plannedAt}
 use Rattle.plan.proofs.Lowest.{leading}
-use Rattle.checker.specs.Paper.{leads, repeats, mayTell, newFor, isTrue}
+use Rattle.checker_slots.specs.Inner.{leads, repeats, mayTell, newFor}
+use Rattle.checker.specs.Paper.{isTrue}
 use Rattle.checker_truth.specs.Claims.{TrueAt}
 use Rattle.plan.proofs.GoodPlan.{kind-few}
 
@@ -21,32 +22,32 @@ module _ (c p : Plan) (i : ℕ) where
   Tells optional = (entryAt c i .kind ≡ 0) ⊎ ((entryAt c i .kind ≡ 2) × (lowestAt c i ≡ suc i → ⊥))
   Tells advised = (entryAt c i .kind ≡ 1) ⊎ (entryAt c i .kind ≡ 2)
 
-  leads-is : leads v i ≡ true → (entryAt c i .kind ≡ 2) × (lowestAt c i ≡ suc i)
+  leads-is : leads v (suc i) ≡ true → (entryAt c i .kind ≡ 2) × (lowestAt c i ≡ suc i)
   leads-is e =
       let b = both (eqb (entryAt c i .kind) 2) (eqb (lowestAt c i) (suc i)) e in
       (eqb-true (entryAt c i .kind) 2 (b .0), eqb-true (lowestAt c i) (suc i) (b .1))
 
-  repeats-is : repeats v i ≡ true → (entryAt c i .kind ≡ 2) × (lowestAt c i ≡ suc i → ⊥)
+  repeats-is : repeats v (suc i) ≡ true → (entryAt c i .kind ≡ 2) × (lowestAt c i ≡ suc i → ⊥)
   repeats-is e =
       let b = both (eqb (entryAt c i .kind) 2) (not (eqb (lowestAt c i) (suc i))) e in
       (eqb-true (entryAt c i .kind) 2 (b .0), eqb-false (lowestAt c i) (suc i) (not-true (eqb (lowestAt c i) (suc i)) (b .1)))
 
-  may-tells : (t : Told) → mayTell v i t ≡ true → Tells t
+  may-tells : (t : Told) → mayTell v (suc i) t ≡ true → Tells t
   may-tells (first x) e =
-      let b = both (leads v i) (eqb x (low15At c i)) e in
+      let b = both (leads v (suc i)) (eqb x (low15At c i)) e in
       let l = leads-is (b .0) in
       (l .0, l .1, eqb-true x (low15At c i) (b .1))
   may-tells (again n) e =
-      let b = both (repeats v i) (eqb n (lowestAt c i)) e in
+      let b = both (repeats v (suc i)) (eqb n (lowestAt c i)) e in
       let l = repeats-is (b .0) in
       (l .0, l .1, eqb-true n (lowestAt c i) (b .1))
   may-tells optional e =
-      ⊎-elim (λ a. inl (eqb-true (entryAt c i .kind) 0 a)) (λ b. inr (repeats-is b)) (either (eqb (entryAt c i .kind) 0) (repeats v i) e)
+      ⊎-elim (λ a. inl (eqb-true (entryAt c i .kind) 0 a)) (λ b. inr (repeats-is b)) (either (eqb (entryAt c i .kind) 0) (repeats v (suc i)) e)
   may-tells advised e =
       ⊎-elim (λ a. inl (eqb-true (entryAt c i .kind) 1 a)) (λ b. inr (eqb-true (entryAt c i .kind) 2 b))
       (either (eqb (entryAt c i .kind) 1) (eqb (entryAt c i .kind) 2) e)
 
-  tells-may : (t : Told) → Tells t → mayTell v i t ≡ true
+  tells-may : (t : Told) → Tells t → mayTell v (suc i) t ≡ true
   tells-may (first x) w =
       simp (eq-eqb (entryAt c i .kind) 2 (w .0), eq-eqb (lowestAt c i) (suc i) (w .1), eq-eqb x (low15At c i) (w .2))
   tells-may (again n) w =
@@ -88,7 +89,7 @@ module _ (c p : Plan) (i : ℕ) where
     pub true-keeps : isTrue c p i s ≡ true → TrueAt c p i s
     unfolding isTrue
     true-keeps e =
-        let b = both (mayTell v i (s .told)) (Bool·beq (s .new) (newFor v (s .told))) e in
+        let b = both (mayTell v (suc i) (s .told)) (Bool·beq (s .new) (newFor v (s .told))) e in
         let w = may-tells (s .told) (b .0) in
         let new = beq-true (s .new) (newFor v (s .told)) (b .1) in
         record {

@@ -1,7 +1,7 @@
 -- `cbcheck::list` meets its contract. The invariant: the text so far and the lines to come are those of the schedule messages.
 use Rattle.laws.proofs.Base.{_≡_, _∙_, _-_, arith, needs, now, length, take, drop}
 use Rattle.firmware.specs.Paper.{heldIn}
-use Rattle.checker.specs.Coded.{plansOf}
+use Rattle.checker_plans.specs.Coded.{plansOf}
 use Rattle.block.specs.Paper.{schedule}
 use Rattle.lines.proofs.Complete.{complete}
 use Rattle.lines.proofs.Listed.{Listed, Taken, answerAt, taken, line-room, listed-start, listed-turn, listed-end}

@@ -2,7 +2,7 @@
 use Rattle.laws.proofs.Base.{_≡_, sym, ap, _∙_, _-_, arith, length, take, length-take, length-take-le, needs, not-false}
 use Rattle.lines.proofs.Read.{long-chunk, goes-on}
 use Rattle.lines.proofs.Turns.{Going, going-start, turn-told, turn-going}
-use Rattle.checker.specs.Coded.{plansOf}
+use Rattle.checker_plans.specs.Coded.{plansOf}
 use Rattle.cbcheck.specs.Listing.{lineOf}
 use Rattle.cbcheck.proofs.list_all.Statement.{statement}
 use Rattle.cbcheck.proofs.list_all.Tie as tie

@@ -1,7 +1,7 @@
--- `checker::may_tell` meets its contract: each description by the tests that led to its answer.
+-- `checker_slots::may_tell` meets its contract: each description by the tests that led to its answer.
 use Rattle.laws.proofs.Base.{sym, _∙_, eq-eqb, ne-eqb, not-true, not-false, needs}
-use Rattle.checker.proofs.may_tell.Statement.{statement}
-use Rattle.checker.proofs.may_tell.Tie as tie
+use Rattle.checker_slots.proofs.may_tell.Statement.{statement}
+use Rattle.checker_slots.proofs.may_tell.Tie as tie
 
 returns : tie.Need-returns
 returns c =

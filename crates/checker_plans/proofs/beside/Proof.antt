@@ -1,10 +1,10 @@
--- `checker::beside` meets its contract: each answer is that of the first test that holds.
+-- `checker_plans::beside` meets its contract: each answer is that of the first test that holds.
 use Rattle.laws.proofs.Base.{sym, ap, _∙_, needs}
 use Rattle.refusals.proofs.Inverse.{numberOf-positive}
 use Rattle.plan.specs.Coded.{planOf, verdictOf}
-use Rattle.checker.proofs.Answers.{current-refused, previous-refused, empty-refused, good-said}
-use Rattle.checker.proofs.beside.Statement.{statement}
-use Rattle.checker.proofs.beside.Tie as tie
+use Rattle.checker_plans.proofs.Answers.{current-refused, previous-refused, empty-refused, good-said}
+use Rattle.checker_plans.proofs.beside.Statement.{statement}
+use Rattle.checker_plans.proofs.beside.Tie as tie
 
 returns : tie.Need-returns
 returns c =
