@@ -9,8 +9,7 @@ use Rattle.checker.specs.Paper.{check, isTrue}
 use Rattle.board.specs.Paper.{Wanted, isWanted, reads, decide}
 use Rattle.board_held.specs.Paper.{isHeld, enter, tellsOf, enteredUnder}
 use Rattle.board_obeyed.specs.Claims.{obeyed, Obeys, WantedPage, WantedExactly, Board, after, ended, HeldTruly, Leaves, GetsIn, fresh, noneLost}
-use Rattle.board_obeyed.proofs.Period.{none-held-truly}
-use Rattle.board_obeyed.proofs.Obeyed.{period-with-losses, stays-true, reads-once}
+use Rattle.board_obeyed.proofs.Obeyed.{none-held-truly, period-with-losses, stays-true, reads-once}
 use Rattle.laws.specs.Upto as upto
 
 -- a page of serial number 0010 and identifier 8001 in slots 1 and 2, advised, one of 0020 and 0005, optional, the first page again
