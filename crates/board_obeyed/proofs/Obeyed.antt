@@ -1,5 +1,5 @@
 -- A board that obeys an accepted schedule: what it reads, what it doesn't, and what it ends a period with.
-use Rattle.laws.proofs.Base.{_≡_, refl, sym, ap, _∙_, subst, Bool, true, false, false≢true, cond, not, and-false, or-true, List, _⊎_, ⊎-elim, ℕ, zero, suc, _-_, _%_, _≤_, _<_, eq-or-lt-of-le, le-of-suc-le-suc, not-suc-le-zero, arith, eqb, eqb-true, eqb-false, eq-eqb, le-leb, not-true}
+use Rattle.laws.proofs.Base.{_≡_, refl, sym, ap, _∙_, subst, Bool, true, false, false≢true, not, and-false, or-true, List, _⊎_, ⊎-elim, ℕ, zero, suc, _-_, _%_, _≤_, _<_, eq-or-lt-of-le, le-of-suc-le-suc, not-suc-le-zero, arith, eqb, eqb-true, eqb-false, eq-eqb, le-leb, not-true}
 use Rattle.laws.specs.Search.{some}
 use Rattle.laws.proofs.Search.{some-implies}
 use Rattle.laws.proofs.Tests.{true-or-false, both}

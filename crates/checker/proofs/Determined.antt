@@ -1,8 +1,10 @@
 -- Answers that meet the contract of `checker` are equal.
 use Rattle.laws.proofs.Base.{_≡_, refl, sym, ap, _∙_, cond, List, ℕ, eqb, ne-eqb}
+use Rattle.laws.specs.Determined.{Determined}
+use Rattle.laws.proofs.Determined.{determined-by}
 use Rattle.refusals.specs.Number.{numberOf}
 use Rattle.refusals.proofs.Inverse.{refusalOf, refusalOf-numberOf, numberOf-positive}
-use Rattle.plan.specs.declared.Plan.{Plan as PlanCode}
+use Rattle.plan.specs.declared.Plan.{Plan}
 use Rattle.plan.specs.Coded.{planOf}
 use Rattle.checker_plans.specs.declared.Plans.{Plans}
 use Rattle.checker_plans.specs.Coded.{plansOf}
@@ -24,11 +26,9 @@ checkingFrom-checkedOf (Refused r s) =
 checking-injective : (r s : Checking) → checkedOf r ≡ checkedOf s → r ≡ s
 checking-injective r s e = sym (checkingFrom-checkedOf r) ∙ ap checkingFrom e ∙ checkingFrom-checkedOf s
 
-pub determined-check-schedule : (current previous : PlanCode) (m : List ℕ) (received : ℕ) (r s : Checking)
-    → checkedOf r ≡ check (planOf current) (planOf previous) m received
-    → checkedOf s ≡ check (planOf current) (planOf previous) m received → r ≡ s
-determined-check-schedule current previous m received r s a b = checking-injective r s (a ∙ sym b)
+pub determined-check-schedule : (current previous : Plan) (m : List ℕ) (received : ℕ)
+    → Determined (λ (r : Checking). checkedOf r ≡ check (planOf current) (planOf previous) m received)
+determined-check-schedule current previous m received = determined-by checkedOf checking-injective
 
-pub determined-check-beside : (plans : Plans) (m : List ℕ) (received : ℕ) (r s : Checking)
-    → checkedOf r ≡ checkBeside (plansOf plans) m received → checkedOf s ≡ checkBeside (plansOf plans) m received → r ≡ s
-determined-check-beside plans m received r s a b = checking-injective r s (a ∙ sym b)
+pub determined-check-beside : (plans : Plans) (m : List ℕ) (received : ℕ) → Determined (λ (r : Checking). checkedOf r ≡ checkBeside (plansOf plans) m received)
+determined-check-beside plans m received = determined-by checkedOf checking-injective

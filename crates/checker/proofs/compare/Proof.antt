@@ -1,5 +1,5 @@
 -- `checker::compare` meets its contract: each answer is told from the places of the message's descriptions.
-use Rattle.laws.proofs.Base.{_≡_, arith, needs}
+use Rattle.laws.proofs.Base.{arith, needs}
 use Rattle.checker.proofs.Comparing.{found-refused, found-last, found-differs, found-true, found-untrue}
 use Rattle.checker.proofs.compare.Statement.{statement}
 use Rattle.checker.proofs.compare.Tie as tie
