@@ -29,9 +29,9 @@ module _ (s : Schedule) (n : ℕ) (w : Wanted) (h : ℕ) where
     pub decided-as : (b : Bool) → w .count ≤ 64 → reads s n w h ≡ b → record { number = 0; read = b } ≡ decide s n w h
     decided-as b m e = sym (decide-reads m ∙ (λ j. record { number = 0; read = e j }))
 
-  pub reads-untold : tellsOf s n ≡ false → reads s n w h ≡ true
-  unfolding reads
-  reads-untold e = rw e
+    pub decided-untold : w .count ≤ 64 → tellsOf s n ≡ false → record { number = 0; read = true } ≡ decide s n w h
+    unfolding reads
+    decided-untold m e = decided-as true m (rw e)
 
   pub reads-told : tellsOf s n ≡ true → reads s n w h ≡ readsFor (tells (s .message)) w h (tells (s .message) (n - 1))
   unfolding reads

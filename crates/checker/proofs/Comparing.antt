@@ -16,16 +16,19 @@ use Rattle.plan.specs.Paper.{Planned}
 use Rattle.plan.specs.Coded.{plannedOf}
 use Rattle.plan.specs.Inner.{nothing}
 use Rattle.checker_slots.specs.Inner.{trueBy}
-use Rattle.checker.specs.Paper.{unchecked, untrueAt}
+use Rattle.checker.specs.Paper.{Checked, unchecked, untrueAt}
 use Rattle.checker.specs.Inner.{untrueTo, compared}
 use Rattle.checker.specs.Coded.{untrueBy}
 use Rattle.checker.proofs.Answers.{read-refused, end-differs, all-true, one-untrue}
 
 module _ (n : ℕ) (xs : List PlannedCode) (m : List ℕ) (received : ℕ) (t : Placed) (q : placedOf t ≡ placed m received) where
+  abbrev answer : Checked
+  answer = compared n (map plannedOf xs) m received
+
   read-number : read m received .number ≡ readOf (t .answer) .number
   read-number = sym (ap (λ (l : Places). l .read .number) q ∙ ap (λ (r : Reads). r .number) (read-placed m received))
 
-  pub found-refused : (r : Refusal) → t .answer ≡ Refused r → unchecked (numberOf r) ≡ compared n (map plannedOf xs) m received
+  pub found-refused : (r : Refusal) → t .answer ≡ Refused r → unchecked (numberOf r) ≡ answer
   found-refused r a =
       read-refused n (map plannedOf xs) m received (numberOf r) (numberOf-positive r) (read-number ∙ ap (λ (x : Reading). readOf x .number) a)
 
@@ -39,7 +42,7 @@ module _ (n : ℕ) (xs : List PlannedCode) (m : List ℕ) (received : ℕ) (t : 
     pub found-last : e ≤ 48
     found-last = good .last
 
-    pub found-differs : (e ≡ n → ⊥) → untrueAt 0 ≡ compared n (map plannedOf xs) m received
+    pub found-differs : (e ≡ n → ⊥) → untrueAt 0 ≡ answer
     found-differs d = end-differs n (map plannedOf xs) m received reads (λ w. d (good .ends ∙ w))
 
     module _ (w : e ≡ n) (s : ℕ) (l : s ≡ lowest (untrueBy xs m (t .places)) e) where
@@ -52,8 +55,8 @@ module _ (n : ℕ) (xs : List PlannedCode) (m : List ℕ) (received : ℕ) (t : 
           ∙ ap (λ (v : Planned). not (trueBy v (suc i) (shown m i))) (sym (List·getD-map plannedOf xs i nothing)))
           ∙ ap (lowest (untrueTo (map plannedOf xs) m)) w
 
-      pub found-true : s ≡ 0 → unchecked 0 ≡ compared n (map plannedOf xs) m received
+      pub found-true : s ≡ 0 → unchecked 0 ≡ answer
       found-true z = all-true n (map plannedOf xs) m received reads (sym (good .ends) ∙ w) s found z
 
-      pub found-untrue : (s ≡ 0 → ⊥) → untrueAt s ≡ compared n (map plannedOf xs) m received
+      pub found-untrue : (s ≡ 0 → ⊥) → untrueAt s ≡ answer
       found-untrue z = one-untrue n (map plannedOf xs) m received reads (sym (good .ends) ∙ w) s found z

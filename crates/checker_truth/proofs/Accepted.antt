@@ -34,15 +34,24 @@ passed : (a : ℕ) → not (eqb a 0) ≡ false → a ≡ 0
 passed a h = eqb-true a 0 (not-false (eqb a 0) h)
 
 module _ (c p : Plan) (m : List ℕ) (received : ℕ) where
+  abbrev checked : Checked
+  checked = check c p m received
+
+  abbrev true-at : ℕ → Bool
+  true-at i = isTrue c p i (shown m i)
+
+  abbrev IsTruthful : Type 0
+  IsTruthful = Truthful c p m received
+
   -- neither the plans nor the reader refuse, and the verdict on the slots is the answer
   record Answered : Type 0 where
     current : planNumber c ≡ 0
     previous : planNumber p ≡ 0
     reads : read m received .number ≡ 0
-    answer : check c p m received ≡ verdict c p m
+    answer : checked ≡ verdict c p m
 
   -- so where the answer is a number that none of them refuses by
-  answered : (n : ℕ) → Other n (faults c p m received) → check c p m received .number ≡ n → Answered
+  answered : (n : ℕ) → Other n (faults c p m received) → checked .number ≡ n → Answered
   unfolding check
   answered n others e =
       let w = unrefused (λ (x : Checked). x .number) unchecked (λ k. refl) (faults c p m received) (verdict c p m) n others e in
@@ -54,12 +63,12 @@ module _ (c p : Plan) (m : List ℕ) (received : ℕ) where
         answer = w .1;
       }
 
-  answered-0 : check c p m received .number ≡ 0 → Answered
+  answered-0 : checked .number ≡ 0 → Answered
   answered-0 =
       answered 0
       (unless0-numbered (planNumber c), (unless0-numbered (planNumber p), ((λ t e. omega arith), (unless0-numbered (read m received .number), tt))))
 
-  answered-40 : check c p m received .number ≡ 40 → Answered
+  answered-40 : checked .number ≡ 40 → Answered
   answered-40 =
       answered 40
       ((λ t e. omega (arith, plan-low c)), ((λ t e. omega (arith, plan-low p)), ((λ t e. omega arith), ((λ t e. omega (arith, number-low m received)), tt))))
@@ -67,9 +76,9 @@ module _ (c p : Plan) (m : List ℕ) (received : ℕ) where
   -- the verdict on the slots
   data Judged (r : Checked) : Type 0 where
     differs : (end m ≡ c .count → ⊥) → r ≡ untrueAt 0 → Judged r
-    all-pass : end m ≡ c .count → ((i : ℕ) → i < c .count → isTrue c p i (shown m i) ≡ true) → r ≡ unchecked 0 → Judged r
-    one-fails : (i : ℕ) → end m ≡ c .count → i < c .count → isTrue c p i (shown m i) ≡ false
-        → ((j : ℕ) → j < i → isTrue c p j (shown m j) ≡ true) → r ≡ untrueAt (suc i) → Judged r
+    all-pass : end m ≡ c .count → ((i : ℕ) → i < c .count → true-at i ≡ true) → r ≡ unchecked 0 → Judged r
+    one-fails : (i : ℕ) → end m ≡ c .count → i < c .count → true-at i ≡ false
+        → ((j : ℕ) → j < i → true-at j ≡ true) → r ≡ untrueAt (suc i) → Judged r
 
   verdict-is : Judged (verdict c p m)
   verdict-is =
@@ -79,58 +88,58 @@ module _ (c p : Plan) (m : List ℕ) (received : ℕ) where
     where
       by-lowest : (s : ℕ) → lowest (untrue c p m) (c .count) ≡ s → Lowest (untrue c p m) (c .count) s → eqb (end m) (c .count) ≡ true → Judged (verdict c p m)
       by-lowest s q (none-passes z none) e =
-          all-pass (eqb-true (end m) (c .count) e) (λ i l. not-false (isTrue c p i (shown m i)) (none i l)) (rw (e, q, z))
+          all-pass (eqb-true (end m) (c .count) e) (λ i l. not-false (true-at i) (none i l)) (rw (e, q, z))
       by-lowest s q (first-passes i z l fails lower) e =
-          one-fails i (eqb-true (end m) (c .count) e) l (not-true (isTrue c p i (shown m i)) fails)
-          (λ j h. not-false (isTrue c p j (shown m j)) (lower j h)) (rw (e, q, z, ne-eqb (suc i) 0 (λ n. omega arith)))
+          one-fails i (eqb-true (end m) (c .count) e) l (not-true (true-at i) fails)
+          (λ j h. not-false (true-at j) (lower j h)) (rw (e, q, z, ne-eqb (suc i) 0 (λ n. omega arith)))
 
-  truthful : check c p m received .number ≡ 0 → Truthful c p m received
+  truthful : checked .number ≡ 0 → IsTruthful
   truthful z = judge (answered-0 z .answer) verdict-is
     where
       a : Answered
       a = answered-0 z
 
-      number : (r : Checked) → check c p m received ≡ r → r .number ≡ 0
+      number : (r : Checked) → checked ≡ r → r .number ≡ 0
       number r e = sym (ap (λ (x : Checked). x .number) e) ∙ z
 
-      judge : {r : Checked} → check c p m received ≡ r → Judged r → Truthful c p m received
+      judge : {r : Checked} → checked ≡ r → Judged r → IsTruthful
       judge e (differs d q) = absurd (let n = number (untrueAt 0) (e ∙ q) in omega arith)
       judge e (all-pass w all q) =
           record {
             current-good = a .current;
             previous-good = a .previous;
             reads = a .reads;
-            ends = w;
+            ends = omega arith;
             slots = λ i l. true-keeps c p i (shown m i) (all i l);
           }
       judge e (one-fails i w l f lower q) = absurd (let n = number (untrueAt (suc i)) (e ∙ q) in omega arith)
 
-  judged-good : planNumber c ≡ 0 → planNumber p ≡ 0 → (c .count ≡ 0 → ⊥) → read m received .number ≡ 0 → check c p m received ≡ verdict c p m
+  judged-good : planNumber c ≡ 0 → planNumber p ≡ 0 → (c .count ≡ 0 → ⊥) → read m received .number ≡ 0 → checked ≡ verdict c p m
   unfolding check
   judged-good g h some r = simp (g, h, ne-eqb (c .count) 0 some, r)
 
-  accepts : Truthful c p m received → check c p m received ≡ unchecked 0
+  accepts : IsTruthful → checked ≡ unchecked 0
   accepts t =
       let some : c .count ≡ 0 → ⊥ = λ z. let l = end-some m received (t .reads) in let w = t .ends in omega arith in
       let none = lowest-none (untrue c p m) (c .count) (λ i l. ap not (keeps-true c p i (shown m i) (t .current-good) l (t .slots i l))) in
       judged-good (t .current-good) (t .previous-good) some (t .reads) ∙ rw (eq-eqb (end m) (c .count) (t .ends), none)
 
-  untruthful : planNumber c ≡ 0 → planNumber p ≡ 0 → (c .count ≡ 0 → ⊥) → read m received .number ≡ 0 → (Truthful c p m received → ⊥)
-      → check c p m received .number ≡ 40
+  untruthful : planNumber c ≡ 0 → planNumber p ≡ 0 → (c .count ≡ 0 → ⊥) → read m received .number ≡ 0 → (IsTruthful → ⊥)
+      → checked .number ≡ 40
   untruthful g h some r t = go (judged-good g h some r) verdict-is
     where
-      go : {x : Checked} → check c p m received ≡ x → Judged x → check c p m received .number ≡ 40
+      go : {x : Checked} → checked ≡ x → Judged x → checked .number ≡ 40
       go e (differs d q) = rw (e, q)
       go e (all-pass w all q) = absurd (t (truthful (rw (e, q))))
       go e (one-fails i w l f lower q) = rw (e, q)
 
-  names : check c p m received .number ≡ 40 → Names c p m (check c p m received .slot)
+  names : checked .number ≡ 40 → Names c p m (checked .slot)
   names z = judge (answered-40 z .answer) verdict-is
     where
-      slot : (r : Checked) → check c p m received ≡ r → Names c p m (r .slot) → Names c p m (check c p m received .slot)
+      slot : (r : Checked) → checked ≡ r → Names c p m (r .slot) → Names c p m (checked .slot)
       slot r e w = rw e w
 
-      judge : {r : Checked} → check c p m received ≡ r → Judged r → Names c p m (check c p m received .slot)
+      judge : {r : Checked} → checked ≡ r → Judged r → Names c p m (checked .slot)
       judge e (differs d q) = slot (untrueAt 0) (e ∙ q) (end-differs d)
       judge e (all-pass w all q) = absurd (let n = sym (ap (λ (x : Checked). x .number) (e ∙ q)) ∙ z in omega arith)
       judge e (one-fails i w l f lower q) =
