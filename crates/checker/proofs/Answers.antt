@@ -15,22 +15,3 @@ module _ (b : Plans) (m : List ℕ) (received : ℕ) where
   pub plans-good : b .number ≡ 0 → compared (b .count) (b .said) m received ≡ checkBeside b m received
   unfolding checkBeside
   plans-good z = rw z
-
-module _ (n : ℕ) (v : List Planned) (m : List ℕ) (received : ℕ) where
-  pub read-refused : (k : ℕ) → (k ≡ 0 → ⊥) → read m received .number ≡ k → unchecked k ≡ compared n v m received
-  unfolding compared
-  read-refused k z e = rw (e, ne-eqb k 0 z)
-
-  module _ (r : read m received .number ≡ 0) where
-    pub end-differs : (end m ≡ n → ⊥) → untrueAt 0 ≡ compared n v m received
-    unfolding compared
-    end-differs d = rw (r, ne-eqb (end m) n d)
-
-    module _ (e : end m ≡ n) (s : ℕ) (l : s ≡ lowest (untrueTo v m) n) where
-      pub all-true : s ≡ 0 → unchecked 0 ≡ compared n v m received
-      unfolding compared
-      all-true z = rw (r, eq-eqb (end m) n e, ← l, eq-eqb s 0 z)
-
-      pub one-untrue : (s ≡ 0 → ⊥) → untrueAt s ≡ compared n v m received
-      unfolding compared
-      one-untrue z = rw (r, eq-eqb (end m) n e, ← l, ne-eqb s 0 z)

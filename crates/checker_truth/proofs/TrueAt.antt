@@ -33,47 +33,47 @@ module _ (c p : Plan) (i : ℕ) where
 
   leads-is : leads v (suc i) ≡ true → (kind ≡ 2) × (lowest ≡ suc i)
   leads-is e =
-      let b = both (eqb (kind) 2) (eqb (lowest) (suc i)) e in
-      (eqb-true (kind) 2 (b .0), eqb-true (lowest) (suc i) (b .1))
+      let b = both (eqb kind 2) (eqb lowest (suc i)) e in
+      (eqb-true kind 2 (b .0), eqb-true lowest (suc i) (b .1))
 
   repeats-is : repeats v (suc i) ≡ true → (kind ≡ 2) × (lowest ≡ suc i → ⊥)
   repeats-is e =
-      let b = both (eqb (kind) 2) (not (eqb (lowest) (suc i))) e in
-      (eqb-true (kind) 2 (b .0), eqb-false (lowest) (suc i) (not-true (eqb (lowest) (suc i)) (b .1)))
+      let b = both (eqb kind 2) (not (eqb lowest (suc i))) e in
+      (eqb-true kind 2 (b .0), eqb-false lowest (suc i) (not-true (eqb lowest (suc i)) (b .1)))
 
   may-tells : (t : Told) → mayTell v (suc i) t ≡ true → Tells t
   may-tells (first x) e =
-      let b = both (leads v (suc i)) (eqb x (low15)) e in
+      let b = both (leads v (suc i)) (eqb x low15) e in
       let l = leads-is (b .0) in
-      (l .0, l .1, eqb-true x (low15) (b .1))
+      (l .0, l .1, eqb-true x low15 (b .1))
   may-tells (again n) e =
-      let b = both (repeats v (suc i)) (eqb n (lowest)) e in
+      let b = both (repeats v (suc i)) (eqb n lowest) e in
       let l = repeats-is (b .0) in
-      (l .0, l .1, eqb-true n (lowest) (b .1))
+      (l .0, l .1, eqb-true n lowest (b .1))
   may-tells optional e =
-      ⊎-elim (λ a. inl (eqb-true (kind) 0 a)) (λ b. inr (repeats-is b)) (either (eqb (kind) 0) (repeats v (suc i)) e)
+      ⊎-elim (λ a. inl (eqb-true kind 0 a)) (λ b. inr (repeats-is b)) (either (eqb kind 0) (repeats v (suc i)) e)
   may-tells advised e =
-      ⊎-elim (λ a. inl (eqb-true (kind) 1 a)) (λ b. inr (eqb-true (kind) 2 b))
-      (either (eqb (kind) 1) (eqb (kind) 2) e)
+      ⊎-elim (λ a. inl (eqb-true kind 1 a)) (λ b. inr (eqb-true kind 2 b))
+      (either (eqb kind 1) (eqb kind 2) e)
 
   tells-may : (t : Told) → Tells t → mayTell v (suc i) t ≡ true
   tells-may (first x) w =
-      simp (eq-eqb (kind) 2 (w .0), eq-eqb (lowest) (suc i) (w .1), eq-eqb x (low15) (w .2))
+      simp (eq-eqb kind 2 (w .0), eq-eqb lowest (suc i) (w .1), eq-eqb x low15 (w .2))
   tells-may (again n) w =
-      simp (eq-eqb (kind) 2 (w .0), ne-eqb (lowest) (suc i) (w .1), eq-eqb n (lowest) (w .2))
-  tells-may optional (inl k) = simp (eq-eqb (kind) 0 k)
-  tells-may optional (inr w) = rw (w .0, ne-eqb (lowest) (suc i) (w .1))
-  tells-may advised (inl k) = simp (eq-eqb (kind) 1 k)
+      simp (eq-eqb kind 2 (w .0), ne-eqb lowest (suc i) (w .1), eq-eqb n lowest (w .2))
+  tells-may optional (inl k) = simp (eq-eqb kind 0 k)
+  tells-may optional (inr w) = rw (w .0, ne-eqb lowest (suc i) (w .1))
+  tells-may advised (inl k) = simp (eq-eqb kind 1 k)
   tells-may advised (inr k) = rw k
 
-  lowest-tells : (t : Told) → Tells t → kind ≡ 2 → lowest ≡ suc i → (t ≡ first (low15)) ⊎ (t ≡ advised)
+  lowest-tells : (t : Told) → Tells t → kind ≡ 2 → lowest ≡ suc i → (t ≡ first low15) ⊎ (t ≡ advised)
   lowest-tells (first x) w k l = inl (ap first (w .2))
   lowest-tells (again n) w k l = absurd (w .1 l)
   lowest-tells optional (inl z) k l = absurd (omega arith)
   lowest-tells optional (inr w) k l = absurd (w .1 l)
   lowest-tells advised w k l = inr refl
 
-  later-tells : (t : Told) → Tells t → kind ≡ 2 → lowest < suc i → (t ≡ again (lowest)) ⊎ ((t ≡ advised) ⊎ (t ≡ optional))
+  later-tells : (t : Told) → Tells t → kind ≡ 2 → lowest < suc i → (t ≡ again lowest) ⊎ ((t ≡ advised) ⊎ (t ≡ optional))
   later-tells (first x) w k l = absurd (omega arith)
   later-tells (again n) w k l = inl (ap again (w .2))
   later-tells optional w k l = inr (inr refl)
@@ -124,13 +124,13 @@ module _ (c p : Plan) (i : ℕ) where
           ⊎-elim
           (λ own.
           ⊎-elim
-          (λ e. passes (first (low15)) e (k, own, refl) (t .new-first (low15) e))
+          (λ e. passes (first low15) e (k, own, refl) (t .new-first low15 e))
           (λ e. passes advised e (inr k) (t .new-advised e))
           (t .lowest-slot k own))
           (λ below.
           let other : lowest ≡ suc i → ⊥ = λ q. omega arith in
           ⊎-elim
-          (λ e. passes (again (lowest)) e (k, other, refl) (t .new-repeat (lowest) e))
+          (λ e. passes (again lowest) e (k, other, refl) (t .new-repeat lowest e))
           (λ o.
           ⊎-elim
           (λ e. passes advised e (inr k) (t .new-advised e))

@@ -10,15 +10,6 @@ use Rattle.board.proofs.Deciding.{decided-slots}
 use Rattle.board.proofs.decide_on.Statement.{statement}
 use Rattle.board.proofs.decide_on.Tie as tie
 
-returns : tie.Need-returns
-returns c = sym (decide-low _ _ _ _ (c .if1 .taken))
-
-returns-2 : tie.Need-returns-2
-returns-2 c = sym (decide-high _ _ _ _ (c .if2 .taken))
-
-returns-3 : tie.Need-returns-3
-returns-3 c = sym (decide-many _ _ _ _ (record { some = search needs; low = search needs }) (c .if3 .taken))
-
 returns-4 : tie.Need-returns-4
 returns-4 c =
     let a = c .before .before .before .before .before .before .args in
@@ -59,5 +50,7 @@ pub decide-on-spec : {M : Type 1} → statement M
 decide-on-spec =
     tie.close
     (tie.spec
-    returns returns-2 returns-3 returns-4 (λ c κs. search needs) (λ c κs. search needs) returns-5
-    reads-for-requires (λ c. answered (c .before) true (c .if6 .taken)) (λ c. answered (c .before) false (c .if6 .left)))
+    (λ c. sym (decide-low _ _ _ _ (c .if1 .taken))) (λ c. sym (decide-high _ _ _ _ (c .if2 .taken)))
+    (λ c. sym (decide-many _ _ _ _ (record { some = search needs; low = search needs }) (c .if3 .taken)))
+    returns-4 (λ c κs. search needs) (λ c κs. search needs) returns-5 reads-for-requires
+    (λ c. answered (c .before) true (c .if6 .taken)) (λ c. answered (c .before) false (c .if6 .left)))

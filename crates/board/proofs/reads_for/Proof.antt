@@ -20,15 +20,6 @@ lower c =
     let s = c .before .before .before in
     rw (under c) (entry-named (toldBy (s .args .message .now) (s .args .t2)) (s .args .i) (s .pre .1))
 
-sub-told-at : tie.Need-sub-told-at
-sub-told-at c = lower c .some
-
-mul-told-at-2 : tie.Need-mul-told-at-2
-mul-told-at-2 c = omega (arith, lower c .low)
-
-array-read-told-at-2 : tie.Need-array-read-told-at-2
-array-read-told-at-2 c = omega (arith, lower c .some, lower c .low)
-
 returns : tie.Need-returns
 returns c =
     let entered = c .before .before .before .before in
@@ -44,6 +35,6 @@ pub reads-for-spec : {M : Type 1} → statement M
 reads-for-spec =
     tie.close
     (tie.spec
-    (λ c. search needs) (λ c. search needs) (λ c κs. search needs) (λ c. search needs)
-    (λ c κs. search needs) sub-told-at mul-told-at-2 array-read-told-at-2 (λ c κs. search needs)
-    (λ c κs. search needs) (λ c κs. search needs) (λ c κs. search needs) returns)
+    (λ c. search needs) (λ c. search needs) (λ c κs. search needs) (λ c. search needs) (λ c κs. search needs)
+    (λ c. lower c .some) (λ c. omega (arith, lower c .low)) (λ c. omega (arith, lower c .some, lower c .low))
+    (λ c κs. search needs) (λ c κs. search needs) (λ c κs. search needs) (λ c κs. search needs) returns)

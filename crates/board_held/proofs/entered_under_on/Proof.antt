@@ -28,15 +28,6 @@ tells c =
     let t = c .before .before .before .read-places in
     telling (a .message .now) (a .received) (a .slot) (t .result) (t .ensures) (sym (c .before .before .tells-of .ensures) ∙ not-false _ (c .before .if2 .left))
 
-sub-told-at : tie.Need-sub-told-at
-sub-told-at c = tells c .some
-
-mul-told-at : tie.Need-mul-told-at
-mul-told-at c = omega (arith, tells c .low)
-
-array-read-told-at : tie.Need-array-read-told-at
-array-read-told-at c = omega (arith, tells c .some, tells c .low)
-
 returns-3 : tie.Need-returns-3
 returns-3 c =
     let a = c .before .before .before .before .before .before .before .before .args in
@@ -49,5 +40,6 @@ pub entered-under-on-spec : {M : Type 1} → statement M
 entered-under-on-spec =
     tie.close
     (tie.spec
-    returns (λ c κs. search needs) (λ c κs. search needs) returns-2 sub-told-at mul-told-at
-    array-read-told-at (λ c κs. search needs) (λ c κs. search needs) returns-3)
+    returns (λ c κs. search needs) (λ c κs. search needs) returns-2 (λ c. tells c .some)
+    (λ c. omega (arith, tells c .low)) (λ c. omega (arith, tells c .some, tells c .low)) (λ c κs. search needs)
+    (λ c κs. search needs) returns-3)

@@ -4,14 +4,9 @@ use Rattle.board_held.proofs.Sets.{held-low, held-high, held-bit}
 use Rattle.board_held.proofs.is_held.Statement.{statement}
 use Rattle.board_held.proofs.is_held.Tie as tie
 
-returns : tie.Need-returns
-returns c = sym (held-low _ _ (c .if1 .taken))
-
-returns-2 : tie.Need-returns-2
-returns-2 c = sym (held-high _ _ (c .if2 .taken))
-
-returns-3 : tie.Need-returns-3
-returns-3 c = sym (held-bit _ _ (record { some = search needs; low = search needs }))
-
 pub is-held-spec : {M : Type 1} → statement M
-is-held-spec = tie.close (tie.spec returns returns-2 (λ c. search needs) returns-3)
+is-held-spec =
+    tie.close
+    (tie.spec
+    (λ c. sym (held-low _ _ (c .if1 .taken))) (λ c. sym (held-high _ _ (c .if2 .taken))) (λ c. search needs)
+    (λ c. sym (held-bit _ _ (record { some = search needs; low = search needs }))))

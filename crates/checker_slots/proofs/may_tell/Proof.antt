@@ -13,12 +13,6 @@ returns-2 c =
     let e = sym (c .before .repeats .ensures) ∙ not-true (c .before .repeats .result) (c .if2 .taken) in
     rw (c .before .before .before .description2 .given .1, e)
 
-returns-3 : tie.Need-returns-3
-returns-3 c = rw (c .before .before .enum-told .given .1, eq-eqb _ _ (c .if3 .taken))
-
-returns-4 : tie.Need-returns-4
-returns-4 c = rw (c .before .before .enum-told2 .given .1, eq-eqb _ _ (c .if4 .taken))
-
 returns-5 : tie.Need-returns-5
 returns-5 c =
     let b = c .before .before in
@@ -34,13 +28,13 @@ returns-6 c =
 returns-7 : tie.Need-returns-7
 returns-7 c = rw (c .before .before .before .enum-told .given .1, ne-eqb _ _ (c .before .if3 .left)) (c .repeats2 .ensures)
 
-returns-8 : tie.Need-returns-8
-returns-8 c = rw (c .before .before .before .enum-told2 .given .1, ne-eqb _ _ (c .before .if4 .left))
-
 pub may-tell-spec : {M : Type 1} → statement M
 may-tell-spec =
     tie.close
     (tie.spec
-    (λ c. search needs) (λ c κs. search needs) returns (λ c. search needs) (λ c κs. search needs)
-    returns-2 (λ c. search needs) (λ c. search needs) returns-3 (λ c κs. search needs)
-    (λ c. search needs) returns-4 returns-5 returns-6 returns-7 returns-8)
+    (λ c. search needs) (λ c κs. search needs) returns (λ c. search needs) (λ c κs. search needs) returns-2
+    (λ c. search needs) (λ c. search needs)
+    (λ c. rw (c .before .before .enum-told .given .1, eq-eqb _ _ (c .if3 .taken))) (λ c κs. search needs)
+    (λ c. search needs) (λ c. rw (c .before .before .enum-told2 .given .1, eq-eqb _ _ (c .if4 .taken)))
+    returns-5 returns-6 returns-7
+    (λ c. rw (c .before .before .before .enum-told2 .given .1, ne-eqb _ _ (c .before .if4 .left))))

@@ -4,12 +4,6 @@ use Rattle.board_held.proofs.Sets.{enter-low, enter-high, enter-held, e
 use Rattle.board_held.proofs.Held.with.Statement.{statement}
 use Rattle.board_held.proofs.Held.with.Tie as tie
 
-returns : tie.Need-returns
-returns c = sym (enter-low _ _ (c .if1 .taken))
-
-returns-2 : tie.Need-returns-2
-returns-2 c = sym (enter-high _ _ (c .if2 .taken))
-
 returns-3 : tie.Need-returns-3
 returns-3 c =
     let a = c .before .before .before .before .args in
@@ -27,4 +21,7 @@ returns-4 c =
 
 pub with-spec : {M : Type 1} → statement M
 with-spec =
-    tie.close (tie.spec returns returns-2 (λ c κs. search needs) returns-3 (λ c. search needs) add-t8 returns-4)
+    tie.close
+    (tie.spec
+    (λ c. sym (enter-low _ _ (c .if1 .taken))) (λ c. sym (enter-high _ _ (c .if2 .taken)))
+    (λ c κs. search needs) returns-3 (λ c. search needs) add-t8 returns-4)
