@@ -1,8 +1,9 @@
 -- The decision case by case, on plain facts.
 use Rattle.laws.proofs.Base.{_≡_, sym, _∙_, Bool, true, false, ℕ, _-_, _≤_, _<_, arith, le-leb, lt-leb, lt-ltb, le-ltb}
 use Rattle.schedule.specs.Paper.{tells}
-use Rattle.board.specs.Paper.{Wanted, Schedule, readsFor, tellsOf, reads, decide, undecided, entryFor, enteredUnder}
-use Rattle.board.proofs.Sets.{Slot}
+use Rattle.board_held.specs.Paper.{Schedule, tellsOf}
+use Rattle.board_held.proofs.Sets.{Slot}
+use Rattle.board.specs.Paper.{Wanted, readsFor, reads, decide, undecided}
 
 module _ (s : Schedule) (n : ℕ) (w : Wanted) (h : ℕ) where
   pub decide-low : n < 1 → decide s n w h ≡ undecided 41
@@ -28,23 +29,10 @@ module _ (s : Schedule) (n : ℕ) (w : Wanted) (h : ℕ) where
     pub decided-as : (b : Bool) → w .count ≤ 64 → reads s n w h ≡ b → record { number = 0; read = b } ≡ decide s n w h
     decided-as b m e = sym (decide-reads m ∙ (λ j. record { number = 0; read = e j }))
 
-  pub reads-untold : tellsOf s n ≡ false → reads s n w h ≡ true
-  unfolding reads
-  reads-untold e = rw e
+    pub decided-untold : w .count ≤ 64 → tellsOf s n ≡ false → record { number = 0; read = true } ≡ decide s n w h
+    unfolding reads
+    decided-untold m e = decided-as true m (rw e)
 
   pub reads-told : tellsOf s n ≡ true → reads s n w h ≡ readsFor (tells (s .message)) w h (tells (s .message) (n - 1))
   unfolding reads
   reads-told e = rw e
-
-module _ (s : Schedule) (n : ℕ) where
-  pub entered-untold : tellsOf s n ≡ false → enteredUnder s n ≡ n
-  unfolding enteredUnder
-  entered-untold e = rw e
-
-  pub entered-told : tellsOf s n ≡ true → enteredUnder s n ≡ entryFor n (tells (s .message) (n - 1))
-  unfolding enteredUnder
-  entered-told e = rw e
-
-  pub tells-unknown : s .known ≡ false → tellsOf s n ≡ false
-  unfolding tellsOf
-  tells-unknown e = rw e

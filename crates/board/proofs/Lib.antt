@@ -1,7 +1,5 @@
 -- What `board` proves.
-pub mod Bit
 pub mod Cases
+pub mod Deciding
 pub mod Determined
 pub mod Matching
-pub mod Sets
-pub mod Telling

@@ -18,19 +18,19 @@ module _ (x : ℕ) (ids : List MessageId) (i : ℕ) (inside : i < length ids) wh
   own = List·getD-map idOf ids i none
 
   -- one of the first n matches
-  pub matches-found : (n : ℕ) → i < n → getD ids i none .0 % 32768 ≡ x % 32768 → some (matches15 x) (take n (idsOf ids)) ≡ true
+  pub matches-found : (n : ℕ) → i < n → getD ids i none .0 % 0x8000 ≡ x % 0x8000 → some (matches15 x) (take n (idsOf ids)) ≡ true
   matches-found n l e = some-found (matches15 x) 0 n (idsOf ids) i l near (rw own (eq-eqb _ _ e))
 
   -- none of the first so far, and not the next
-  pub matches-turn : (getD ids i none .0 % 32768 ≡ x % 32768 → ⊥) → some (matches15 x) (take i (idsOf ids)) ≡ false → some (matches15 x) (take (i + 1) (idsOf ids)) ≡ false
+  pub matches-turn : (getD ids i none .0 % 0x8000 ≡ x % 0x8000 → ⊥) → some (matches15 x) (take i (idsOf ids)) ≡ false → some (matches15 x) (take (i + 1) (idsOf ids)) ≡ false
   matches-turn e before = some-turn (matches15 x) 0 (idsOf ids) i near before (rw own (ne-eqb _ _ e))
 
 -- the low 15 bits of an identifier match what it matches
-pub low15-wanted : (w : Wanted) (x : ℕ) → isWanted w (x % 32768) ≡ isWanted w x
+pub low15-wanted : (w : Wanted) (x : ℕ) → isWanted w (x % 0x8000) ≡ isWanted w x
 unfolding isWanted
-low15-wanted w x = some-agree (matches15 (x % 32768)) (matches15 x) (λ y. ap (eqb (y % 32768)) (mod-mod x 32768)) (take (w .count) (w .ids))
+low15-wanted w x = some-agree (matches15 (x % 0x8000)) (matches15 x) (λ y. ap (eqb (y % 0x8000)) (mod-mod x 0x8000)) (take (w .count) (w .ids))
 
 -- an identifier that is wanted, all 16 bits of it, matches
 pub wanted-matches : (w : Wanted) (x : ℕ) → some (λ (y : ℕ). eqb y x) (take (w .count) (w .ids)) ≡ true → isWanted w x ≡ true
 unfolding isWanted
-wanted-matches w x e = some-implies (λ (y : ℕ). eqb y x) (matches15 x) (λ y q. eq-eqb _ _ (ap (λ (z : ℕ). z % 32768) (eqb-true y x q))) (take (w .count) (w .ids)) e
+wanted-matches w x e = some-implies (λ (y : ℕ). eqb y x) (matches15 x) (λ y q. eq-eqb _ _ (ap (λ (z : ℕ). z % 0x8000) (eqb-true y x q))) (take (w .count) (w .ids)) e

@@ -1,14 +1,13 @@
 -- The code's values as document 01's numbers and lists.
 use Prim.Native.Nat.{ℕ}
-use mathlib.Core.Bool.{Bool, true, false}
+use mathlib.Core.Bool.{true, false}
 use mathlib.Core.List.{List, map}
 use Rattle.refusals.specs.Number.{numberOf}
 use Rattle.page.specs.declared.MessageId.{MessageId}
 use Rattle.board.specs.declared.Wanted.{Wanted as WantedCode}
-use Rattle.board.specs.declared.Schedule.{Schedule as ScheduleCode}
 use Rattle.board.specs.declared.Decision.{Decision}
 use Rattle.board.specs.declared.Decision.the-variants.{Read, Skip, Refused}
-use Rattle.board.specs.Paper.{Wanted, Schedule, Decided, undecided}
+use Rattle.board.specs.Paper.{Wanted, Decided, undecided}
 
 -- identifiers as their numbers
 abbrev pub idOf : MessageId → ℕ
@@ -19,13 +18,6 @@ idsOf xs = map idOf xs
 
 abbrev pub wantedOf : WantedCode → Wanted
 wantedOf w = record { count = w .count; ids = idsOf (w .ids) }
-
-abbrev pub scheduleOf : ScheduleCode → Schedule
-scheduleOf s = record { known = s .known; message = s .message; received = s .received }
-
--- a schedule whose message is lent
-abbrev pub lentSchedule : Bool → List ℕ → ℕ → Schedule
-lentSchedule known m received = record { known = known; message = m; received = received }
 
 -- 0 with read or skip, or the refusal's number with skip
 abbrev pub decidedOf : Decision → Decided

@@ -1,20 +1,22 @@
-// What a board does at a slot: read or skip, and the slots whose pages it holds.
+// What a board does at a slot: read or skip.
 ghost use mathlib.Core.Path.{_≡_};
 ghost use mathlib.Core.Bool.{_&&_, not, false};
 ghost use Prim.Native.Nat.{_≤_, _<_};
-ghost use lib.Dec.{eqb, leb};
 ghost use lib.ListN.{take};
 ghost use Rattle.laws.specs.Search.{some};
 ghost use Rattle.schedule.specs.Paper.{falseRepeat};
-ghost use Rattle.schedule.specs.Coded.{toldOf, readOf};
+ghost use Rattle.schedule.specs.Coded.{toldOf};
 ghost use Rattle.schedule.specs.Inner.{toldBy};
-ghost use Rattle.board.specs.Paper.{matches15, isWanted, isHeld, enter, firstMatches, readsFor, entryFor, decide as decideOf, enteredUnder};
+ghost use Rattle.board_held.specs.Paper.{isHeld};
+ghost use Rattle.board_held.specs.Coded.{scheduleOf, lentSchedule};
+ghost use Rattle.board.specs.Paper.{matches15, isWanted, firstMatches, readsFor, decide as decideOf};
 ghost use Rattle.board.specs.Inner.{readsBy};
-ghost use Rattle.board.specs.Coded.{idsOf, wantedOf, scheduleOf, lentSchedule, decidedOf};
+ghost use Rattle.board.specs.Coded.{idsOf, wantedOf, decidedOf};
+use board_held::Held;
+use board_held::Schedule;
 use page::MessageId;
 use refusals::Refusal;
 use schedule::Description;
-use schedule::Reading;
 use sizes::SLOTS;
 
 // 01 Numbers given, 42: the most identifiers that are wanted at a time.
@@ -24,16 +26,6 @@ const WANTED: usize = 64;
 pub struct Wanted {
     pub count: usize,
     pub ids: [MessageId; 64],
-}
-
-// The slots whose pages are held: slot n in bit n - 1, and the bits from 48 on mean nothing.
-pub struct Held(pub u64);
-
-// A schedule message and the octets received of it, where there is one.
-pub struct Schedule {
-    pub known: bool,
-    pub message: [u8; 88],
-    pub received: usize,
 }
 
 pub enum Decision {
@@ -66,49 +58,6 @@ fn is_wanted(wanted: Wanted, id: u16) -> bool
     any_matches(ids, wanted.count, id)
 }
 
-fn is_held(held: Held, slot: usize) -> bool
-    ensures { λ r. ⌜ r ≡ isHeld (held .0) slot ⌝ }
-{
-    if slot < 1 {
-        return false;
-    }
-    if slot > SLOTS {
-        return false;
-    }
-    (held.0 >> (slot - 1)) % 2 == 1
-}
-
-impl Held {
-    // The set with a slot entered.
-    pub fn with(self, slot: usize) -> Held
-        ensures { λ r. ⌜ r .0 ≡ enter (self .0) slot ⌝ }
-    {
-        if slot < 1 {
-            return self;
-        }
-        if slot > SLOTS {
-            return self;
-        }
-        if is_held(self, slot) {
-            return self;
-        }
-        Held(self.0 + (1u64 << (slot - 1)))
-    }
-}
-
-// Whether a schedule that the reader answered so tells of a slot.
-fn tells_of(answer: Reading, slot: usize) -> bool
-    ensures { λ r. ⌜ r ≡ (eqb (readOf answer .number) 0 && (leb 1 slot && leb slot (readOf answer .end))) ⌝ }
-{
-    let Reading::Read(_, end) = answer else {
-        return false;
-    };
-    if slot < 1 {
-        return false;
-    }
-    slot <= end
-}
-
 // Whether a description is a first transmission that matches.
 fn first_matches(description: Description, wanted: Wanted) -> bool
     requires { ⌜ wanted .count ≤ 64 ⌝ }
@@ -122,23 +71,11 @@ fn first_matches(description: Description, wanted: Wanted) -> bool
     }
 }
 
-// The slot that a page got at a slot is entered under, by what is told of the slot.
-fn entry_for(slot: usize, description: Description) -> usize
-    ensures { λ r. ⌜ r ≡ entryFor slot (toldOf description) ⌝ }
-{
-    match description {
-        Description::First(_) => slot,
-        Description::Repeat(first) => first as usize,
-        Description::Optional => slot,
-        Description::Advised => slot,
-    }
-}
-
 // Whether a first transmission that matches or not is still to be got, where its slot may be held.
 fn unless_held(matches: bool, held: Held, slot: usize) -> bool
     ensures { λ r. ⌜ r ≡ (matches && not (isHeld (held .0) slot)) ⌝ }
 {
-    if is_held(held, slot) {
+    if board_held::is_held(held, slot) {
         return false;
     }
     matches
@@ -162,7 +99,7 @@ fn reads_for(message: &[u8], places: [usize; 48], i: usize, wanted: Wanted, held
     ensures { λ r. ⌜ r ≡ readsFor (toldBy (now (message .entry)) places) (wantedOf wanted) (held .0) (toldBy (now (message .entry)) places i) ⌝ }
 {
     let description = schedule::told_at(message, places[i]);
-    let under = entry_for(i + 1, description);
+    let under = board_held::entry_for(i + 1, description);
     let first = schedule::told_at(message, places[under - 1]);
     let matches = first_matches(first, wanted);
     let missing = unless_held(matches, held, under);
@@ -194,7 +131,7 @@ pub fn decide_on(
     }
     let found = schedule::read_places(message, received);
     let answer = found.answer;
-    if !tells_of(answer, slot) {
+    if !board_held::tells_of(answer, slot) {
         return Decision::Read;
     }
     let places = found.places;
@@ -212,31 +149,4 @@ pub fn decide(schedule: Schedule, slot: usize, wanted: Wanted, held: Held) -> De
     let known = schedule.known;
     let received = schedule.received;
     decide_on(known, &message, received, slot, wanted, held)
-}
-
-// The slot that a page got at a slot is entered under, by a lent message, of which there may be none.
-pub fn entered_under_on(known: bool, message: &[u8], received: usize, slot: usize) -> usize
-    ensures { λ r. ⌜ r ≡ enteredUnder (lentSchedule known (now (message .entry)) received) slot ⌝ }
-{
-    if !known {
-        return slot;
-    }
-    let found = schedule::read_places(message, received);
-    let answer = found.answer;
-    if !tells_of(answer, slot) {
-        return slot;
-    }
-    let places = found.places;
-    let description = schedule::told_at(message, places[slot - 1]);
-    entry_for(slot, description)
-}
-
-// The slot that a page got at a slot is entered under, by a schedule held by value.
-pub fn entered_under(schedule: Schedule, slot: usize) -> usize
-    ensures { λ r. ⌜ r ≡ enteredUnder (scheduleOf schedule) slot ⌝ }
-{
-    let message = schedule.message;
-    let known = schedule.known;
-    let received = schedule.received;
-    entered_under_on(known, &message, received, slot)
 }

@@ -1,11 +1,11 @@
 -- A number that is no slot's enters nothing.
 use Rattle.laws.proofs.Base.{_≡_, refl, ap, _∙_, Bool, true, false, _&&_, List, _⊎_, inl, inr, ⊎-elim, ℕ, _≤_, _<_, arith, eqb, leb, eqb-true, le-leb, lt-leb}
 use Rattle.schedule.specs.Paper.{end, read}
-use Rattle.board.specs.Paper.{enter, tellsOf}
-use Rattle.board.specs.Coded.{lentSchedule}
-use Rattle.board.proofs.Cases.{entered-untold}
-use Rattle.board.proofs.Sets.{enter-low, enter-high}
-use Rattle.board.proofs.Telling.{is-read}
+use Rattle.board_held.specs.Paper.{enter, tellsOf}
+use Rattle.board_held.specs.Coded.{lentSchedule}
+use Rattle.board_held.proofs.Cases.{entered-untold}
+use Rattle.board_held.proofs.Sets.{enter-low, enter-high}
+use Rattle.board_held.proofs.Telling.{is-read}
 use Rattle.board_calls.specs.Paper.{enterCall}
 
 module _ (known : Bool) (m : List ℕ) (received slot : ℕ) where

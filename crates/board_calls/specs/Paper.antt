@@ -4,8 +4,9 @@ use mathlib.Core.List.{List}
 use Prim.Native.Nat.{ℕ}
 use lib.ListN.{length}
 use Rattle.calls.specs.Paper.{inOne, bitOf}
-use Rattle.board.specs.Paper.{Decided, decide, enter, enteredUnder}
-use Rattle.board.specs.Coded.{lentSchedule}
+use Rattle.board.specs.Paper.{Decided, decide}
+use Rattle.board_held.specs.Paper.{enter, enteredUnder}
+use Rattle.board_held.specs.Coded.{lentSchedule}
 
 -- 01 Decision: what is decided beside a schedule message that is known or not, for a list of wanted identifiers
 abbrev pub decidedFor : Bool → List ℕ → ℕ → ℕ → List ℕ → ℕ → Decided

@@ -66,6 +66,6 @@ pub extern "C" fn cb_enter(
 ) -> u64
     ensures { λ r. ⌜ r ≡ enterCall known (now (message .entry)) received slot held ⌝ }
 {
-    let under = board::entered_under_on(known, message, received, slot);
+    let under = board_held::entered_under_on(known, message, received, slot);
     Held(held).with(under).0
 }

@@ -3,41 +3,50 @@ use Rattle.laws.proofs.Base.{_≡_, refl, subst, Bool, true, false, not, List, 
 use Rattle.sizes.specs.Paper.{wholeBlocks}
 use Rattle.laws.specs.Search.{some, firstFrom}
 use Rattle.page.specs.Paper.{samePage}
-use Rattle.plan.specs.Paper.{Plan, filledPlan, bad, planNumber, holds, lowestSlot, hasPage, pageAt, lowestAt}
+use Rattle.plan.specs.Paper.{Entry, Plan, filledPlan, bad, planNumber, holds, lowestSlot, hasPage, pageAt, lowestAt}
 use Rattle.schedule.specs.Paper.{again, new, place, tells, read}
 use Rattle.checker.specs.Paper.{check, isTrue}
-use Rattle.board.specs.Paper.{Wanted, isWanted, isHeld, enter, tellsOf, reads, decide, enteredUnder}
+use Rattle.board.specs.Paper.{Wanted, isWanted, reads, decide}
+use Rattle.board_held.specs.Paper.{isHeld, enter, tellsOf, enteredUnder}
 use Rattle.board_obeyed.specs.Claims.{obeyed, Obeys, WantedPage, WantedExactly, Board, after, ended, HeldTruly, Leaves, GetsIn, fresh, noneLost}
-use Rattle.board_obeyed.proofs.Period.{none-held-truly}
-use Rattle.board_obeyed.proofs.Obeyed.{period-with-losses, stays-true, reads-once}
+use Rattle.board_obeyed.proofs.Obeyed.{none-held-truly, period-with-losses, stays-true, reads-once}
 use Rattle.laws.specs.Upto as upto
 
--- a page of serial number 0010 and identifier 8001 in slots 1 and 2, advised, one of 0020 and 0005, optional, the first page again
+abbrev page : Entry
+page = record { kind = 2; serial = 0x10; id = 0x8001; parameter = 0x11 }
+
+abbrev other : Entry
+other = record { kind = 2; serial = 0x20; id = 5; parameter = 0x11 }
+
+-- a slot of another kind
+abbrev of-kind : ℕ → Entry
+of-kind k = record { kind = k; serial = 0; id = 0; parameter = 0 }
+
+-- a page in slots 1 and 2, advised, another page, optional, the first page again
 abbrev current : Plan
-current =
-    filledPlan
-    (record { kind = 2; serial = 16; id = 32769; parameter = 17 }
-    ∷ record { kind = 2; serial = 16; id = 32769; parameter = 17 }
-    ∷ record { kind = 1; serial = 0; id = 0; parameter = 0 }
-    ∷ record { kind = 2; serial = 32; id = 5; parameter = 17 }
-    ∷ record { kind = 0; serial = 0; id = 0; parameter = 0 }
-    ∷ record { kind = 2; serial = 16; id = 32769; parameter = 17 }
-    ∷ [])
+current = filledPlan (page ∷ page ∷ of-kind 1 ∷ other ∷ of-kind 0 ∷ page ∷ [])
 
 -- the second page was in the plan before
 abbrev previous : Plan
-previous = filledPlan (record { kind = 2; serial = 32; id = 5; parameter = 17 } ∷ [])
+previous = filledPlan (other ∷ [])
 
--- 01 06 E4, no more new bits; first 8001, repeat of slot 1, advised, repeat of slot 1; then first 0005 and optional
+-- 01 06 E4, no more new bits; first 8001, slot 2 as given, advised, repeat of slot 1; then first 0005 and optional
+abbrev telling : ℕ → List ℕ
+telling second = (1 ∷ 6 ∷ 0xe4 ∷ 0 ∷ 0 ∷ 0 ∷ 0 ∷ 0 ∷ 0x80 ∷ 1 ∷ second ∷ 0x41 ∷ 1 ∷ 0x80 ∷ 5 ∷ 0x40 ∷ []) ++ replicate 72 0x2b
+
+-- slot 2 is told as a repeat of slot 1
 abbrev message : List ℕ
-message = (1 ∷ 6 ∷ 228 ∷ 0 ∷ 0 ∷ 0 ∷ 0 ∷ 0 ∷ 128 ∷ 1 ∷ 1 ∷ 65 ∷ 1 ∷ 128 ∷ 5 ∷ 64 ∷ []) ++ replicate 72 43
+message = telling 1
 
--- identifier 8001 is wanted, or 0001
+-- one identifier is wanted: 8001, or 0001
+abbrev wanting : ℕ → Wanted
+wanting x = record { count = 1; ids = x ∷ replicate 63 0 }
+
 abbrev wanted : Wanted
-wanted = record { count = 1; ids = 32769 ∷ replicate 63 0 }
+wanted = wanting 0x8001
 
 abbrev low : Wanted
-low = record { count = 1; ids = 1 ∷ replicate 63 0 }
+low = wanting 1
 
 accepted : check current previous message 22 .number ≡ 0
 unfolding check planNumber bad some read upto.some upto.count upto.lowest new place tells isTrue hasPage lowestSlot holds samePage firstFrom wholeBlocks
@@ -123,7 +132,7 @@ leaves-joined = period-with-losses current previous message 22 wanted obeys late
 
 -- slot 2 told as advised: the board that hears it alone gets the page there, but enters it under slot 2 and doesn't hold slot 1
 abbrev advising : List ℕ
-advising = (1 ∷ 6 ∷ 228 ∷ 0 ∷ 0 ∷ 0 ∷ 0 ∷ 0 ∷ 128 ∷ 1 ∷ 65 ∷ 65 ∷ 1 ∷ 128 ∷ 5 ∷ 64 ∷ []) ++ replicate 72 43
+advising = telling 0x41
 
 pub advising-accepted : check current previous advising 22 .number ≡ 0
 unfolding check planNumber bad some read upto.some upto.count upto.lowest new place tells isTrue hasPage lowestSlot holds samePage firstFrom wholeBlocks

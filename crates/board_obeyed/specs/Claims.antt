@@ -10,7 +10,8 @@ use Rattle.page.specs.Paper.{Name, samePage}
 use Rattle.plan.specs.Paper.{Plan, entryAt, pageAt, lowestAt, low15At}
 use Rattle.schedule.specs.Paper.{Told, first, again, optional, advised, tells}
 use Rattle.checker.specs.Paper.{check}
-use Rattle.board.specs.Paper.{Wanted, Schedule, isWanted, isHeld, enter, decide, enteredUnder}
+use Rattle.board.specs.Paper.{Wanted, isWanted, decide}
+use Rattle.board_held.specs.Paper.{Schedule, isHeld, enter, enteredUnder}
 
 -- 01 Decision: a received schedule message
 abbrev pub obeyed : List ℕ → ℕ → Schedule

@@ -8,7 +8,8 @@ use Rattle.plan.specs.Paper.{bad, planNumber, entryIn, entriesIn, readPlan, hol
 use Rattle.schedule.specs.Paper.{new, place, tells, read}
 use Rattle.sender.specs.Paper as sender
 use Rattle.checker.specs.Paper.{check, isTrue}
-use Rattle.board.specs.Paper.{isWanted, isHeld, tellsOf, reads, decide}
+use Rattle.board.specs.Paper.{isWanted, reads, decide}
+use Rattle.board_held.specs.Paper.{isHeld, tellsOf}
 use Rattle.plan_calls.specs.Paper.{writeScheduleCall}
 use Rattle.board_calls.specs.Paper.{decideCall}
 use Rattle.board_obeyed.specs.Claims.{WantedPage}

@@ -16,13 +16,16 @@ use Rattle.schedule.specs.Paper.{end, faults, Read, unread, good, read, Given, 
 use Rattle.text.specs.Paper.{Writing, written, writerTests, usedOctets, pageOf, Reading, reading, readerTests, shown, trimmed, septetsReceived}
 use Rattle.sender.specs.Paper as sender
 use Rattle.checker.specs.Paper as checker
-use Rattle.board.specs.Paper.{Wanted, Schedule, Decided, undecided, reads, decide}
-use Rattle.board.specs.Coded.{lentSchedule}
+use Rattle.board.specs.Paper.{Wanted, Decided, undecided, reads, decide}
+use Rattle.board_held.specs.Paper.{Schedule}
+use Rattle.board_held.specs.Coded.{lentSchedule}
 use Rattle.schedule_calls.specs.Paper.{packedGiven}
 use Rattle.schedule_calls.proofs.Given.{ends-small, slotNumber, slot-small}
 use Rattle.plan_calls.specs.Paper.{fileFaults, writtenFrom, checkedBeside}
 use Rattle.board_calls.specs.Paper.{decidedFor}
-use Rattle.calls_unpacked.specs.Claims.{UnpackedIntake, UnpackedWriteText, UnpackedReadText, UnpackedReadPlan, UnpackedWriteSchedule, UnpackedCheckSchedule, UnpackedDecide, UnpackedReadSchedule, UnpackedNext, UnpackedRefusal}
+use Rattle.calls_unpacked.specs.Claims.{UnpackedIntake, UnpackedWriteText, UnpackedReadText, UnpackedReadPlan, UnpackedWriteSchedule, UnpackedCheckSchedule, UnpackedDecide, UnpackedReadSchedule, UnpackedNext, UnpackedRefusal, answeredCall}
+use Rattle.capi.specs.Paper.{codeOf, writeCall, readCall, scheduleCall, descriptionCall, planCall, writeScheduleCall, checkScheduleCall, decideCall}
+use Rattle.capi.proofs.Scheduled.{bit-byte, bit-small}
 
 -- the numbers of some tests fit eight bits
 abbrev fitting : List (Bool × ℕ) → Bool

@@ -1,7 +1,8 @@
 -- What an intake call leaves, as the line of its answer takes it.
 use Rattle.laws.proofs.Base.{_≡_, refl, Bool, true, false, cond, List, [], ℕ, _%_, _/_, _≤_, arith, length, eqb, eqb-true}
 use Rattle.block.specs.Paper.{Given}
-use Rattle.checker.specs.Inner.{Plans, checkBeside}
+use Rattle.checker_plans.specs.Inner.{Plans}
+use Rattle.checker.specs.Inner.{checkBeside}
 use Rattle.lines.specs.Paper.{flat}
 use Rattle.logs.proofs.Complete.{Complete, handed-output}
 use Rattle.logs.proofs.Listed.{Taken}

@@ -4,9 +4,10 @@ ghost use Prim.Native.Nat.{_≤_, _<_};
 ghost use lib.ListN.{length, take};
 ghost use Rattle.refusals.specs.Number.{numberOf};
 ghost use Rattle.block.specs.Paper.{start};
-ghost use Rattle.block_history.specs.Claims.{after};
+ghost use Rattle.block_history.specs.Claims.{after, GoesOn};
 ghost use Rattle.firmware.specs.Paper.{lent, heldIn};
-ghost use Rattle.checker.specs.Coded.{checkedOf, plansOf};
+ghost use Rattle.checker.specs.Coded.{checkedOf};
+ghost use Rattle.checker_plans.specs.Coded.{plansOf};
 ghost use Rattle.lines.specs.Paper.{allBehind};
 ghost use Rattle.logs.specs.Paper.{cut};
 ghost use Rattle.logs.specs.Inner.{Continues};
@@ -16,6 +17,8 @@ use arguments::Asked;
 use checker::Checking;
 use checker::Plans;
 use files::Opened;
+ghost use Rattle.lines.specs.Inner.{Puts};
+use checker_plans::Plans;
 use libc::STDERR_FILENO;
 use refusals::Refusal;
 
@@ -63,7 +66,7 @@ fn check_named() {
     }
     let plan = current.plan;
     let older = previous.plan;
-    check_log(checker::beside(plan, older));
+    check_log(checker_plans::beside(plan, older));
 }
 
 fn check_log(plans: Plans) {

@@ -1,5 +1,5 @@
 -- What is answered of a message, told from the places of its descriptions.
-use Rattle.laws.proofs.Base.{_≡_, sym, ap, _∙_, not, List, map, ℕ, _≤_, getD, List·getD-map}
+use Rattle.laws.proofs.Base.{_≡_, true, eqb, eq-eqb, ne-eqb, sym, ap, _∙_, not, List, map, ℕ, suc, _≤_, getD, List·getD-map}
 use Rattle.laws.specs.Upto.{lowest}
 use Rattle.laws.proofs.Lowest.{lowest-agree}
 use Rattle.refusals.specs.Number.{numberOf}
@@ -8,25 +8,30 @@ use Rattle.refusals.proofs.Inverse.{numberOf-positive}
 use Rattle.schedule.specs.declared.Reading.{Reading}
 use Rattle.schedule.specs.declared.Reading.the-variants.{Read, Refused}
 use Rattle.schedule.specs.declared.Placed.{Placed}
-use Rattle.schedule.specs.Paper.{new, Told, shown, read, placed, Placed as Places, Read as Reads}
+use Rattle.schedule.specs.Paper.{new, Told, shown, end, read, placed, Placed as Places, Read as Reads}
 use Rattle.schedule.specs.Coded.{readOf, placedOf}
 use Rattle.schedule.proofs.Givens.{Good, read-placed, given-good, told-at}
 use Rattle.plan.specs.declared.Planned.{Planned as PlannedCode}
 use Rattle.plan.specs.Paper.{Planned}
 use Rattle.plan.specs.Coded.{plannedOf}
 use Rattle.plan.specs.Inner.{nothing}
-use Rattle.checker.specs.Paper.{trueBy, unchecked, untrueAt}
+use Rattle.checker_slots.specs.Inner.{trueBy}
+use Rattle.checker.specs.Paper.{Checked, unchecked, untrueAt}
 use Rattle.checker.specs.Inner.{untrueTo, compared}
 use Rattle.checker.specs.Coded.{untrueBy}
-use Rattle.checker.proofs.Answers.{read-refused, end-differs, all-true, one-untrue}
 
 module _ (n : ℕ) (xs : List PlannedCode) (m : List ℕ) (received : ℕ) (t : Placed) (q : placedOf t ≡ placed m received) where
+  abbrev answer : Checked
+  answer = compared n (map plannedOf xs) m received
+
   read-number : read m received .number ≡ readOf (t .answer) .number
   read-number = sym (ap (λ (l : Places). l .read .number) q ∙ ap (λ (r : Reads). r .number) (read-placed m received))
 
-  pub found-refused : (r : Refusal) → t .answer ≡ Refused r → unchecked (numberOf r) ≡ compared n (map plannedOf xs) m received
+  pub found-refused : (r : Refusal) → t .answer ≡ Refused r → unchecked (numberOf r) ≡ answer
+  unfolding compared
   found-refused r a =
-      read-refused n (map plannedOf xs) m received (numberOf r) (numberOf-positive r) (read-number ∙ ap (λ (x : Reading). readOf x .number) a)
+      let number : read m received .number ≡ numberOf r = read-number ∙ ap (λ (x : Reading). readOf x .number) a in
+      rw (number, ne-eqb (numberOf r) 0 (numberOf-positive r))
 
   module _ (b e : ℕ) (a : t .answer ≡ Read b e) where
     good : Good m received (placedOf t) q e
@@ -38,21 +43,28 @@ module _ (n : ℕ) (xs : List PlannedCode) (m : List ℕ) (received : ℕ) (t : 
     pub found-last : e ≤ 48
     found-last = good .last
 
-    pub found-differs : (e ≡ n → ⊥) → untrueAt 0 ≡ compared n (map plannedOf xs) m received
-    found-differs d = end-differs n (map plannedOf xs) m received reads (λ w. d (good .ends ∙ w))
+    pub found-differs : (e ≡ n → ⊥) → untrueAt 0 ≡ answer
+    unfolding compared
+    found-differs d = rw (reads, ne-eqb (end m) n (λ w. d (good .ends ∙ w)))
 
     module _ (w : e ≡ n) (s : ℕ) (l : s ≡ lowest (untrueBy xs m (t .places)) e) where
-      found : s ≡ lowest (untrueTo (map plannedOf xs) m) n
+      found : lowest (untrueTo (map plannedOf xs) m) n ≡ s
       found =
-          l
+          sym
+          (l
           ∙ lowest-agree (untrueBy xs m (t .places)) (untrueTo (map plannedOf xs) m) e
           (λ i h.
-          ap (λ (d : Told). not (trueBy (plannedOf (getD xs i nothing)) i (record { new = new m i; told = d }))) (told-at m received (placedOf t) q e good i h)
-          ∙ ap (λ (v : Planned). not (trueBy v i (shown m i))) (sym (List·getD-map plannedOf xs i nothing)))
-          ∙ ap (lowest (untrueTo (map plannedOf xs) m)) w
+          ap (λ (d : Told). not (trueBy (plannedOf (getD xs i nothing)) (suc i) (record { new = new m i; told = d }))) (told-at m received (placedOf t) q e good i h)
+          ∙ ap (λ (v : Planned). not (trueBy v (suc i) (shown m i))) (sym (List·getD-map plannedOf xs i nothing)))
+          ∙ ap (lowest (untrueTo (map plannedOf xs) m)) w)
 
-      pub found-true : s ≡ 0 → unchecked 0 ≡ compared n (map plannedOf xs) m received
-      found-true z = all-true n (map plannedOf xs) m received reads (sym (good .ends) ∙ w) s found z
+      ends : eqb (end m) n ≡ true
+      ends = eq-eqb (end m) n (sym (good .ends) ∙ w)
 
-      pub found-untrue : (s ≡ 0 → ⊥) → untrueAt s ≡ compared n (map plannedOf xs) m received
-      found-untrue z = one-untrue n (map plannedOf xs) m received reads (sym (good .ends) ∙ w) s found z
+      pub found-true : s ≡ 0 → unchecked 0 ≡ answer
+      unfolding compared
+      found-true z = rw (reads, ends, found, eq-eqb s 0 z)
+
+      pub found-untrue : (s ≡ 0 → ⊥) → untrueAt s ≡ answer
+      unfolding compared
+      found-untrue z = rw (reads, ends, found, ne-eqb s 0 z)

@@ -1,42 +1,17 @@
 -- Checking a schedule message beside two plans, as tests. Slots are counted from 0 here: slot i is number i + 1.
-use mathlib.Core.Bool.{Bool, true, false, cond, not, _&&_, _||_, Bool·beq}
+use mathlib.Core.Bool.{Bool, cond, not}
 use mathlib.Core.List.{List, [], _∷_}
 use Prim.Native.Nat.{ℕ, suc}
 use lib.Dec.{eqb}
 use Rattle.laws.specs.Ruled.{ruled, unless0}
 use Rattle.laws.specs.Upto.{lowest}
-use Rattle.schedule.specs.Paper.{Told, first, again, optional, advised, Shown, shown, end, read}
-use Rattle.plan.specs.Paper.{Plan, planNumber, Planned, plannedAt}
-
--- 01 Truthful: the lowest slot with a page
-abbrev pub leads : Planned → ℕ → Bool
-leads v i = eqb (v .kind) 2 && eqb (v .lowest) (suc i)
-
--- 01 Truthful: a later slot with that page
-abbrev pub repeats : Planned → ℕ → Bool
-repeats v i = eqb (v .kind) 2 && not (eqb (v .lowest) (suc i))
-
--- 01 Truthful: what may be told of a slot, by what is told; reserved descriptions are read as optional
-abbrev pub mayTell : Planned → ℕ → Told → Bool
-mayTell v i (first x) = leads v i && eqb x (v .low)
-mayTell v i (again n) = repeats v i && eqb n (v .lowest)
-mayTell v i optional = eqb (v .kind) 0 || repeats v i
-mayTell v i advised = eqb (v .kind) 1 || eqb (v .kind) 2
-
--- 01 Truthful: the new bit beside a description: 1 for advised, 0 for optional, and for first and repeat 1 exactly if the previous plan lacks the page
-abbrev pub newFor : Planned → Told → Bool
-newFor v (first x) = v .fresh
-newFor v (again n) = v .fresh
-newFor v optional = false
-newFor v advised = true
-
--- 01 Truthful: a slot is told truly, by what the plans say of it
-abbrev pub trueBy : Planned → ℕ → Shown → Bool
-trueBy v i s = mayTell v i (s .told) && Bool·beq (s .new) (newFor v (s .told))
+use Rattle.schedule.specs.Paper.{Shown, shown, end, read}
+use Rattle.plan.specs.Paper.{Plan, planNumber, plannedAt}
+use Rattle.checker_slots.specs.Inner.{trueBy}
 
 -- 01 Truthful: a slot is told truly
 unfoldable pub isTrue : Plan → Plan → ℕ → Shown → Bool
-isTrue c p i s = trueBy (plannedAt c p i) i s
+isTrue c p i s = trueBy (plannedAt c p i) (suc i) s
 
 -- 01 Numbers given, 40: what a message shows of a slot is untrue
 abbrev pub untrue : Plan → Plan → List ℕ → ℕ → Bool

@@ -12,7 +12,8 @@ use Rattle.block.specs.Paper as cut
 use Rattle.plan.specs.Paper.{bad, planNumber, holds, lowestSlot, hasPage}
 use Rattle.schedule.specs.Paper.{new, place, order, tells, read}
 use Rattle.sender.specs.Paper.{plannedTold, newAt, octetsOfAll, descriptions, newBits, usedPart, padded, write}
-use Rattle.board.specs.Paper.{isWanted, isHeld, tellsOf, reads, decide}
+use Rattle.board.specs.Paper.{isWanted, reads, decide}
+use Rattle.board_held.specs.Paper.{isHeld, tellsOf}
 use Rattle.edges.specs.Claims.{Edges}
 
 pub edges : Edges

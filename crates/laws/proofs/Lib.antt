@@ -1,6 +1,7 @@
 -- What `laws` proves.
 pub mod Base
 pub mod Bits
+pub mod Determined
 pub mod Lowest
 pub mod Map
 pub mod Outcome

@@ -1,4 +1,5 @@
 -- What `laws` defines.
+pub mod Determined
 pub mod Radix
 pub mod Ruled
 pub mod Search

@@ -1,14 +1,13 @@
 -- The header's octets and what they say determine each other.
-use Rattle.laws.proofs.Base.{_≡_, refl, [], _∷_, ℕ, _+_, _*_, _/_, _%_, _<_, div-add-mod', arith, length}
+use Rattle.laws.proofs.Base.{_≡_, refl, _+_, _*_, _/_, _%_, div-add-mod', arith, length}
 use Rattle.page.specs.Paper.{Heading, header, headerOctets}
+use Rattle.page.specs.Claims.{HeaderBack, OctetsBack}
 
--- what was written is read back
-pub header-back : (h : Heading) → header (headerOctets h) ≡ h
+pub header-back : HeaderBack
 unfolding header headerOctets
 header-back h = rw (div-add-mod' (h .serial) 256, div-add-mod' (h .id) 256)
 
--- what was read is written as it stood
-pub octets-back : (a b c d e f : ℕ) → b < 256 → d < 256 → headerOctets (header (a ∷ b ∷ c ∷ d ∷ e ∷ f ∷ [])) ≡ a ∷ b ∷ c ∷ d ∷ e ∷ f ∷ []
+pub octets-back : OctetsBack
 unfolding header headerOctets
 octets-back a b c d e f hb hd =
     let p : (a * 256 + b) / 256 ≡ a = omega arith in

@@ -1,7 +1,8 @@
 -- Which test of the handing back answers.
-use Rattle.laws.proofs.Base.{_≡_, refl, Bool, true, false, List, ℕ, eqb, length, eq-eqb, ne-eqb, eqb-true, eqb-false}
+use Rattle.laws.proofs.Base.{_≡_, true, false, List, ℕ, eqb, length, eq-eqb, ne-eqb, eqb-true, eqb-false}
 use Rattle.sizes.specs.Paper.{wholeBlocks}
 use Rattle.laws.specs.Ruled.{ruled}
+use Rattle.laws.proofs.Tests.{true-or-false}
 use Rattle.page.specs.Paper.{Part, handing, handedNumber, emptyPart, contentPart, handedPart}
 
 module _ {A : Type 0} (by : ℕ → A) (x : A) (p : List ℕ) (n : ℕ) where
@@ -27,9 +28,11 @@ pub data Handled (p : List ℕ) (n : ℕ) : Type 0 where
 
 pub handled : (p : List ℕ) (n : ℕ) → Handled p n
 unfolding handedNumber
-handled p n = go (eqb (length p) 88) (wholeBlocks n) refl refl
-  where
-    go : (a b : Bool) → eqb (length p) 88 ≡ a → wholeBlocks n ≡ b → Handled p n
-    go false b e f = let ne = eqb-false (length p) 88 e in length-wrong ne (refused-length (λ m. m) 0 p n ne)
-    go true false e f = let l = eqb-true (length p) 88 e in received-wrong l f (refused-received (λ m. m) 0 p n l f)
-    go true true e f = let l = eqb-true (length p) 88 e in all-right l f (handed (λ m. m) 0 p n l f)
+handled p n =
+    true-or-false (eqb (length p) 88)
+    (λ e.
+    let l = eqb-true (length p) 88 e in
+    true-or-false (wholeBlocks n)
+    (λ f. all-right l f (handed (λ m. m) 0 p n l f))
+    (λ f. received-wrong l f (refused-received (λ m. m) 0 p n l f)))
+    (λ e. let ne = eqb-false (length p) 88 e in length-wrong ne (refused-length (λ m. m) 0 p n ne))

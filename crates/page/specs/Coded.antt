@@ -19,7 +19,7 @@ nameOf p = record { serial = p .serial .0; id = p .id .0; parameter = p .paramet
 
 -- what tells a page as one number
 abbrev pub keyOf : Name → ℕ
-keyOf n = (n .parameter * 65536 + n .id) * 65536 + n .serial
+keyOf n = (n .parameter * 0x10000 + n .id) * 0x10000 + n .serial
 
 -- the number of an answer: 0 for done
 abbrev pub numberOfHanding : Handing → ℕ

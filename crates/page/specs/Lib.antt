@@ -1,3 +1,4 @@
 -- What `page` defines.
+pub mod Claims
 pub mod Coded
 pub mod Paper

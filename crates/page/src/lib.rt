@@ -1,9 +1,10 @@
-// A page's header, the sameness of two pages, and the part of a page's content that was received.
+// A page's header, the key that pages are the same by, and the part of a page's content that was received.
 ghost use mathlib.Core.Path.{_≡_};
 ghost use Prim.Native.Nat.{_+_, _*_};
-ghost use Rattle.page.specs.Paper.{header, headerOctets, samePage, handedPart, handedNumber};
+ghost use Rattle.page.specs.Paper.{header, headerOctets, handedPart, handedNumber};
 ghost use Rattle.page.specs.Coded.{keyOf, headingOf, nameOf, numberOfHanding, partOf};
 use refusals::Refusal;
+use sizes::MESSAGE;
 use sizes::whole_blocks;
 
 // A serial number.
@@ -68,25 +69,18 @@ pub fn header_octets(heading: Header) -> [u8; 6]
     ]
 }
 
-// What tells a page as one number, so that a search through a plan compares once.
+// What tells a page as one number: two pages are the same page exactly if their keys are equal, so that a search compares once.
 pub fn key(name: PageName) -> u64
     ensures { λ r. ⌜ r ≡ keyOf (nameOf name) ⌝ }
 {
     (name.parameter as u64 * 0x10000 + name.id.0 as u64) * 0x10000 + name.serial.0 as u64
 }
 
-// Whether two pages are the same page.
-pub fn same(a: PageName, b: PageName) -> bool
-    ensures { λ r. ⌜ r ≡ samePage (nameOf a) (nameOf b) ⌝ }
-{
-    key(a) == key(b)
-}
-
 // Whether `content` hands a part back, and if not why.
 pub fn content_answer(page: &[u8], received: usize) -> Handing
     ensures { λ r. ⌜ numberOfHanding r ≡ handedNumber (now (page .entry)) received ⌝ }
 {
-    if page.len() != 88 {
+    if page.len() != MESSAGE {
         return Handing::Refused(Refusal::MessageLength);
     }
     if !whole_blocks(received) {
@@ -99,7 +93,7 @@ pub fn content_answer(page: &[u8], received: usize) -> Handing
 pub fn content(page: &[u8], received: usize) -> &[u8]
     ensures { λ r. ⌜ partOf r ≡ handedPart (partOf (page .entry)) received ⌝ }
 {
-    if page.len() != 88 {
+    if page.len() != MESSAGE {
         return &page[..0];
     }
     if !whole_blocks(received) {

@@ -23,7 +23,7 @@ returns c =
     let a = b .before .before .args in
     let i = b .before .loop .i in
     let k : i < length (a .t1) = search needs in
-    sym (matches-found (a .id) (a .t1) i k (a .count) (b .loop-test .taken) (c .if1 .taken))
+    sym (matches-found (a .id) (a .t1) i k (a .count) (b .loop-test .taken) (omega (arith, c .if1 .taken)))
 
 loop-again : tie.Need-loop-again Inv-loop μ-loop
 loop-again c =
@@ -31,7 +31,7 @@ loop-again c =
     let a = b .before .before .args in
     let l = b .before .loop in
     let k : l .i < length (a .t1) = search needs in
-    (omega arith, matches-turn (a .id) (a .t1) (l .i) k (c .if1 .left) (l .inv .1))
+    (omega arith, matches-turn (a .id) (a .t1) (l .i) k (λ e. c .if1 .left (omega arith)) (l .inv .1))
 
 returns-2 : tie.Need-returns-2 Inv-loop μ-loop
 returns-2 c =

@@ -1,10 +1,12 @@
 -- `board::reads_for` meets its contract: a repeat of a message that is read names a slot below its own.
 use Rattle.laws.proofs.Base.{_≡_, ap, _∙_, _+_, arith, needs}
 use Rattle.schedule.specs.Inner.{toldBy}
-use Rattle.board.specs.Paper.{firstMatches, entryFor}
+use Rattle.board_held.specs.Paper.{entryFor}
+use Rattle.board_held.proofs.Telling.{Named, entry-named}
+use Rattle.board.specs.Paper.{firstMatches}
 use Rattle.board.specs.Inner.{readsBy}
 use Rattle.board.specs.Coded.{wantedOf}
-use Rattle.board.proofs.Telling.{Named, entry-named, reads-by-entry}
+use Rattle.board.proofs.Deciding.{reads-by-entry}
 use Rattle.board.proofs.reads_for.Statement.{statement}
 use Rattle.board.proofs.reads_for.Tie as tie
 
@@ -17,15 +19,6 @@ lower : (c : tie.After-entry-for) → Named (c .before .before .before .args .i 
 lower c =
     let s = c .before .before .before in
     rw (under c) (entry-named (toldBy (s .args .message .now) (s .args .t2)) (s .args .i) (s .pre .1))
-
-sub-told-at : tie.Need-sub-told-at
-sub-told-at c = lower c .some
-
-mul-told-at-2 : tie.Need-mul-told-at-2
-mul-told-at-2 c = omega (arith, lower c .low)
-
-array-read-told-at-2 : tie.Need-array-read-told-at-2
-array-read-told-at-2 c = omega (arith, lower c .some, lower c .low)
 
 returns : tie.Need-returns
 returns c =
@@ -42,6 +35,6 @@ pub reads-for-spec : {M : Type 1} → statement M
 reads-for-spec =
     tie.close
     (tie.spec
-    (λ c. search needs) (λ c. search needs) (λ c κs. search needs) (λ c. search needs)
-    (λ c κs. search needs) sub-told-at mul-told-at-2 array-read-told-at-2 (λ c κs. search needs)
-    (λ c κs. search needs) (λ c κs. search needs) (λ c κs. search needs) returns)
+    (λ c. search needs) (λ c. search needs) (λ c κs. search needs) (λ c. search needs) (λ c κs. search needs)
+    (λ c. lower c .some) (λ c. omega (arith, lower c .low)) (λ c. omega (arith, lower c .some, lower c .low))
+    (λ c κs. search needs) (λ c κs. search needs) (λ c κs. search needs) (λ c κs. search needs) returns)

@@ -1,6 +1,6 @@
 -- `board_calls::cb_enter` meets its contract: the set with the slot entered that the board gives.
 use Rattle.laws.proofs.Base.{ap, _∙_, needs}
-use Rattle.board.specs.Paper.{enter}
+use Rattle.board_held.specs.Paper.{enter}
 use Rattle.board_calls.proofs.cb_enter.Statement.{statement}
 use Rattle.board_calls.proofs.cb_enter.Tie as tie
 

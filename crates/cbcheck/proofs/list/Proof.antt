@@ -1,7 +1,8 @@
 -- `cbcheck::list` meets its contract. The invariant: the text so far and the lines to come are those of the schedule messages.
-use Rattle.laws.proofs.Base.{_-_, arith, length, needs}
+use Rattle.laws.proofs.Base.{_-_, arith, length, needs, _≡_, _∙_, now, take, drop}
+use Rattle.firmware.specs.Paper.{heldIn}
+use Rattle.checker_plans.specs.Coded.{plansOf}
 use Rattle.block.specs.Paper.{schedule}
-use Rattle.checker.specs.Coded.{plansOf}
 use Rattle.lines.proofs.Texts.{puts-all}
 use Rattle.logs.proofs.Complete.{complete}
 use Rattle.logs.proofs.Listed.{Listed, taken, line-room, listed-start, listed-turn, listed-end}

@@ -1,8 +1,9 @@
 -- `cbcheck::list_all` meets its contract. The invariant: state, number and text are those that the log so far leaves.
-use Rattle.laws.proofs.Base.{sym, ap, _∙_, _-_, arith, length, length-take-le, needs, not-false}
-use Rattle.checker.specs.Coded.{plansOf}
+use Rattle.laws.proofs.Base.{sym, ap, _∙_, _-_, arith, length, length-take-le, needs, not-false, _≡_, take, length-take}
+use Rattle.checker_plans.specs.Coded.{plansOf}
 use Rattle.logs.proofs.Turns.{Going, going-start, may-list, goes-higher, turn-told, turn-going}
 use Rattle.cbcheck.specs.Paper.{lineOf}
+use Rattle.lines.proofs.Read.{long-chunk, goes-on}
 use Rattle.cbcheck.proofs.list_all.Statement.{statement}
 use Rattle.cbcheck.proofs.list_all.Tie as tie
 

@@ -2,7 +2,7 @@
 use Rattle.laws.proofs.Base.{sym, ap, _∙_, needs}
 use Rattle.refusals.proofs.Inverse.{numberOf-positive}
 use Rattle.plan.specs.Coded.{verdictOf}
-use Rattle.checker.specs.Coded.{plansOf}
+use Rattle.checker_plans.specs.Coded.{plansOf}
 use Rattle.checker.proofs.Answers.{plans-refused, plans-good}
 use Rattle.checker.proofs.check_beside.Statement.{statement}
 use Rattle.checker.proofs.check_beside.Tie as tie

@@ -1,7 +1,8 @@
 -- `checker::check_schedule` meets its contract: what is found for the plans checks the message as they do.
 use Rattle.laws.proofs.Base.{ap, _∙_, needs}
 use Rattle.plan.specs.Coded.{planOf}
-use Rattle.checker.specs.Inner.{Plans, checkBeside}
+use Rattle.checker_plans.specs.Inner.{Plans}
+use Rattle.checker.specs.Inner.{checkBeside}
 use Rattle.checker.proofs.Telling.{check-beside}
 use Rattle.checker.proofs.check_schedule.Statement.{statement}
 use Rattle.checker.proofs.check_schedule.Tie as tie

@@ -1,6 +1,6 @@
 -- `checker::compare` meets its contract: each answer is told from the places of the message's descriptions.
+use Rattle.laws.proofs.Base.{arith, needs}
 use Rattle.checker.proofs.Comparing.{found-refused, found-last, found-differs, found-true, found-untrue}
-use Rattle.laws.proofs.Base.{needs}
 use Rattle.checker.proofs.compare.Statement.{statement}
 use Rattle.checker.proofs.compare.Tie as tie
 
@@ -8,33 +8,40 @@ returns : tie.Need-returns
 returns c =
     let r = c .before .before .before .before in
     let a = r .before .before .args in
-    found-differs (a .count) (a .said) (a .message .now) (a .received) (r .read-places .result) (r .read-places .ensures) _ _ (c .before .before .answer2 .given .1) (c .if1 .taken)
+    found-differs (a .count) (a .said) (a .message .now) (a .received) (r .read-places .result) (r .read-places .ensures)
+    _ _ (c .before .before .answer2 .given .1) (λ e. omega (arith, c .if1 .taken))
 
 first-untrue-requires : tie.Need-first-untrue-requires
 first-untrue-requires c κs =
     let r = c .before .before .before .before .before in
     let a = r .before .before .args in
-    found-last (a .count) (a .said) (a .message .now) (a .received) (r .read-places .result) (r .read-places .ensures) _ _ (c .before .before .before .answer2 .given .1)
+    found-last (a .count) (a .said) (a .message .now) (a .received) (r .read-places .result) (r .read-places .ensures)
+    _ _ (c .before .before .before .answer2 .given .1)
 
 returns-2 : tie.Need-returns-2
 returns-2 c =
     let b = c .before .before .before in
     let r = b .before .before .before .before in
     let a = r .before .before .args in
-    found-true (a .count) (a .said) (a .message .now) (a .received) (r .read-places .result) (r .read-places .ensures) _ _ (b .before .before .answer2 .given .1) (b .if1 .left) (c .before .first-untrue .result) (c .before .first-untrue .ensures) (c .if2 .taken)
+    let s = c .before .first-untrue in
+    found-true (a .count) (a .said) (a .message .now) (a .received) (r .read-places .result) (r .read-places .ensures)
+    _ _ (b .before .before .answer2 .given .1) (b .if1 .left) (s .result) (s .ensures) (c .if2 .taken)
 
 returns-3 : tie.Need-returns-3
 returns-3 c =
     let r = c .before .before .before in
     let a = r .before .before .args in
-    found-refused (a .count) (a .said) (a .message .now) (a .received) (r .read-places .result) (r .read-places .ensures) _ (c .before .answer .given .1)
+    found-refused (a .count) (a .said) (a .message .now) (a .received) (r .read-places .result) (r .read-places .ensures)
+    _ (c .before .answer .given .1)
 
 returns-4 : tie.Need-returns-4
 returns-4 c =
     let b = c .before .before .before in
     let r = b .before .before .before .before in
     let a = r .before .before .args in
-    found-untrue (a .count) (a .said) (a .message .now) (a .received) (r .read-places .result) (r .read-places .ensures) _ _ (b .before .before .answer2 .given .1) (b .if1 .left) (c .before .first-untrue .result) (c .before .first-untrue .ensures) (c .if2 .left)
+    let s = c .before .first-untrue in
+    found-untrue (a .count) (a .said) (a .message .now) (a .received) (r .read-places .result) (r .read-places .ensures)
+    _ _ (b .before .before .answer2 .given .1) (b .if1 .left) (s .result) (s .ensures) (c .if2 .left)
 
 pub compare-spec : {M : Type 1} → statement M
 compare-spec =

@@ -1,10 +1,10 @@
 -- `checker::first_untrue` meets its contract. The invariant: no slot passed so far is untrue.
-use Rattle.laws.proofs.Base.{_≡_, sym, ap, _∙_, false, not, ℕ, _-_, _≤_, _<_, add-one, arith, getD, needs}
+use Rattle.laws.proofs.Base.{_≡_, sym, ap, _∙_, false, not, ℕ, _+_, _-_, _≤_, _<_, add-one, arith, getD, needs}
 use borrow.Author.Count.{below-none, below-more}
 use Rattle.laws.proofs.Lowest.{lowest-at, lowest-none}
 use Rattle.plan.specs.Coded.{plannedOf}
 use Rattle.plan.specs.Inner.{nothing}
-use Rattle.checker.specs.Paper.{trueBy}
+use Rattle.checker_slots.specs.Inner.{trueBy}
 use Rattle.checker.specs.Coded.{untrueBy}
 use Rattle.checker.proofs.first_untrue.Statement.{statement}
 use Rattle.checker.proofs.first_untrue.Tie as tie
@@ -15,23 +15,20 @@ Inv-loop message count all places i₀ i = (i ≤ count) × ((k : ℕ) → k < i
 abbrev μ-loop : tie.MeasureT-loop
 μ-loop message count all places i₀ i = count - i
 
-loop-holds : tie.Need-loop-holds Inv-loop μ-loop
-loop-holds c = (omega arith, below-none _)
-
 -- whether the slot is told truly is answered by its description
 told : (c : tie.After-is-true Inv-loop μ-loop) → let b = c .before .before .before .before in let a = b .before .before .args in not (c .is-true .result) ≡ untrueBy (a .t1) (a .message .now) (a .t3) (b .loop .i)
 told c =
     let b = c .before .before .before .before in
-    ap not
-    (c .is-true .ensures
-    ∙ ap (trueBy (plannedOf (getD (b .before .before .args .t1) (b .loop .i) nothing)) (b .loop .i)) (c .before .before .shown .ensures))
+    let i = b .loop .i in
+    rw (← add-one i) (ap not (c .is-true .ensures ∙ ap (trueBy (plannedOf (getD (b .before .before .args .t1) i nothing)) (i + 1)) (c .before .before .shown .ensures)))
 
 returns : tie.Need-returns Inv-loop μ-loop
 returns c =
     let b = c .before .before .before .before .before in
     let a = b .before .before .args in
-    rw add-one
-    (sym (lowest-at (untrueBy (a .t1) (a .message .now) (a .t3)) (a .count) (b .loop .i) (omega arith) (sym (told (c .before)) ∙ c .if1 .taken) (b .loop .inv .1)))
+    let i = b .loop .i in
+    add-one i
+    ∙ sym (lowest-at (untrueBy (a .t1) (a .message .now) (a .t3)) (a .count) i (omega arith) (sym (told (c .before)) ∙ c .if1 .taken) (b .loop .inv .1))
 
 loop-again : tie.Need-loop-again Inv-loop μ-loop
 loop-again c =
@@ -49,6 +46,6 @@ pub first-untrue-spec : {M : Type 1} → statement M
 first-untrue-spec =
     tie.close
     (tie.spec
-    Inv-loop μ-loop loop-holds (λ c. search needs) (λ c. search needs) (λ c κs. search needs)
-    (λ c. search needs) (λ c. search needs) (λ c κs. search needs) (λ c. search needs) returns
-    (λ c. search needs) (λ c. search needs) loop-again returns-2)
+    Inv-loop μ-loop (λ c. (omega arith, below-none _)) (λ c. search needs) (λ c. search needs)
+    (λ c κs. search needs) (λ c. search needs) (λ c. search needs) (λ c. search needs) (λ c κs. search needs)
+    (λ c. search needs) returns (λ c. search needs) (λ c. search needs) loop-again returns-2)

@@ -30,15 +30,6 @@ received c = sym (c .before .whole-blocks .ensures) ∙ not-false _ (c .if2 .lef
 within : (c : tie.Else2) → (22 ≤ c .before .before .before .before .args .received) × (c .before .before .before .before .args .received ≤ 88)
 within c = whole-bounds _ (received c)
 
-sub-result : tie.Need-sub-result
-sub-result c = omega (arith, within c)
-
-part-result-start : tie.Need-part-result-start
-part-result-start c = omega (arith, within c)
-
-part-result-end : tie.Need-part-result-end
-part-result-end c = omega (arith, within c)
-
 returns-3 : tie.Need-returns-3
 unfolding handedPart
 returns-3 c =
@@ -50,5 +41,5 @@ pub content-spec : {M : Type 1} → statement M
 content-spec =
     tie.close
     (tie.spec
-    (λ c. search needs) returns (λ c κs. search needs) (λ c. search needs) returns-2 sub-result
-    part-result-start part-result-end returns-3)
+    (λ c. search needs) returns (λ c κs. search needs) (λ c. search needs) returns-2
+    (λ c. omega (arith, within c)) (λ c. omega (arith, within c)) (λ c. omega (arith, within c)) returns-3)

@@ -1,0 +1,4 @@
+-- What `board_held` defines.
+pub mod Paper
+pub mod Inner
+pub mod Coded

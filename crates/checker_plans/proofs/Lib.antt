@@ -1,0 +1,3 @@
+-- What `checker_plans` proves.
+pub mod Answers
+pub mod Determined

@@ -1,0 +1,9 @@
+-- The code's finding for two plans in numbers.
+use mathlib.Core.List.{map}
+use Rattle.plan.specs.Coded.{verdictOf, plannedOf}
+use Rattle.checker_plans.specs.declared.Plans.{Plans as PlansCode}
+use Rattle.checker_plans.specs.Inner.{Plans}
+
+-- what two plans say, with 0 for good ones or the refusal's number
+abbrev pub plansOf : PlansCode → Plans
+plansOf b = record { number = verdictOf (b .verdict); count = b .count; said = map plannedOf (b .said) }

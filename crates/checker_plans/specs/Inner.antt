@@ -1,0 +1,23 @@
+-- What two plans say, found once for any number of messages.
+use mathlib.Core.List.{List, [], _∷_}
+use Prim.Native.Nat.{ℕ}
+use lib.Dec.{eqb}
+use lib.ListN.{replicate}
+use Rattle.laws.specs.Ruled.{ruled, unless0}
+use Rattle.plan.specs.Paper.{Plan, Planned, planNumber, nonePlanned, allPlanned}
+
+-- 01 Order: the number that the plans are refused by or 0, the current plan's count, and what both say of each slot
+pub record Plans : Type 0 where
+  pub number : ℕ
+  pub count : ℕ
+  pub said : List Planned
+
+-- 01 Order: with a refusal nothing is said
+abbrev pub unsaid : ℕ → Plans
+unsaid n = record { number = n; count = 0; said = replicate 48 (nonePlanned 0) }
+
+-- 01 Order, checker: current, previous, 35
+unfoldable pub beside : Plan → Plan → Plans
+beside c p =
+    ruled unsaid (unless0 (planNumber c) ∷ unless0 (planNumber p) ∷ (eqb (c .count) 0, 35) ∷ [])
+    (record { number = 0; count = c .count; said = allPlanned c p })

@@ -1,0 +1,3 @@
+-- What `checker_plans` defines.
+pub mod Inner
+pub mod Coded

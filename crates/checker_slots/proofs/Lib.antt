@@ -1,0 +1,2 @@
+-- What `checker_slots` proves.
+pub mod Determined

@@ -1,0 +1,10 @@
+-- `checker_slots::leads` meets its contract: another kind decides it, and else the lowest slot.
+use Rattle.laws.proofs.Base.{eq-eqb, ne-eqb}
+use Rattle.checker_slots.proofs.leads.Statement.{statement}
+use Rattle.checker_slots.proofs.leads.Tie as tie
+
+pub leads-spec : {M : Type 1} → statement M
+leads-spec =
+    tie.close
+    (tie.spec
+    (λ c. simp (ne-eqb _ _ (c .if1 .taken))) (λ c. simp (eq-eqb _ _ (c .before .if1 .left))))

@@ -1,0 +1,2 @@
+-- What `checker_slots` defines.
+pub mod Inner

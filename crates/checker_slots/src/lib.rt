@@ -1,0 +1,85 @@
+// Whether a slot of a schedule message is told truly by what two plans say of it.
+ghost use mathlib.Core.Path.{_≡_};
+ghost use Rattle.schedule.specs.Coded.{toldOf, shownOf};
+ghost use Rattle.plan.specs.Coded.{plannedOf};
+ghost use Rattle.checker_slots.specs.Inner.{leads, repeats, mayTell, newFor, trueBy};
+use plan::Planned;
+use schedule::Description;
+use schedule::Slot;
+
+// Whether a slot is the lowest with its page.
+fn leads(planned: Planned, number: usize) -> bool
+    ensures { λ r. ⌜ r ≡ leads (plannedOf planned) number ⌝ }
+{
+    if planned.kind != 2 {
+        return false;
+    }
+    planned.lowest == number
+}
+
+// Whether a slot is a later one with its page.
+fn repeats(planned: Planned, number: usize) -> bool
+    ensures { λ r. ⌜ r ≡ repeats (plannedOf planned) number ⌝ }
+{
+    if planned.kind != 2 {
+        return false;
+    }
+    planned.lowest != number
+}
+
+// Whether a description may be told of a slot.
+fn may_tell(planned: Planned, number: usize, description: Description) -> bool
+    ensures { λ r. ⌜ r ≡ mayTell (plannedOf planned) number (toldOf description) ⌝ }
+{
+    match description {
+        Description::First(low) => {
+            if !leads(planned, number) {
+                return false;
+            }
+            low == planned.low
+        }
+        Description::Repeat(n) => {
+            if !repeats(planned, number) {
+                return false;
+            }
+            n as usize == planned.lowest
+        }
+        Description::Optional => {
+            if planned.kind == 0 {
+                return true;
+            }
+            repeats(planned, number)
+        }
+        Description::Advised => {
+            if planned.kind == 1 {
+                return true;
+            }
+            planned.kind == 2
+        }
+    }
+}
+
+// The new bit that belongs to a description.
+fn new_for(planned: Planned, description: Description) -> bool
+    ensures { λ r. ⌜ r ≡ newFor (plannedOf planned) (toldOf description) ⌝ }
+{
+    match description {
+        Description::First(_) => planned.fresh,
+        Description::Repeat(_) => planned.fresh,
+        Description::Optional => false,
+        Description::Advised => true,
+    }
+}
+
+// Whether a slot is told truly, by its number and what the plans say of it.
+pub fn is_true(planned: Planned, number: usize, slot: Slot) -> bool
+    ensures { λ r. ⌜ r ≡ trueBy (plannedOf planned) number (shownOf slot) ⌝ }
+{
+    let new = slot.new;
+    let description = slot.description;
+    if !may_tell(planned, number, description) {
+        return false;
+    }
+    let right = new_for(planned, description);
+    new == right
+}
