@@ -5,7 +5,7 @@ use Rattle.laws.proofs.Ruled.{ruling, Ruling, refuses, passes, Among, NoneHolds
 use Rattle.laws.proofs.Snoc.{length-snoc, snoc-injective, each-snoc}
 use Rattle.laws.proofs.Tests.{both, neither, either}
 use Rattle.block.specs.Paper.{Kind, page, schedule, kindNumber, codeOf, link, mark, code, last, follows, reserved, faults, filled, Held, Given, start, proper, refusal, made, step}
-use Rattle.block.specs.Coded.{outcome}
+use Rattle.block.specs.Inner.{outcome}
 use Rattle.block_history.specs.Claims.{completes, IsBlock, Run, Unfinished, Latest, contents, after, answered, holding, refusedBy, GoesOn, CompleteExactly, CompleteGives, TakenGives, GoesOnDecided, RefusedGives}
 use Rattle.block_history.proofs.Joins.{Part, nothing, more, Base, fresh, holds, join, length-part, proper-holding, proper-start}
 

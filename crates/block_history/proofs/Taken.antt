@@ -1,9 +1,10 @@
 -- The blocks that the writer writes, taken in: what each of the four is answered.
 use Rattle.laws.proofs.Base.{_≡_, refl, sym, ap, _∙_, Bool, true, false, List, [], _∷_, _++_, ℕ, zero, suc, _+_, _*_, _/_, _%_, _≤_, _<_, le-of-lt, arith, length, take, drop, length-drop, drop-at, take-all, take-append-le, drop-append-le, take-add, eqb, leb, ltb, lit≤, ne-eqb, le-leb, lt-leb, eqb-true, eqb-false, ltb-true, ltb-false}
 use Rattle.laws.proofs.Snoc.{length-snoc}
-use Rattle.block.specs.Paper.{Kind, kindNumber, mark, codeOf, markOf, lastUsed, block, blocks, filled, Held, Given, start, proper, handed, last, step}
-use Rattle.block.specs.Coded.{outcome}
-use Rattle.block.proofs.Write.{codeOf-small, length-block, length-blocks}
+use Rattle.block.specs.Paper.{Kind, kindNumber, mark, codeOf, filled, Held, Given, start, proper, handed, last, step}
+use Rattle.block.specs.Inner.{outcome}
+use Rattle.block_writer.specs.Paper.{markOf, lastUsed, block, blocks}
+use Rattle.block_writer.proofs.Write.{codeOf-small, length-block, length-blocks}
 use Rattle.block_history.specs.Claims.{IsBlock, contents, after, piece, pieces, expected, BlocksTaken}
 use Rattle.block_history.proofs.Joins.{Part, nothing, more, join, not-next, contents-snoc}
 use Rattle.block_history.proofs.History.{after-append, held-part}

@@ -5,7 +5,7 @@ use Rattle.plan.specs.Paper.{readPlan, lowestAt}
 use Rattle.sender.specs.Paper.{Writing, unwritten, write}
 use Rattle.checker.specs.Paper.{Checked, unchecked, check}
 use Rattle.board.specs.Paper.{Decided}
-use Rattle.block.specs.Paper.{lastUsed}
+use Rattle.block_writer.specs.Paper.{lastUsed}
 use Rattle.delivery.proofs.Accepted.{ours-accepted}
 use Rattle.board_obeyed.specs.Claims.{Obeys, WantedPage, Why, after}
 use Rattle.board_obeyed.proofs.Obeyed.{wakes, wakes-only}

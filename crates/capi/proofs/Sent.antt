@@ -3,10 +3,12 @@ use Rattle.laws.proofs.Base.{_≡_, ap, _∙_, Bool, List, ℕ}
 use Rattle.refusals.specs.declared.Refusal.{Refusal}
 use Rattle.refusals.specs.Number.{numberOf}
 use Rattle.block.specs.declared.Kind.{Kind as KindCode}
-use Rattle.block.specs.declared.Sent.{Sent}
-use Rattle.block.specs.declared.Sent.the-variants.{Done, Refused}
-use Rattle.block.specs.Paper.{Kind, written, BlocksLeft as Writing}
-use Rattle.block.specs.Coded.{kindOf, sentOf}
+use Rattle.block_writer.specs.declared.Sent.{Sent}
+use Rattle.block_writer.specs.declared.Sent.the-variants.{Done, Refused}
+use Rattle.block.specs.Paper.{Kind}
+use Rattle.block.specs.Coded.{kindOf}
+use Rattle.block_writer.specs.Paper.{written, BlocksLeft as Writing}
+use Rattle.block_writer.specs.Coded.{sentOf}
 use Rattle.capi.specs.Paper.{CallLeft, kindIf, blocksCall}
 
 abbrev leaves : Writing → CallLeft

@@ -5,7 +5,8 @@ use Prim.Native.Nat.{ℕ, _+_, _*_}
 use lib.ListN.{length}
 use lib.Dec.{eqb}
 use Rattle.laws.specs.Ruled.{ruled, unless0}
-use Rattle.block.specs.Paper.{Kind, page, schedule, written as writtenBlocks}
+use Rattle.block.specs.Paper.{Kind, page, schedule}
+use Rattle.block_writer.specs.Paper.{written as writtenBlocks}
 use Rattle.page.specs.Paper.{Heading, handedNumber}
 use Rattle.plan.specs.Paper.{readPlan}
 use Rattle.schedule.specs.Paper.{read, Given, next, noMore, refusal, given}

@@ -8,7 +8,7 @@ ghost use Prim.Native.Nat.{_≤_};
 ghost use lib.ListN.{length, take};
 ghost use Rattle.capi.specs.Paper.{writeCall, readCall, scheduleCall, descriptionCall, contentCall, kindIf, blocksCall, planCall, filesNumber, writeScheduleCall, checkScheduleCall, decideCall};
 use block::Kind;
-use block::Sent;
+use block_writer::Sent;
 use board::Decision;
 use board::Held;
 use board::Wanted;
@@ -130,7 +130,7 @@ pub extern "C" fn cb_write_blocks(
     ensures { λ r. ⌜ record { returned = r; memory = now (out .exit) } ≡ blocksCall (now (message .entry)) schedule used (now (out .entry)) ⌝ }
 {
     let kind = kind_of(schedule);
-    let answer = block::write_blocks(message, kind, used, out);
+    let answer = block_writer::write_blocks(message, kind, used, out);
     match answer {
         Sent::Done => 0,
         Sent::Refused(refusal) => refusals::number(refusal) as u32,

@@ -3,8 +3,7 @@ use Rattle.laws.proofs.Base.{_≡_, refl, sym, ap, _∙_, Bool, true, false, co
 use borrow.Rule.Slice.PartMut.{midOf, putMid}
 use Rattle.laws.proofs.Parts.{copy-whole, put-copy}
 use Rattle.block.specs.Paper.{Held, Given, filled, start, proper, refusal, added, step}
-use Rattle.block.specs.Inner.{Place, placeOf}
-use Rattle.block.specs.Coded.{stateWith, outcome, Adds}
+use Rattle.block.specs.Inner.{Place, placeOf, stateWith, outcome, Adds}
 use Rattle.block.proofs.Filled.{filled-next}
 use Rattle.block.proofs.Steps.{met, step-by}
 use Rattle.firmware.specs.Paper.{IntakeLeft, lent, moved}

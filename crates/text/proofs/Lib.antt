@@ -5,4 +5,3 @@ pub mod Marks
 pub mod Septets
 pub mod Shown
 pub mod Trim
-pub mod Words

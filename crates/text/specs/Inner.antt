@@ -1,23 +1,9 @@
--- What the inner functions ask and promise.
-use Prim.Native.Nat.{ℕ, _^_, _≤_}
-use mathlib.Core.Path.{_≡_}
+-- What the inner functions promise.
+use Prim.Native.Nat.{ℕ}
 use mathlib.Core.Bool.{Bool, false, _||_}
 use mathlib.Core.List.{List, [], _∷_}
 use lib.Dec.{eqb}
-use lib.ListN.{length}
-use Rattle.laws.specs.Radix.{Below}
 use Rattle.alphabet.specs.Paper.{noSeptet}
-
--- digits to base b whose number is a machine word
-pub record Word (b : ℕ) (xs : List ℕ) : Type 0 where
-  pub below : Below b xs
-  pub room : b ^ length xs ≤ 2 ^ 64
-
--- 93 septets, and room for their 82 octets
-pub record Packable (septets octets : List ℕ) : Type 0 where
-  pub below : Below 128 septets
-  pub count : length septets ≡ 93
-  pub room : length octets ≡ 82
 
 -- the mark for none is among them
 unfoldable pub marks : List ℕ → Bool

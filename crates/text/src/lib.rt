@@ -1,6 +1,4 @@
 // Text of the default alphabet written into a page and read back.
-mod packing;
-
 ghost use mathlib.Core.Path.{_≡_};
 ghost use Prim.Native.Nat.{_≤_};
 ghost use lib.ListN.{length, replicate};

@@ -6,9 +6,9 @@ use crate::fields::LENT;
 use crate::fields::UNREAD;
 use crate::told;
 use crate::told::NO_ANSWER;
-use block::Answer;
-use block::Reply;
-use block::State;
+use block_intake::Answer;
+use block_intake::Reply;
+use block_intake::State;
 use sizes::FILLER;
 use sizes::MESSAGE;
 
@@ -38,7 +38,7 @@ fn start_both(state: &mut [u8]) -> u32 {
     if returned != 0 {
         return returned;
     }
-    if is_left(block::start(), state) {
+    if is_left(block_intake::start(), state) {
         return returned;
     }
     NO_ANSWER
@@ -154,7 +154,7 @@ fn intake_both(state: &mut [u8], piece: &[u8], output: &mut [u8]) -> u32 {
     }
     let held = held_in(state);
     let returned = firmware::cb_intake(state, piece, output);
-    let reply = block::intake(held, piece);
+    let reply = block_intake::intake(held, piece);
     if is_given(reply, returned, state, output) {
         return returned;
     }

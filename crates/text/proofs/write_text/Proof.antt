@@ -2,7 +2,7 @@
 use Rattle.laws.proofs.Base.{_≡_, sym, ap, _∙_, false, List, [], _++_, append-nil, ℕ, _-_, le-refl, arith, needs, now, length, take, drop, length-drop, drop-of-length-le, take-at, take-length, length-take-le}
 use Rattle.page.specs.Paper.{Heading}
 use Rattle.page.proofs.HeaderBack.{header-length}
-use Rattle.text.specs.Paper.{Writing, septets, pageOf, usedOctets, badParameter, foreign}
+use Rattle.text.specs.Paper.{Writing, septets, packed, pageOf, usedOctets, badParameter, foreign}
 use Rattle.text.specs.Coded.{headed}
 use Rattle.text.specs.Inner.{marks}
 use Rattle.text.proofs.Cases.{written-15, written-13, written-14, written-10, written-11, written-12, written-0}
@@ -103,7 +103,7 @@ answered : {w : Writing} {q r : List ℕ} (u : ℕ) → q ≡ r → w ≡ record
 answered u e f = ap (λ (x : List ℕ). record { number = 0; used = u; page = x }) e ∙ sym f
 
 returns-7 : tie.Need-returns-7
-unfolding pageOf
+unfolding pageOf packed
 returns-7 c =
     let s = c .before .before .before .before .before .before .before .before .before .before .before .before .before .before .before .before .before .before .before .before .before .before .before .before .before .before in
     let d = c .before .before .before .before .before .before .before .before .before .before .before .before .before .before .before .before .before .before .before in
