@@ -3,12 +3,13 @@ use Rattle.laws.proofs.Base.{_≡_, sym, ap, _∙_, List, ℕ, _*_, _≤_, zero
 use Rattle.refusals.specs.declared.Refusal.{Refusal}
 use Rattle.refusals.specs.Number.{numberOf}
 use Rattle.page.specs.Paper.{Heading}
-use Rattle.text.specs.declared.Written.{Written}
-use Rattle.text.specs.declared.Written.the-variants.{Used, Refused}
-use Rattle.text.specs.declared.Got.{Got}
-use Rattle.text.specs.declared.Got.the-variants as got
+use Rattle.text_writer.specs.declared.Written.{Written}
+use Rattle.text_writer.specs.declared.Written.the-variants.{Used, Refused}
+use Rattle.text_reader.specs.declared.Got.{Got}
+use Rattle.text_reader.specs.declared.Got.the-variants as got
 use Rattle.text.specs.Paper.{Writing, Reading, written, reading}
-use Rattle.text.specs.Coded.{writingOf, readingOf}
+use Rattle.text_writer.specs.Coded.{writingOf}
+use Rattle.text_reader.specs.Coded.{readingOf}
 use Rattle.text_back.proofs.Back.{used-bounds}
 use Rattle.text_back.proofs.Reader.{characters-bounded}
 use Rattle.capi.specs.Paper.{CallLeft, packed, writeCall, readCall}

@@ -1,8 +1,8 @@
 -- Laws of the mark for none among septets, and of characters that have none.
 use Rattle.laws.proofs.Base.{_≡_, refl, sym, true, false, _||_, or-assoc, or-true, or-false, List, [], _∷_, _++_, map, ℕ, zero, suc, _+_, _<_, add-one, eqb, length, getD, take, replicate, take-suc, ne-eqb}
 use Rattle.alphabet.specs.Paper.{septetOf, noSeptet}
 use Rattle.text.specs.Paper.{cr, foreign}
-use Rattle.text.specs.Inner.{marks}
+use Rattle.text_writer.specs.Inner.{marks}
 
 marks-append : (s t : List ℕ) → marks (s ++ t) ≡ (marks s || marks t)
 unfolding marks

@@ -1,8 +1,8 @@
--- `text::blank` meets its contract: after i turns the first i places hold 0.
+-- `text_reader::blank` meets its contract: after i turns the first i places hold 0.
 use Rattle.laws.proofs.Base.{_≡_, refl, ap, _∙_, List, _++_, append-nil, ℕ, _≤_, _<_, _-_, arith, needs, now, length, length-set, set, drop, replicate, drop-length}
 use borrow.Author.Fill.{fill-more}
-use Rattle.text.proofs.blank.Statement.{statement}
-use Rattle.text.proofs.blank.Tie as tie
+use Rattle.text_reader.proofs.blank.Statement.{statement}
+use Rattle.text_reader.proofs.blank.Tie as tie
 
 abbrev Inv-loop : tie.InvT-loop
 Inv-loop text₀ i₀ text i = (i ≤ length text₀) × (length text ≡ length text₀) × (text ≡ replicate i 0 ++ drop i text₀)

@@ -1,9 +1,9 @@
--- `text::without_crs` meets its contract: dropping CRs from the septets, or from the first n of them, leaves the same.
+-- `text_reader::without_crs` meets its contract: dropping CRs from the septets, or from the first n of them, leaves the same.
 use Rattle.laws.proofs.Base.{_≡_, sym, ap, _∙_, _≤_, arith, needs, now, length, take, take-length, length-take-le}
 use Rattle.text.specs.Paper.{trimmed}
 use Rattle.text.proofs.Trim.{trim-back, trim-stop}
-use Rattle.text.proofs.without_crs.Statement.{statement}
-use Rattle.text.proofs.without_crs.Tie as tie
+use Rattle.text_reader.proofs.without_crs.Statement.{statement}
+use Rattle.text_reader.proofs.without_crs.Tie as tie
 
 abbrev Inv-loop : tie.InvT-loop
 Inv-loop septets n₀ n = (n ≤ length septets) × (trimmed septets ≡ trimmed (take n septets))

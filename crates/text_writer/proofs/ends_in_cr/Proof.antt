@@ -1,8 +1,8 @@
--- `text::ends_in_cr` meets its contract: an empty text has no last character.
+-- `text_writer::ends_in_cr` meets its contract: an empty text has no last character.
 use Rattle.laws.proofs.Base.{refl, List, [], _∷_, _≡_, sym, false, ℕ, arith, needs, now, length}
 use Rattle.text.specs.Paper.{endsInCr}
-use Rattle.text.proofs.ends_in_cr.Statement.{statement}
-use Rattle.text.proofs.ends_in_cr.Tie as tie
+use Rattle.text_writer.proofs.ends_in_cr.Statement.{statement}
+use Rattle.text_writer.proofs.ends_in_cr.Tie as tie
 
 empty : (t : List ℕ) → length t ≡ 0 → endsInCr t ≡ false
 unfolding endsInCr

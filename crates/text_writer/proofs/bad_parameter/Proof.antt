@@ -1,8 +1,8 @@
--- `text::bad_parameter` meets its contract: where the page is not 0, a total of 0 is below it.
+-- `text_writer::bad_parameter` meets its contract: where the page is not 0, a total of 0 is below it.
 use Rattle.laws.proofs.Base.{_≡_, refl, sym, Bool, true, false, _||_, ℕ, _/_, _%_, _<_, pos-of-ne-zero, arith, eqb, ltb, eq-eqb, ne-eqb, lt-ltb, eqb-true}
 use Rattle.text.specs.Paper.{badParameter}
-use Rattle.text.proofs.bad_parameter.Statement.{statement}
-use Rattle.text.proofs.bad_parameter.Tie as tie
+use Rattle.text_writer.proofs.bad_parameter.Statement.{statement}
+use Rattle.text_writer.proofs.bad_parameter.Tie as tie
 
 returns : tie.Need-returns
 unfolding badParameter
