@@ -1,6 +1,7 @@
 -- Laws of the lowest number below a bound that passes a test.
 use Rattle.laws.proofs.Base.{_≡_, refl, sym, _∙_, Bool, true, false, cond, false≢true, ⊎-elim, ℕ, zero, suc, _<_, not-suc-le-zero, arith}
 use Rattle.laws.specs.Upto.{some, lowest}
+use Rattle.laws.proofs.Tests.{true-or-false}
 use Rattle.laws.proofs.Upto.{below-suc, some-at, some-none, some-agree}
 
 module _ (p : ℕ → Bool) where
@@ -14,33 +15,32 @@ module _ (p : ℕ → Bool) where
   lowest-is zero = none-passes refl (λ i l. absurd (not-suc-le-zero l))
   lowest-is (suc n) = go (lowest-is n)
     where
-      here : (b : Bool) → p n ≡ b → some p n ≡ false → ((i : ℕ) → i < n → p i ≡ false) → Lowest (suc n) (cond (some p n) (lowest p n) (cond (p n) (suc n) 0))
-      here true e s none = rw (s, e) (first-passes n refl (omega arith) e none)
-      here false e s none =
-          rw (s, e) (none-passes refl (λ i l. ⊎-elim (λ q. rw q e) (λ b. none i b) (below-suc l)))
-
       go : Lowest n (lowest p n) → Lowest (suc n) (cond (some p n) (lowest p n) (cond (p n) (suc n) 0))
-      go (none-passes e none) = here (p n) refl (some-none p n none) none
+      go (none-passes e none) =
+          rw (some-none p n none)
+          (true-or-false (p n)
+          (λ q. rw q (first-passes n refl (omega arith) q none))
+          (λ q. rw q (none-passes refl (λ i l. ⊎-elim (λ s. rw s q) (none i) (below-suc l)))))
       go (first-passes i e l q before) = rw (some-at p n i l q) (first-passes i e (omega arith) q before)
 
   -- the end of a loop that found the first number that passes
   pub lowest-at : (n i : ℕ) → i < n → p i ≡ true → ((j : ℕ) → j < i → p j ≡ false) → lowest p n ≡ suc i
-  lowest-at n i l e before = go (lowest p n) (lowest-is n)
+  lowest-at n i l e before = go (lowest-is n)
     where
-      go : (r : ℕ) → Lowest n r → r ≡ suc i
-      go r (none-passes q none) = absurd (false≢true (sym (none i l) ∙ e))
-      go r (first-passes k q h f lower) =
+      go : {r : ℕ} → Lowest n r → r ≡ suc i
+      go (none-passes q none) = absurd (false≢true (sym (none i l) ∙ e))
+      go (first-passes k q h f lower) =
           let up : k < i → ⊥ = λ b. false≢true (sym (before k b) ∙ f) in
           let down : i < k → ⊥ = λ b. false≢true (sym (lower i b) ∙ e) in
           omega arith
 
   -- the end of one that found none
   pub lowest-none : (n : ℕ) → ((i : ℕ) → i < n → p i ≡ false) → lowest p n ≡ 0
-  lowest-none n none = go (lowest p n) (lowest-is n)
+  lowest-none n none = go (lowest-is n)
     where
-      go : (r : ℕ) → Lowest n r → r ≡ 0
-      go r (none-passes q _) = q
-      go r (first-passes k q h f lower) = absurd (false≢true (sym (none k h) ∙ f))
+      go : {r : ℕ} → Lowest n r → r ≡ 0
+      go (none-passes q _) = q
+      go (first-passes k q h f lower) = absurd (false≢true (sym (none k h) ∙ f))
 
   -- tests that agree below n have the same lowest
   pub lowest-agree : (q : ℕ → Bool) (n : ℕ) → ((i : ℕ) → i < n → p i ≡ q i) → lowest p n ≡ lowest q n

@@ -2,6 +2,7 @@
 use Rattle.laws.proofs.Base.{_≡_, refl, sym, Bool, true, false, List, [], _∷_, _++_, _⊎_, inl, inr, ⊎-elim, ℕ}
 use Rattle.laws.specs.Ruled.{ruled}
 use Rattle.laws.proofs.Ruled.{Among, NoneHolds}
+use Rattle.laws.proofs.Tests.{true-or-false}
 
 -- either every answer is that of one test's number, or no test holds and every answer is the one past the tests
 pub data Outcome (ts : List (Bool × ℕ)) : Type 1 where
@@ -25,11 +26,10 @@ ruled-append by (t ∷ ts) us x = rw (ruled-append by ts us x)
 -- a number that none of the first tests has answers only where none of them holds
 pub ruled-past : (ts us : List (Bool × ℕ)) (x n : ℕ) → (Among n ts → ⊥) → ruled (λ (k : ℕ). k) (ts ++ us) x ≡ n → NoneHolds ts × (ruled (λ (k : ℕ). k) us x ≡ n)
 ruled-past [] us x n h e = (tt, e)
-ruled-past (t ∷ ts) us x n h e = go (t .0) refl (λ q. ruled-past ts us x n (λ a. h (inr a)) q)
-  where
-    go : (b : Bool) → t .0 ≡ b → (ruled (λ (k : ℕ). k) (ts ++ us) x ≡ n → NoneHolds ts × (ruled (λ (k : ℕ). k) us x ≡ n)) → NoneHolds (t ∷ ts) × (ruled (λ (k : ℕ). k) us x ≡ n)
-    go true q f = absurd (h (inl (sym (rw q at e))))
-    go false q f = let w = f (rw q at e) in ((q, w .0), w .1)
+ruled-past (t ∷ ts) us x n h e =
+    true-or-false (t .0)
+    (λ q. absurd (h (inl (sym (rw q at e)))))
+    (λ q. let w = ruled-past ts us x n (λ a. h (inr a)) (rw q at e) in ((q, w .0), w .1))
 
 -- n is the number of one of the tests, and that test holds
 abbrev pub Because : ℕ → List (Bool × ℕ) → Type 0
@@ -39,8 +39,7 @@ Because n (t ∷ ts) = ((n ≡ t .1) × (t .0 ≡ true)) ⊎ Because n ts
 -- the number that tests answer by is that of a test that holds, or the one past the tests
 pub ruled-because : (ts : List (Bool × ℕ)) (x n : ℕ) → ruled (λ (k : ℕ). k) ts x ≡ n → (x ≡ n) ⊎ Because n ts
 ruled-because [] x n e = inl e
-ruled-because (t ∷ ts) x n e = go (t .0) refl (λ h. ruled-because ts x n h)
-  where
-    go : (b : Bool) → t .0 ≡ b → (ruled (λ (k : ℕ). k) ts x ≡ n → (x ≡ n) ⊎ Because n ts) → (x ≡ n) ⊎ Because n (t ∷ ts)
-    go true q f = inr (inl (sym (rw q at e), q))
-    go false q f = ⊎-elim (λ h. inl h) (λ h. inr (inr h)) (f (rw q at e))
+ruled-because (t ∷ ts) x n e =
+    true-or-false (t .0)
+    (λ q. inr (inl (sym (rw q at e), q)))
+    (λ q. ⊎-elim (λ h. inl h) (λ h. inr (inr h)) (ruled-because ts x n (rw q at e)))

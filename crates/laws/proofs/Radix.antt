@@ -1,5 +1,5 @@
 -- Laws of numbers and their digits: lists joined and cut, and digits of one base read in another.
-use Rattle.laws.proofs.Base.{_≡_, refl, sym, ap, _∙_, List, [], _∷_, _++_, append-assoc, append-nil, ℕ, zero, suc, _+_, _*_, _/_, _%_, _^_, _-_, _<_, _≤_, zero-add, suc-add, add-assoc, mul-add, mul-assoc, mul-zero, one-mul, mul-one, mul-comm, add-comm, pow-zero, pow-succ', div-one, div-div-eq-div-mul, add-mul-mod-self-left, add-mul-div-left, mod-eq-of-lt, div-eq-of-lt, mul-le-mul-left, mul-suc, add-sub-cancel-left, add-sub-of-le, mod-add-div, one-le-pow, pow-suc, pow-le-pow-right, lt-of-lt-of-le, sub-le, le-refl, add-one, arith, length, getD, take, drop, set, replicate, length-append, length-drop, take-append-drop, drop-of-length-le, drop-cons, getD-drop, set-at, append-snoc, take-at, take-add, take-all, length-take-le}
+use Rattle.laws.proofs.Base.{_≡_, refl, sym, ap, _∙_, List, [], _∷_, _++_, append-assoc, append-nil, ℕ, zero, suc, _+_, _*_, _/_, _%_, _^_, _-_, _<_, _≤_, zero-add, suc-add, add-assoc, mul-add, mul-assoc, mul-zero, one-mul, mul-one, mul-comm, pow-zero, pow-succ', div-one, div-div-eq-div-mul, add-mul-mod-self-left, add-mul-div-left, mod-eq-of-lt, div-eq-of-lt, mul-le-mul-left, mul-suc, add-sub-cancel-left, add-sub-of-le, mod-add-div, one-le-pow, pow-suc, pow-le-pow-right, lt-of-lt-of-le, sub-le, le-refl, add-one, arith, length, getD, take, drop, set, replicate, length-append, length-drop, take-append-drop, drop-of-length-le, drop-cons, getD-drop, set-at, append-snoc, take-at, take-add, take-all, length-take-le}
 use lib.Pow.{pow-add}
 use Rattle.laws.specs.Radix.{value, digits, Below}
 
@@ -57,7 +57,7 @@ pub value-back : (b i : ℕ) (xs : List ℕ) → 0 < i → i ≤ length xs → v
 value-back b i xs p h =
     let k : i - 1 < length xs = omega arith in
     let e : i - 1 + 1 ≡ i = omega arith in
-    rw (value-drop b (i - 1) xs k, e, mul-comm (value b (drop i xs)) b, add-comm (b * value b (drop i xs)) (getD xs (i - 1) 0))
+    rw (value-drop b (i - 1) xs k, e) (omega (arith, mul-comm (value b (drop i xs)) b))
 
 -- the first n digits, and those from there on
 digits-split : (b n m v : ℕ) → digits b (n + m) v ≡ digits b n v ++ digits b m (v / b ^ n)
@@ -84,21 +84,6 @@ digits-value b [] h = refl
 digits-value b (x ∷ xs) h =
     let p : 0 < b = omega (arith, h 0) in
     rw (add-mul-mod-self-left, mod-eq-of-lt (h 0), add-mul-div-left x (value b xs) p, div-eq-of-lt (h 0), zero-add, digits-value b xs (below-tail b x xs h))
-
--- where some digits to base b fill a power of base c, what follows them is read by itself
-regroup : (b c m k : ℕ) → 0 < c → (xs ys : List ℕ) → Below b xs → b ^ length xs ≡ c ^ m
-    → digits c (m + k) (value b (xs ++ ys)) ≡ digits c m (value b xs) ++ digits c k (value b ys)
-regroup b c m k h xs ys low e =
-    let l : value b xs < c ^ m = rw e at (value-lt b xs low) in
-    rw (
-      value-append b xs ys,
-      e,
-      digits-split c m k,
-      digits-low c h m,
-      add-mul-div-left (value b xs) (value b ys) (one-le-pow m c h),
-      div-eq-of-lt l,
-      zero-add,
-    )
 
 -- what is left of digits from a place on are digits
 pub below-drop : (b i : ℕ) (xs : List ℕ) → Below b xs → Below b (drop i xs)
@@ -134,9 +119,19 @@ module _ (b c n m g : ℕ) (pos : 0 < c) (e : b ^ n ≡ c ^ m) (src d : List ℕ
   joined : (ys : List ℕ) (r : ℕ)
       → digits c (m * g + r) (value b (take (n * g) src ++ ys)) ≡ take (m * g) d ++ digits c r (value b ys)
   joined ys r =
-      regroup b c (m * g) r pos (take (n * g) src) ys (below-take b (n * g) src low)
-      (ap (λ (k : ℕ). b ^ k) (length-take-le (n * g) src within) ∙ powers b c n m e g)
-      ∙ ap (λ (l : List ℕ). l ++ digits c r (value b ys)) (sym done)
+      let xs : List ℕ = take (n * g) src in
+      let filled : b ^ length xs ≡ c ^ (m * g) = rw (length-take-le (n * g) src within) (powers b c n m e g) in
+      let l : value b xs < c ^ (m * g) = rw filled at (value-lt b xs (below-take b (n * g) src low)) in
+      rw (
+        value-append b xs ys,
+        filled,
+        digits-split c (m * g) r,
+        digits-low c pos (m * g),
+        add-mul-div-left (value b xs) (value b ys) (one-le-pow (m * g) c pos),
+        div-eq-of-lt l,
+        zero-add,
+        done,
+      )
 
   -- a loop's turn: the number w of one more group of src is put into the next place of d, which y then is
   pub group-turn : (w : ℕ) (y : List ℕ) → m * g + m ≤ length d
@@ -171,14 +166,11 @@ module _ (b c n m g : ℕ) (pos : 0 < c) (e : b ^ n ≡ c ^ m) (src d : List ℕ
 -- the first k of n digits
 pub take-digits : (b k n v : ℕ) → k ≤ n → take k (digits b n v) ≡ digits b k v
 take-digits b k n v h =
-    let e : k + (n - k) ≡ n = add-sub-of-le h in
-    ap (λ (m : ℕ). take k (digits b m v)) (sym e)
-    ∙ ap (λ (l : List ℕ). take k l) (digits-split b k (n - k) v)
-    ∙ take-at (digits b k v) (digits b (n - k) (v / b ^ k)) k (length-digits b k v)
+    rw (← add-sub-of-le h, digits-split b k (n - k) v) (take-at (digits b k v) _ k (length-digits b k v))
 
 -- the first k digits of a list's number are the first k of the list
 pub digits-front : (b k : ℕ) (xs : List ℕ) → Below b xs → k ≤ length xs → digits b k (value b xs) ≡ take k xs
-digits-front b k xs low h = sym (take-digits b k (length xs) (value b xs) h) ∙ ap (λ (l : List ℕ). take k l) (digits-value b xs low)
+digits-front b k xs low h = sym (take-digits b k (length xs) (value b xs) h) ∙ ap (take k) (digits-value b xs low)
 
 -- a number is that of its n lowest digits, and what counts by the n-th power
 value-digits : (b n v : ℕ) → value b (digits b n v) + b ^ n * (v / b ^ n) ≡ v
@@ -191,11 +183,13 @@ value-digits b (suc n) v =
 pub digits-kept : (b c n k r v : ℕ) → 0 < c → c ^ k * r ≡ b ^ n → digits c k (value b (digits b n v)) ≡ digits c k v
 digits-kept b c n k r v pos e =
     sym (digits-low c pos k (value b (digits b n v)) (r * (v / b ^ n)))
-    ∙ ap (λ (w : ℕ). digits c k w)
-    (ap (λ (w : ℕ). value b (digits b n v) + w) (sym (mul-assoc (c ^ k) r (v / b ^ n)) ∙ ap (λ (w : ℕ). w * (v / b ^ n)) e)
-    ∙ value-digits b n v)
+    ∙ rw (← mul-assoc (c ^ k) r (v / b ^ n), e, value-digits b n v)
 
 -- powers of two as powers of 2 ^ q
 pub power-bits : (q k : ℕ) → (2 ^ q) ^ k ≡ 2 ^ (q * k)
 power-bits q zero = simp (mul-zero, pow-zero)
 power-bits q (suc k) = simp (mul-suc, pow-add, pow-suc, power-bits q k)
+
+-- two numbers in one, the first below 256, taken apart
+pub packed-apart : (n c : ℕ) → n < 256 → ((n + 256 * c) % 256 ≡ n) × ((n + 256 * c) / 256 ≡ c)
+packed-apart n c l = (omega arith, omega arith)

@@ -1,7 +1,7 @@
 -- Laws of lists that are searched: turns and ends of the loops that do it, and what is found.
-use Rattle.laws.proofs.Base.{_≡_, refl, sym, Bool, true, false, cond, not, _||_, or-true, or-assoc, List, [], _∷_, _++_, ⊎-elim, ℕ, zero, suc, _+_, _≤_, _<_, le-of-suc-le-suc, not-suc-le-zero, add-one, arith, length, getD, take, drop, drop-of-length-le, eqb, eqb·suc-zero, take-suc, drop-cons}
+use Rattle.laws.proofs.Base.{_≡_, refl, sym, Bool, true, false, not, _||_, or-true, or-assoc, List, [], _∷_, _++_, ⊎-elim, ℕ, zero, suc, _+_, _≤_, _<_, le-of-suc-le-suc, not-suc-le-zero, add-one, arith, length, getD, take, drop, drop-of-length-le, eqb, eqb·suc-zero, take-suc, drop-cons}
 use Rattle.laws.specs.Search.{some, firstFrom}
-use Rattle.laws.proofs.Tests.{either}
+use Rattle.laws.proofs.Tests.{true-or-false, either}
 
 module _ {A : Type 0} (f : A → Bool) where
   pub some-append : (xs ys : List A) → some f (xs ++ ys) ≡ (some f xs || some f ys)
@@ -39,11 +39,7 @@ module _ {A : Type 0} (f : A → Bool) where
   pub found-some : (s : ℕ) (l : List A) → not (eqb (firstFrom f (suc s) l) 0) ≡ some f l
   unfolding firstFrom some
   found-some s [] = refl
-  found-some s (x ∷ l) = go (λ (t : ℕ). found-some t l) (f x)
-    where
-      go : ((t : ℕ) → not (eqb (firstFrom f (suc t) l) 0) ≡ some f l) → (b : Bool) → not (eqb (cond b (suc s) (firstFrom f (suc (suc s)) l)) 0) ≡ (b || some f l)
-      go rest true = rw eqb·suc-zero
-      go rest false = rest (suc s)
+  found-some s (x ∷ l) = true-or-false (f x) (λ e. rw (e, eqb·suc-zero)) (λ e. rw e (found-some (suc s) l))
 
   -- what a search found: nothing where no entry passes, or the first that does
   pub data Found (d : A) (s : ℕ) (l : List A) (r : ℕ) : Type 0 where
@@ -53,19 +49,18 @@ module _ {A : Type 0} (f : A → Bool) where
   pub searched : (d : A) (s : ℕ) (l : List A) → Found d s l (firstFrom f s l)
   unfolding firstFrom
   searched d s [] = none-passes refl (λ i h. absurd (not-suc-le-zero h))
-  searched d s (x ∷ l) = go (f x) refl (searched d (suc s) l)
+  searched d s (x ∷ l) =
+      true-or-false (f x)
+      (λ e. rw e (first-passes zero (omega arith) (omega arith) e (λ j h. absurd (not-suc-le-zero h))))
+      (λ e. rw e (later e (searched d (suc s) l)))
     where
       each : f x ≡ false → (n : ℕ) → ((i : ℕ) → i < n → f (getD l i d) ≡ false) → (i : ℕ) → i < suc n → f (getD (x ∷ l) i d) ≡ false
       each own n rest zero h = own
       each own n rest (suc i) h = rest i (le-of-suc-le-suc h)
 
-      later : f x ≡ false → (r : ℕ) → Found d (suc s) l r → Found d s (x ∷ l) r
-      later own r (none-passes e rest) = none-passes e (each own (length l) rest)
-      later own r (first-passes i e h p rest) = first-passes (suc i) (omega arith) (omega arith) p (each own i rest)
-
-      go : (b : Bool) → f x ≡ b → Found d (suc s) l (firstFrom f (suc s) l) → Found d s (x ∷ l) (cond b s (firstFrom f (suc s) l))
-      go true e r = first-passes zero (omega arith) (omega arith) e (λ j h. absurd (not-suc-le-zero h))
-      go false e r = later e (firstFrom f (suc s) l) r
+      later : f x ≡ false → {r : ℕ} → Found d (suc s) l r → Found d s (x ∷ l) r
+      later own (none-passes e rest) = none-passes e (each own (length l) rest)
+      later own (first-passes i e h p rest) = first-passes (suc i) (omega arith) (omega arith) p (each own i rest)
 
 -- an entry that passes one test passes another that follows from it
 pub some-implies : {A : Type 0} (f g : A → Bool) → ((x : A) → f x ≡ true → g x ≡ true) → (l : List A) → some f l ≡ true → some g l ≡ true

@@ -1,5 +1,6 @@
 -- Laws of a list with one element more at its end.
-use Rattle.laws.proofs.Base.{_≡_, refl, sym, ap, _∙_, Bool, true, false, List, [], _∷_, _++_, ℕ, suc, _<_, arith, length, getD, length-append, List·getD-append, take-append-seam, getD-append-seam, eqb, eqb-true, eqb-false}
+use Rattle.laws.proofs.Base.{_≡_, sym, ap, _∙_, List, [], _∷_, _++_, ℕ, suc, _<_, arith, length, getD, length-append, List·getD-append, take-append-seam, getD-append-seam}
+use Rattle.laws.proofs.Tests.{le-or-lt}
 
 module _ {A : Type 0} where
   pub length-snoc : (xs : List A) (x : A) → length (xs ++ (x ∷ [])) ≡ suc (length xs)
@@ -16,10 +17,9 @@ module _ {A : Type 0} where
   -- what holds of each element and its place, and of one more, holds of each with that one
   pub each-snoc : (P : ℕ → A → Type 0) (d : A) (xs : List A) (x : A)
       → ((i : ℕ) → i < length xs → P i (getD xs i d)) → P (length xs) x → (i : ℕ) → i < length (xs ++ (x ∷ [])) → P i (getD (xs ++ (x ∷ [])) i d)
-  each-snoc P d xs x each own i h = go (eqb i (length xs)) refl
-    where
-      go : (b : Bool) → eqb i (length xs) ≡ b → P i (getD (xs ++ (x ∷ [])) i d)
-      go true e = rw (eqb-true i (length xs) e, getD-append-seam xs x [] d) own
-      go false e =
-          let below : i < length xs = omega (arith, length-snoc xs x, eqb-false i (length xs) e) in
-          rw (List·getD-append xs (x ∷ []) d i below) (each i below)
+  each-snoc P d xs x each own i h =
+      le-or-lt (length xs) i
+      (λ l.
+      let last : i ≡ length xs = omega (arith, length-snoc xs x) in
+      rw (last, getD-append-seam xs x [] d) own)
+      (λ below. rw (List·getD-append xs (x ∷ []) d i below) (each i below))

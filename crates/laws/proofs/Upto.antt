@@ -1,8 +1,8 @@
 -- Laws of the numbers below a bound that pass a test, and of what a function gives at each.
-use Rattle.laws.proofs.Base.{_≡_, refl, sym, ap, _∙_, Bool, true, false, cond, not, false≢true, or-true, [], _∷_, _++_, _⊎_, ⊎-elim, ℕ, zero, suc, _+_, _≤_, _<_, eq-or-lt-of-le, le-of-suc-le-suc, not-suc-le-zero, add-one, arith, length, getD, length-append, List·getD-append, getD-at}
+use Rattle.laws.proofs.Base.{_≡_, refl, sym, ap, _∙_, Bool, true, false, cond, not, false≢true, or-true, [], _∷_, _⊎_, ⊎-elim, ℕ, zero, suc, _+_, _≤_, _<_, eq-or-lt-of-le, le-of-suc-le-suc, not-suc-le-zero, add-one, arith, length, getD, length-append, List·getD-append, getD-at}
 use Rattle.laws.specs.Upto.{some, count, picked, each}
 use Rattle.laws.proofs.Snoc.{length-snoc}
-use Rattle.laws.proofs.Tests.{either}
+use Rattle.laws.proofs.Tests.{true-or-false, either}
 
 -- a number below one more is the last one, or below it
 pub below-suc : {i n : ℕ} → i < suc n → (i ≡ n) ⊎ (i < n)
@@ -26,11 +26,7 @@ module _ (p : ℕ → Bool) where
   some-at (suc n) i l e = ⊎-elim (λ q. rw (← q, e) (or-true (some p i))) (λ b. rw (some-at n i b e)) (below-suc l)
 
   pub some-false : (n i : ℕ) → some p n ≡ false → i < n → p i ≡ false
-  some-false n i e l = go (p i) refl
-    where
-      go : (b : Bool) → p i ≡ b → p i ≡ false
-      go true q = absurd (false≢true (sym e ∙ some-at n i l q))
-      go false q = q
+  some-false n i e l = true-or-false (p i) (λ q. absurd (false≢true (sym e ∙ some-at n i l q))) (λ q. q)
 
   -- tests that agree below n have the same verdict
   pub some-agree : (q : ℕ → Bool) (n : ℕ) → ((i : ℕ) → i < n → p i ≡ q i) → some p n ≡ some q n
@@ -62,11 +58,7 @@ module _ (p : ℕ → Bool) where
   pub count-le : (n : ℕ) → count p n ≤ n
   unfolding count
   count-le zero = omega arith
-  count-le (suc n) = go (p n) refl (count-le n)
-    where
-      go : (b : Bool) → p n ≡ b → count p n ≤ n → count p n + cond (p n) 1 0 ≤ suc n
-      go true e h = rw e (omega arith)
-      go false e h = rw e (omega arith)
+  count-le (suc n) = let h = count-le n in true-or-false (p n) (λ e. rw e (omega arith)) (λ e. rw e (omega arith))
 
   -- the count grows past a number that passes
   pub count-grows : (n i : ℕ) → i < n → p i ≡ true → count p i < count p n
@@ -78,11 +70,9 @@ module _ (p : ℕ → Bool) where
   pub picked-length : (n : ℕ) → length (picked p n) ≡ count p n
   unfolding picked count
   picked-length zero = refl
-  picked-length (suc n) = go (p n) refl (picked-length n)
-    where
-      go : (b : Bool) → p n ≡ b → length (picked p n) ≡ count p n → length (picked p n ++ cond (p n) (n ∷ []) []) ≡ count p n + cond (p n) 1 0
-      go true e h = rw (e, length-append) (omega arith)
-      go false e h = rw (e, length-append) (omega arith)
+  picked-length (suc n) =
+      let h = picked-length n in
+      true-or-false (p n) (λ e. rw (e, length-append) (omega arith)) (λ e. rw (e, length-append) (omega arith))
 
   -- tests that agree below n pick the same numbers
   pub picked-agree : (q : ℕ → Bool) (n : ℕ) → ((i : ℕ) → i < n → p i ≡ q i) → picked p n ≡ picked q n
@@ -112,29 +102,23 @@ pub record Placed (p : ℕ → Bool) (n k : ℕ) : Type 0 where
 pub count-onto : (p : ℕ → Bool) (n k : ℕ) → k < count p n → Placed p n k
 unfolding count
 count-onto p zero k l = absurd (not-suc-le-zero l)
-count-onto p (suc n) k l = go (p n) refl (λ h. count-onto p n k h)
+count-onto p (suc n) k l =
+    true-or-false (p n)
+    (λ e.
+    let last : k < suc (count p n) = omega (arith, rw e at l) in
+    ⊎-elim (λ q. record { at = n; below = omega arith; passes = e; before = sym q }) (λ h. later (count-onto p n k h)) (below-suc last))
+    (λ e. later (count-onto p n k (omega (arith, rw e at l))))
   where
     later : Placed p n k → Placed p (suc n) k
     later w = record { at = w .at; below = omega arith; passes = w .passes; before = w .before }
-
-    go : (b : Bool) → p n ≡ b → (k < count p n → Placed p n k) → Placed p (suc n) k
-    go true e f =
-        let last : k < suc (count p n) = omega (arith, rw e at l) in
-        ⊎-elim
-        (λ q. record { at = n; below = omega arith; passes = e; before = sym q })
-        (λ h. later (f h))
-        (below-suc last)
-    go false e f = later (f (omega (arith, rw e at l)))
 
 -- those that fail the test make up the rest
 pub count-rest : (p q : ℕ → Bool) → ((i : ℕ) → q i ≡ not (p i)) → (n : ℕ) → count p n + count q n ≡ n
 unfolding count
 count-rest p q h zero = refl
-count-rest p q h (suc n) = go (p n) refl (count-rest p q h n)
-  where
-    go : (b : Bool) → p n ≡ b → count p n + count q n ≡ n → count p n + cond (p n) 1 0 + (count q n + cond (q n) 1 0) ≡ suc n
-    go true e r = rw (h n, e) (omega arith)
-    go false e r = rw (h n, e) (omega arith)
+count-rest p q h (suc n) =
+    let r = count-rest p q h n in
+    true-or-false (p n) (λ e. rw (h n, e) (omega arith)) (λ e. rw (h n, e) (omega arith))
 
 module _ {A : Type 0} (f : ℕ → A) where
   pub each-length : (n : ℕ) → length (each f n) ≡ n
