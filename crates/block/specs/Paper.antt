@@ -1,9 +1,9 @@
 -- Blocks and their intake as document 01 has them, in numbers and lists of octets.
 use mathlib.Core.Bool.{Bool, true, cond, not, _&&_, _||_}
 use mathlib.Core.List.{List, [], _∷_, _++_}
-use Prim.Native.Nat.{ℕ, zero, suc, _*_, _-_, _/_, _%_}
+use Prim.Native.Nat.{ℕ, suc, _*_, _-_, _/_, _%_}
 use lib.ListN.{length, take, drop, getD, replicate}
-use lib.Dec.{eqb, leb, ltb}
+use lib.Dec.{eqb, leb}
 use Rattle.laws.specs.Ruled.{ruled}
 
 -- 01 Blocks, 000 3.3.1: the type octet of a piece, its first

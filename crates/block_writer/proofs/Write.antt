@@ -1,7 +1,8 @@
 -- Laws of the blocks of a message, and of one turn of the loop that writes them.
-use Rattle.laws.proofs.Base.{_≡_, refl, sym, ap, _∙_, Bool, true, false, List, [], _∷_, _++_, append-assoc, append-nil, ℕ, zero, suc, _+_, _*_, _-_, _≤_, _<_, le-of-lt, add-one, arith, length, take, drop, set, length-append, length-take, length-drop, length-set, drop-of-length-le, take-at, drop-at, drop-drop, take-suc-set, drop-set-lt, eqb, lit≤}
+use Rattle.laws.proofs.Base.{_≡_, refl, sym, ap, _∙_, List, [], _∷_, _++_, append-assoc, append-nil, ℕ, zero, suc, _+_, _*_, _-_, _≤_, _<_, le-of-lt, add-one, arith, length, take, drop, set, length-append, length-take, length-drop, length-set, drop-of-length-le, take-at, drop-at, drop-drop, take-suc-set, drop-set-lt, eqb, lit≤}
 use borrow.Rule.Slice.PartMut.{midOf, putMid}
 use Rattle.laws.proofs.Parts.{put-copy}
+use Rattle.laws.proofs.Tests.{true-or-false}
 use Rattle.block.specs.Paper.{Kind, page, schedule, firstCode, codeOf}
 use Rattle.block_writer.specs.Paper.{typeOf, block, blocks}
 
@@ -11,11 +12,7 @@ firstCode-small schedule = lit≤ tt
 
 -- a sequence code fits its four bits
 pub codeOf-small : (k : Kind) (i : ℕ) → i < 4 → codeOf k i ≤ 8
-codeOf-small k i h = go (eqb i 0) refl
-  where
-    go : (b : Bool) → eqb i 0 ≡ b → codeOf k i ≤ 8
-    go true e = rw e (firstCode-small k)
-    go false e = rw e (omega arith)
+codeOf-small k i h = true-or-false (eqb i 0) (λ e. rw e (firstCode-small k)) (λ e. rw e (omega arith))
 
 module _ (k : Kind) (used : ℕ) (m : List ℕ) (long : length m ≡ 88) where
   pub length-block : (i : ℕ) → i < 4 → length (block k used m i) ≡ 23
@@ -45,7 +42,7 @@ module _ (k : Kind) (used : ℕ) (m : List ℕ) (long : length m ≡ 88) where
     back : drop (23 * i + 23) out ≡ drop (23 * i + 23) out₀
     back =
         sym (drop-drop 23 (23 * i) out)
-        ∙ rw inv (ap (λ (l : List ℕ). drop 23 l) (drop-at (blocks k used m i) (drop (23 * i) out₀) (23 * i) (length-blocks i (le-of-lt h))))
+        ∙ rw inv (ap (drop 23) (drop-at (blocks k used m i) (drop (23 * i) out₀) (23 * i) (length-blocks i (le-of-lt h))))
         ∙ drop-drop 23 (23 * i) out₀
 
     -- the type octet x is set and the content is copied behind it: one block more

@@ -1,5 +1,5 @@
 -- `block_intake::add` meets its contract: the content lands where the message's 2B begins, and the answer is that of the last block or of one before it.
-use Rattle.laws.proofs.Base.{_≡_, _++_, _*_, _+_, _-_, length, take, drop, needs, eq-eqb, ne-eqb, not-true, not-false}
+use Rattle.laws.proofs.Base.{_≡_, List, ℕ, _++_, _*_, _+_, _-_, length, take, drop, needs, eq-eqb, ne-eqb, not-true, not-false}
 use borrow.Rule.Slice.PartMut.{putMid}
 use Rattle.block.specs.Paper.{filled}
 use Rattle.block_intake.specs.Coded.{heldOf}
@@ -8,33 +8,44 @@ use Rattle.block.proofs.Filled.{filled-copy}
 use Rattle.block_intake.proofs.add.Statement.{statement}
 use Rattle.block_intake.proofs.add.Tie as tie
 
--- the message with the content in it
-octets : (c : tie.After-whole2)
-    → putMid (22 * c .before .before .before .before .before .args .taken) (22 * c .before .before .before .before .before .args .taken + 22 - 22 * c .before .before .before .before .before .args .taken) (c .before .before .before .before .before .args .octets) (c .before .copy .last .1 .0)
-    ≡ filled (take (22 * c .before .before .before .before .before .args .taken) (c .before .before .before .before .before .args .octets) ++ drop 1 (c .before .before .before .before .before .args .piece .now))
-octets c =
-    let s = c .before .before .before .before .before in
-    let a = s .args in
-    let long : length (a .octets) ≡ 88 = search needs in
-    filled-copy (a .taken) (a .octets) (a .piece .now) (s .pre .room) long (s .pre .whole) (s .pre .rest) (c .before .copy .last .1 .0) (c .before .copy .ensures .1)
+module _ (c : tie.After-whole2) where
+  abbrev start : tie.Start
+  start = c .before .before .before .before .before
+
+  abbrev taken : ℕ
+  taken = start .args .taken
+
+  abbrev held : List ℕ
+  held = start .args .octets
+
+  abbrev piece : List ℕ
+  piece = start .args .piece .now
+
+  -- the message with the content in it
+  octets : putMid (22 * taken) (22 * taken + 22 - 22 * taken) held (c .before .copy .last .1 .0) ≡ filled (take (22 * taken) held ++ drop 1 piece)
+  octets =
+      let p = start .pre in
+      let long : length held ≡ 88 = search needs in
+      filled-copy taken held piece (p .room) long (p .whole) (p .rest) (c .before .copy .last .1 .0) (c .before .copy .ensures .1)
 
 returns : tie.Need-returns
 returns c =
-    let a = c .before .before .before .before .before .before .args in
-    kept-parts (a .last) (a .kind) (a .taken) (a .octets) (a .piece .now) _ (octets (c .before)) (not-true _ (c .if1 .taken))
+    let l = c .before in
+    let a = start l .args in
+    kept-parts (a .last) (a .kind) (taken l) (held l) (piece l) _ (octets l) (not-true _ (c .if1 .taken))
 
 returns-2 : tie.Need-returns-2
 returns-2 c =
     let l = c .before .before .before in
-    let a = l .before .before .before .before .before .args in
-    handed-parts (a .last) (a .kind) (a .taken) (a .octets) (a .piece .now) _ (octets l) 7 (heldOf (c .start .result))
+    let a = start l .args in
+    handed-parts (a .last) (a .kind) (taken l) (held l) (piece l) _ (octets l) 7 (heldOf (c .start .result))
     (not-false _ (c .before .before .if1 .left)) (c .start .ensures) (simp (eq-eqb _ _ (c .before .if2 .taken)))
 
 returns-3 : tie.Need-returns-3
 returns-3 c =
     let l = c .before .before .before in
-    let a = l .before .before .before .before .before .args in
-    handed-parts (a .last) (a .kind) (a .taken) (a .octets) (a .piece .now) _ (octets l) 0 (heldOf (c .start2 .result))
+    let a = start l .args in
+    handed-parts (a .last) (a .kind) (taken l) (held l) (piece l) _ (octets l) 0 (heldOf (c .start2 .result))
     (not-false _ (c .before .before .if1 .left)) (c .start2 .ensures) (simp (ne-eqb _ _ (c .before .if2 .left)))
 
 pub add-spec : {M : Type 1} → statement M

@@ -1,5 +1,5 @@
 -- `block_writer::write_blocks` meets its contract. The invariant: the blocks so far stand at the front, and the rest is as it was.
-use Rattle.laws.proofs.Base.{_≡_, refl, sym, _∙_, _++_, _+_, _*_, _-_, _≤_, length, drop, length-set, arith, needs, eq-eqb, ne-eqb, le-ltb, lt-ltb}
+use Rattle.laws.proofs.Base.{_≡_, _<_, refl, sym, _∙_, _++_, _+_, _*_, _-_, _≤_, length, drop, length-set, arith, needs, eq-eqb, ne-eqb, le-ltb, lt-ltb}
 use Rattle.block_writer.specs.Paper.{blocks, written}
 use Rattle.block.specs.Coded.{kindOf}
 use Rattle.block_writer.proofs.Write.{write-turn, length-written, written-all}
@@ -29,8 +29,8 @@ returns-4 : tie.Need-returns-4 Inv-loop μ-loop
 unfolding written
 returns-4 c =
     let b = c .before .before in
-    simp
-    (eq-eqb _ _ (b .before .if1 .left), eq-eqb _ _ (b .if2 .left), ne-eqb _ _ (c .before .if3 .left), lt-ltb _ _ (c .if4 .taken))
+    let over : 88 < c .before .before .before .before .before .before .args .used = omega arith in
+    simp (eq-eqb _ _ (b .before .if1 .left), eq-eqb _ _ (b .if2 .left), ne-eqb _ _ (c .before .if3 .left), lt-ltb _ _ over)
 
 loop-holds : tie.Need-loop-holds Inv-loop μ-loop
 unfolding blocks
@@ -64,10 +64,11 @@ returns-5 c =
     let s = l .before .before .before .before .before .before .before in
     let size = l .before .before .before .before .if1 .left in
     let long = l .before .before .before .if2 .left in
+    let most : s .args .used ≤ 88 = omega arith in
     let end : l .loop .i ≡ 4 = omega arith in
     let all = (rw end at (l .loop .inv .1)) ∙ written-all (kindOf (s .args .kind)) (s .args .used) (s .args .message .now) long (s .args .out .now) size in
     simp
-    (eq-eqb _ _ size, eq-eqb _ _ long, ne-eqb _ _ (l .before .before .if3 .left), le-ltb _ _ (l .before .if4 .left))
+    (eq-eqb _ _ size, eq-eqb _ _ long, ne-eqb _ _ (l .before .before .if3 .left), le-ltb _ _ most)
     (λ i. record { number = 0; output = all i })
 
 pub write-blocks-spec : {M : Type 1} → statement M

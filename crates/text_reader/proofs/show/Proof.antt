@@ -1,5 +1,5 @@
 -- `text_reader::show` meets its contract: the array holds the whole septets, and what is left of them is shown.
-use Rattle.laws.proofs.Base.{_≡_, sym, ap, _∙_, List, _++_, map, ℕ, _+_, _*_, _/_, _-_, _≤_, arith, needs, now, length, take, drop, replicate, length-append, take-at, length-take-le}
+use Rattle.laws.proofs.Base.{_≡_, sym, ap, _∙_, List, _++_, ℕ, _+_, _*_, _/_, _≤_, arith, needs, now, length, take, drop, replicate, length-append, take-at, length-take-le}
 use Rattle.laws.specs.Radix.{value, digits}
 use Rattle.laws.specs.Table.{onto}
 use Rattle.alphabet.specs.Paper.{codePoint}

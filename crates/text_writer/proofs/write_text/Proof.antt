@@ -1,5 +1,5 @@
 -- `text_writer::write_text` meets its contract: each return is the first test of the order that holds, and the last makes the page.
-use Rattle.laws.proofs.Base.{_≡_, sym, ap, _∙_, false, List, [], _∷_, _++_, ℕ, _-_, needs, now, length, eq-eqb, ne-eqb, le-ltb, lt-ltb}
+use Rattle.laws.proofs.Base.{_≡_, _≤_, _<_, arith, sym, ap, _∙_, false, List, [], _∷_, _++_, ℕ, _-_, needs, now, length, eq-eqb, ne-eqb, le-ltb, lt-ltb}
 use Rattle.laws.specs.Ruled.{ruled}
 use Rattle.page.specs.Paper.{Heading, headerOctets}
 use Rattle.text.specs.Paper.{septets, packed, pageOf, usedOctets, badParameter, foreign, endsInCr, written}
@@ -17,7 +17,9 @@ returns c = simp (ne-eqb _ _ (c .if1 .taken))
 
 returns-2 : tie.Need-returns-2
 unfolding written
-returns-2 c = simp (eq-eqb _ _ (c .before .if1 .left), lt-ltb _ _ (c .if2 .taken))
+returns-2 c =
+    let over : 15 < c .before .before .before .before .args .scheme = omega arith in
+    simp (eq-eqb _ _ (c .before .if1 .left), lt-ltb _ _ over)
 
 returns-3 : tie.Need-returns-3
 unfolding written
@@ -33,7 +35,8 @@ returns-4 : tie.Need-returns-4
 unfolding written
 returns-4 c =
     let b = c .before .before .before in
-    simp (eq-eqb _ _ (b .before .if1 .left), le-ltb _ _ (b .if2 .left), good (c .before), lt-ltb _ _ (c .if4 .taken))
+    let long : 93 < length (now (b .before .before .before .before .args .text)) = omega arith in
+    simp (eq-eqb _ _ (b .before .if1 .left), le-ltb _ _ (b .if2 .left), good (c .before), lt-ltb _ _ long)
 
 abbrev start : tie.Else4 → tie.Start
 start c = c .before .before .before .before .before .before .before
@@ -54,8 +57,9 @@ past : (c : tie.Else4)
     (record { number = 0; used = usedOctets (text c); page = pageOf (heading c) (text c) })
 unfolding written
 past c =
-    let b = c .before .before .before in
-    simp (eq-eqb _ _ (b .before .if1 .left), le-ltb _ _ (b .if2 .left), good (c .before), le-ltb _ _ (c .if4 .left))
+    let ours : heading c .scheme ≤ 15 = omega arith in
+    let short : length (text c) ≤ 93 = omega arith in
+    simp (eq-eqb _ _ (c .before .before .before .before .if1 .left), le-ltb _ _ ours, good (c .before), le-ltb _ _ short)
 
 -- the array holds the text's septets
 array : (c : tie.After-septets2) → c .septets2 .last .1 .0 ≡ septets (text (c .before .before))
