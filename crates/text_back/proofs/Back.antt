@@ -80,8 +80,8 @@ trim-front-back t k h f ends =
     let m : List ℕ = map septetOf t in
     let pad : List ℕ = replicate (93 - length t) cr in
     let e : length m + (k - length m) ≡ k = add-sub-of-le (rw (length-map t septetOf) h) in
-    let cut = take-append-add m pad (k - length m) ∙ rw (take-replicate (k - length m) (93 - length t) cr) in
-    ap trimmed (rw e at cut) ∙ trim-padding (min (k - length m) (93 - length t)) m ∙ trim-found t f ends
+    let cut = rw (e, take-replicate (k - length m) (93 - length t) cr) at (take-append-add m pad (k - length m)) in
+    ap trimmed cut ∙ trim-padding (min (k - length m) (93 - length t)) m ∙ trim-found t f ends
 
 -- the content of what agrees with a written page on its first n octets
 content-back : (h : Heading) (t q : List ℕ) (n : ℕ) → take n q ≡ take n (pageOf h t) → take (n - 6) (drop 6 q) ≡ take (n - 6) (packed (septets t))
