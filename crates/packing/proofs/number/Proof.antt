@@ -23,18 +23,17 @@ loop-holds c = (search needs, rw (drop-length (now (c .before .args .list))))
 mul-sum : tie.Need-mul-sum Inv-loop μ-loop
 mul-sum c =
     let l = c .before .loop in
-    let a = c .before .before .before .args in
-    let r = room (a .base) (l .i) (l .sum) (now (a .list)) (c .before .before .before .pre) (l .inv .1) (c .loop-test .taken) (l .inv .0) in
+    let s = c .before .before .before in
+    let r = room (s .args .base) (l .i) (l .sum) (now (s .args .list)) (s .pre) (l .inv .1) (c .loop-test .taken) (l .inv .0) in
     omega arith
 
 add-sum : tie.Need-add-sum Inv-loop μ-loop
 add-sum c =
-    let l = c .before .before .loop in
-    let a = c .before .before .before .before .args in
+    let t = c .before in
+    let l = t .before .loop in
+    let s = t .before .before .before in
     record {
-      fits =
-          rw (c .digit .ensures)
-          (room (a .base) (l .i) (l .sum) (now (a .list)) (c .before .before .before .before .pre) (l .inv .1) (c .before .loop-test .taken) (l .inv .0));
+      fits = rw (c .digit .ensures) (room (s .args .base) (l .i) (l .sum) (now (s .args .list)) (s .pre) (l .inv .1) (t .loop-test .taken) (l .inv .0));
     }
 
 loop-again : tie.Need-loop-again Inv-loop μ-loop

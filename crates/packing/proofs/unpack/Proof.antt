@@ -24,44 +24,54 @@ loop-holds c = (search needs, refl, refl, refl)
 number-requires : tie.Need-number-requires Inv-loop μ-loop
 number-requires c κs =
     let g = c .before .before .loop .g in
-    part-word 256 8 (7 * g + 7 - 7 * g) (7 * g) (now (c .before .before .before .before .before .args .octets)) (lit≤ tt) (omega arith) (λ i. c .before .before .before .before .shared-slice-known .given i .fits)
+    let k = c .before .before .before .before in
+    part-word 256 8 (7 * g + 7 - 7 * g) (7 * g) (now (k .before .args .octets)) (lit≤ tt) (omega arith) (λ i. k .shared-slice-known .given i .fits)
 
 loop-again : tie.Need-loop-again Inv-loop μ-loop
 loop-again c =
-    let p = c .before .before .before .before .before .before .before .before .before .before in
-    let l = c .before .before .before .before .before .before .before .loop in
-    let y = c .before .before .put .last .1 .1 .0 in
-    let room : 8 * l .g + 8 ≤ length (l .septets) = omega (arith, p .pre, l .inv .2, c .before .before .before .before .before .before .loop-test .taken) in (
+    let w = c .before .before in
+    let n = w .before .before in
+    let t = n .before .before in
+    let l = t .before .loop in
+    let k = t .before .before .before in
+    let p = k .before in
+    let y = w .put .last .1 .1 .0 in
+    let room : 8 * l .g + 8 ≤ length (l .septets) = omega (arith, p .pre, l .inv .2, t .loop-test .taken) in (
       search needs,
       refl,
-      length-part (8 * l .g) (8 * l .g + 8 - 8 * l .g) (l .septets) y (omega arith) (c .before .before .put .kept .1 .1 .0) ∙ l .inv .2,
-      group-turn 256 128 7 8 (l .g) (lit< tt) refl (now (p .args .octets)) (l .septets) (λ i. c .before .before .before .before .before .before .before .before .before .shared-slice-known .given i .fits) (l .inv .3)
-          (omega arith) _ y room (c .before .before .before .before .number .ensures) (c .before .before .put .ensures),
+      length-part (8 * l .g) (8 * l .g + 8 - 8 * l .g) (l .septets) y (omega arith) (w .put .kept .1 .1 .0) ∙ l .inv .2,
+      group-turn 256 128 7 8 (l .g) (lit< tt) refl (now (p .args .octets)) (l .septets) (λ i. k .shared-slice-known .given i .fits) (l .inv .3)
+          (omega arith) _ y room (n .number .ensures) (w .put .ensures),
     )
 
 number-requires-2 : tie.Need-number-requires-2 Inv-loop μ-loop
 number-requires-2 c κs =
-    let o = now (c .before .before .before .before .before .args .octets) in
-    part-word 256 8 (length o - 7 * (length o / 7)) (7 * (length o / 7)) o (lit≤ tt) (omega arith) (λ i. c .before .before .before .before .shared-slice-known .given i .fits)
+    let k = c .before .before .before .before in
+    let o = now (k .before .args .octets) in
+    part-word 256 8 (length o - 7 * (length o / 7)) (7 * (length o / 7)) o (lit≤ tt) (omega arith) (λ i. k .shared-slice-known .given i .fits)
 
 same-length : tie.Need-same-length Inv-loop μ-loop
 same-length c =
-    let p = c .before .before .before .before .before .before .before .before .before .before in
-    let l = c .before .before .before .before .before .before .before .loop in
+    let w = c .before .before in
+    let l = w .before .before .before .before .before in
+    let p = l .before .before .before in
     let g = length (now (p .args .octets)) / 7 in
-    length-part (8 * g) (length (l .septets) - 8 * g) (l .septets) (c .before .before .put2 .last .1 .1 .0)
-    (omega (arith, p .pre, l .inv .2)) (c .before .before .put2 .kept .1 .1 .0)
-    ∙ l .inv .2
+    let s = l .loop .septets in
+    length-part (8 * g) (length s - 8 * g) s (w .put2 .last .1 .1 .0) (omega (arith, p .pre, l .loop .inv .2)) (w .put2 .kept .1 .1 .0)
+    ∙ l .loop .inv .2
 
 returns : tie.Need-returns Inv-loop μ-loop
 returns c =
-    let p = c .before .before .before .before .before .before .before .before .before .before in
-    let l = c .before .before .before .before .before .before .before .loop in
-    let y = c .before .before .put2 .last .1 .1 .0 in
+    let w = c .before .before in
+    let n = w .before .before in
+    let t = n .before .before in
+    let l = t .before .loop in
+    let k = t .before .before .before in
+    let p = k .before in
     let o = now (p .args .octets) in
-    let e : l .g ≡ length o / 7 = omega (arith, c .before .before .before .before .before .before .loop-test .left, l .inv .0) in
-    group-end 256 128 7 8 (length o / 7) (lit< tt) refl o (l .septets) (λ i. c .before .before .before .before .before .before .before .before .before .shared-slice-known .given i .fits) (rw e at (l .inv .3))
-    (omega arith) _ y (omega (arith, p .pre, l .inv .2)) (c .before .before .before .before .number2 .ensures) (c .before .before .put2 .ensures)
+    let e : l .g ≡ length o / 7 = omega (arith, t .loop-test .left, l .inv .0) in
+    group-end 256 128 7 8 (length o / 7) (lit< tt) refl o (l .septets) (λ i. k .shared-slice-known .given i .fits) (rw e at (l .inv .3))
+    (omega arith) _ (w .put2 .last .1 .1 .0) (omega (arith, p .pre, l .inv .2)) (n .number2 .ensures) (w .put2 .ensures)
     ∙ ap (λ (n : ℕ). digits 128 n (value 256 o)) (l .inv .2)
 
 pub unpack-spec : {M : Type 1} → statement M
