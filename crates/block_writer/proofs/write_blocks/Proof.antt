@@ -41,7 +41,10 @@ part-copy-end-2 c = simp length-set (omega arith)
 
 loop-again : tie.Need-loop-again Inv-loop μ-loop
 loop-again c =
-    let l = c .before .before .before .before .before .before .before in
+    let w = c .before .before in
+    let b = w .before .before .before in
+    let t = b .before in
+    let l = t .before in
     let s = l .before .before .before .before .before .before .before in
     let k = kindOf (s .args .kind) in
     let m = s .args .message .now in
@@ -49,9 +52,9 @@ loop-again c =
     let long = l .before .before .before .if2 .left in
     let n : l .loop .i + 1 ≤ 4 = omega arith in
     let again =
-    write-turn k (s .args .used) m long (l .loop .i) (s .args .out .now) (l .loop .out) (c .before .before .before .before .before .before .loop-test .taken) size
-    (l .loop .inv .1) (c .before .before .before .before .before .block-type .result) (c .before .before .copy .last .1 .0)
-    (c .before .before .before .before .before .block-type .ensures) (c .before .before .copy .ensures .1) in
+    write-turn k (s .args .used) m long (l .loop .i) (s .args .out .now) (l .loop .out) (t .loop-test .taken) size
+    (l .loop .inv .1) (b .block-type .result) (w .copy .last .1 .0)
+    (b .block-type .ensures) (w .copy .ensures .1) in
     (n, again, length-written k (s .args .used) m long (l .loop .i + 1) (s .args .out .now) _ n size again)
 
 same-length : tie.Need-same-length Inv-loop μ-loop

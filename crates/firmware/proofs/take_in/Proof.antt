@@ -4,9 +4,10 @@ use Rattle.block.specs.declared.Place.{Place}
 use Rattle.block.specs.Paper.{proper, step}
 use Rattle.block.specs.Inner.{placeOf}
 use Rattle.block.specs.Coded.{placed}
+use Rattle.block.proofs.Filled.{rest-of}
 use Rattle.block.proofs.Steps.{met, step-improper, adds-first, adds-next}
 use Rattle.firmware.specs.Paper.{IntakeLeft, heldIn, moved}
-use Rattle.firmware.proofs.Lent.{behind, refused-over, moved-step}
+use Rattle.firmware.proofs.Lent.{refused-over, moved-step}
 use Rattle.firmware.proofs.take_in.Statement.{statement}
 use Rattle.firmware.proofs.take_in.Tie as tie
 
@@ -14,7 +15,7 @@ returns : tie.Need-returns
 returns c =
     let b = c .before .before .before .before .before in
     let a = b .before .before .before .before .before .before .before .before .args in
-    let bad = sym (rw (behind (a .state .now)) at (b .is-proper .ensures)) ∙ not-true _ (c .before .before .before .before .if1 .taken) in
+    let bad = sym (rw (rest-of 2 (a .state .now)) at (b .is-proper .ensures)) ∙ not-true _ (c .before .before .before .before .if1 .taken) in
     let r = c .before .before .refuse .ensures in
     refused-over 8 _ _ (a .output .now) (r .0) (r .1) ∙ rw (step-improper (heldIn (a .state .now)) (a .piece .now) bad)
 
@@ -33,7 +34,7 @@ module _ (c : tie.After-place-of) where
 
   -- past the first test the state is proper
   good : proper (heldIn state) ≡ true
-  good = sym (rw (behind state) at (c .before .before .is-proper .ensures)) ∙ not-false _ (c .before .if1 .left)
+  good = sym (rw (rest-of 2 state) at (c .before .before .is-proper .ensures)) ∙ not-false _ (c .before .if1 .left)
 
   module _ (x : Place) (e : c .place-of .result ≡ x) where
     -- the place that was found is the paper's
