@@ -95,13 +95,14 @@ view {h} {ps} p s =
     let x = outcome (last p (made h p .taken)) (made h p) in
     ⊎-elim (λ e. out (rw (standing-proper s) e)) (λ f. passing p s f) (same-number refusal (h .taken) p x)
 
--- a block that does not complete its message is unmarked and has a block after it
-unfinished : (p : List ℕ) (n : ℕ) → n ≤ 3 → last p (suc n) ≡ false → (mark p ≡ 0) × (n ≤ 2)
-unfinished p n h e =
-    let parts = neither (eqb (mark p) 1) (eqb (suc n) 4) e in
-    omega (arith, eqb-false (mark p) 1 (parts .0), eqb-false (suc n) 4 (parts .1))
+-- blocks of a part with one that does not complete them are a part
+grown : {k : Kind} {u : Pieces} {p : List ℕ} → Part k u → IsBlock k (length u) p → last p (suc (length u)) ≡ false → Part k (u ++ (p ∷ []))
+grown {k} {u} {p} part b e =
+    let few = length-part part in
+    let w = neither (eqb (mark p) 1) (eqb (suc (length u)) 4) e in
+    more part (omega (arith, eqb-false (suc (length u)) 4 (w .1))) b (omega (arith, eqb-false (mark p) 1 (w .0)))
 
--- and the other way round
+-- and a block of a part completes nothing
 unfinished-last : (p : List ℕ) (n : ℕ) → n ≤ 2 → mark p ≡ 0 → last p (suc n) ≡ false
 unfinished-last p n h e = rw e (ne-eqb (suc n) 4 (omega arith))
 
@@ -113,9 +114,7 @@ stand {h} {ps} p s = go (view p s)
     go (out q) = idle (next-of q)
     go (joins k older u sp part b q) =
         true-or-false (last p (suc (length u))) (λ e. idle (next-of (rw e at q)))
-        (λ e.
-        let more-to-come = unfinished p (length u) (length-part part) e in
-        busy k older (u ++ (p ∷ [])) (rw sp (append-assoc older u (p ∷ []))) (more part (more-to-come .1) b (more-to-come .0))
+        (λ e. busy k older (u ++ (p ∷ [])) (rw sp (append-assoc older u (p ∷ []))) (grown part b e)
         (rw (length-snoc u p) (omega arith)) (next-of (rw e at q)))
 
 standing-from : {h : Held} {qs : Pieces} → Standing h qs → (ps : Pieces) → Standing (after h ps) (qs ++ ps)
@@ -165,9 +164,9 @@ completes-injective schedule page e = absurd (omega arith)
 completes-injective schedule schedule e = refl
 
 -- a message complete is not answered as a piece that is taken or refused
-not-completes : (k : Kind) (n : ℕ) → 1 ≤ n → n ≤ 6 → n ≡ completes k → ⊥
-not-completes page n some few e = omega arith
-not-completes schedule n some few e = omega arith
+pub not-completes : (k : Kind) (n : ℕ) → (n ≡ 0 → ⊥) → (n ≡ 7 → ⊥) → n ≡ completes k → ⊥
+not-completes page n a b e = a e
+not-completes schedule n a b e = b e
 
 refused-bounds : (p : List ℕ) → (2 ≤ refusedBy p) × (refusedBy p ≤ 6)
 refused-bounds p =
@@ -186,7 +185,7 @@ complete-run k ps p e = go (view p (standing ps))
     go : View (after start ps) ps p → (r : Pieces) × Latest ps p r × Run k r
     go (out q) =
         let b = refused-bounds p in
-        absurd (not-completes k (refusedBy p) (omega arith) (b .1) (sym (number-of q) ∙ e))
+        absurd (not-completes k (refusedBy p) (omega arith) (omega arith) (sym (number-of q) ∙ e))
     go (joins j older u sp part b q) =
         true-or-false (last p (suc (length u)))
         (λ t.
@@ -264,9 +263,7 @@ goes-on k older u p sp part b = (
   u ++ (p ∷ []),
   latest-snoc older u p sp,
   true-or-false (last p (suc (length u))) (λ e. inl (run-of part b e))
-      (λ e.
-      let more-to-come = unfinished p (length u) (length-part part) e in
-      inr (unfinished-of (more part (more-to-come .1) b (more-to-come .0)) (rw (length-snoc u p) (omega arith)))),
+      (λ e. inr (unfinished-of (grown part b e) (rw (length-snoc u p) (omega arith)))),
 )
 
 pub goes-on-decided : GoesOnDecided
@@ -277,7 +274,7 @@ goes-on-decided ps p = go (view p (standing ps))
     go (out q) =
         let b = refused-bounds p in
         inr (λ x. ⊎-elim
-        (λ run. not-completes (x .0) (refusedBy p) (omega arith) (b .1) (sym (number-of q) ∙ number-of (complete-gives (x .0) ps p (x .1) (x .2) run)))
+        (λ run. not-completes (x .0) (refusedBy p) (omega arith) (omega arith) (sym (number-of q) ∙ number-of (complete-gives (x .0) ps p (x .1) (x .2) run)))
         (λ un. omega (arith, number-of q, number-of (taken-gives (x .0) ps p (x .1) (x .2) un)))
         (x .3))
 

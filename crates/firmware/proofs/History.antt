@@ -1,9 +1,9 @@
 -- Demand 2 over C calls: each state in lent memory is the one that the counted pieces leave, and nothing from before the start is in it.
-use Rattle.laws.proofs.Base.{_≡_, refl, sym, ap, _∙_, List, [], _∷_, _++_, append-assoc, append-nil, ℕ, _+_, _*_, _%_, _≤_, arith, length, eqb, lit≤, eq-eqb, ne-eqb, eqb-true, eqb-false}
+use Rattle.laws.proofs.Base.{_≡_, refl, sym, ap, _∙_, List, [], _∷_, _++_, append-assoc, append-nil, ℕ, _+_, _*_, _%_, _≤_, arith, length, eqb, eq-eqb, ne-eqb, eqb-true, eqb-false}
 use Rattle.laws.proofs.Tests.{true-or-false}
-use Rattle.block.specs.Paper.{Kind, page, schedule, Given, start, step}
+use Rattle.block.specs.Paper.{Kind, Given, start, step}
 use Rattle.block_history.specs.Claims.{completes, refusedBy, after, answered}
-use Rattle.block_history.proofs.History.{standing, standing-proper, after-append, number-small, complete-exactly, complete-gives, taken-gives, goes-on-decided, refused-gives}
+use Rattle.block_history.proofs.History.{standing, standing-proper, after-append, number-small, not-completes, complete-exactly, complete-gives, taken-gives, goes-on-decided, refused-gives}
 use Rattle.block.proofs.Steps.{proper-facts}
 use Rattle.firmware.specs.Paper.{IntakeLeft, Started, lent, heldIn, moved, startCall, intakeCall}
 use Rattle.firmware.specs.Claims.{Call, on, off, afterCalls, counted, called, LentHistory, NeverFinishesLeftovers}
@@ -107,11 +107,6 @@ module _ (m : List ℕ) (short : length m ≡ 90 → ⊥) where
   calls-leave (off n w p o ∷ cs) = calls-leave cs
   calls-leave (on p o ∷ cs) = rw (call-leaves p o) (calls-leave cs)
 
--- a message complete is answered by less than 8
-not-completes : (k : Kind) (n : ℕ) → 8 ≤ n → n ≡ completes k → ⊥
-not-completes page n h e = omega arith
-not-completes schedule n h e = omega arith
-
 -- a call that completes a message has lengths that count
 right-lengths : (m : List ℕ) (cs : List Call) (p o : List ℕ) (k : Kind) → called m cs p o .returned % 256 ≡ completes k → (length m ≡ 90) × (length o ≡ 88)
 right-lengths m cs p o k e =
@@ -122,10 +117,10 @@ right-lengths m cs p o k e =
     let short = eqb-false (length m) 90 em in
     let state : afterCalls (startCall m .state) cs ≡ m = rw (not-started m short) (calls-leave m short cs) in
     let left = returned-of (uncounted-8 m p o (eqb-true (length o) 88 eo) short) in
-    absurd (not-completes k 8 (lit≤ tt) (rw (state, left) at e))))
+    absurd (not-completes k 8 (omega arith) (omega arith) (rw (state, left) at e))))
     (λ eo.
     let left = returned-of (uncounted-15 (afterCalls (startCall m .state) cs) p o (eqb-false (length o) 88 eo)) in
-    absurd (not-completes k 15 (lit≤ tt) (rw left at e)))
+    absurd (not-completes k 15 (omega arith) (omega arith) (rw left at e)))
 
 same-start : (m n : List ℕ) → length m ≡ 90 → length n ≡ 90 → startCall m ≡ startCall n
 same-start m n a b = started m a ∙ sym (started n b)
