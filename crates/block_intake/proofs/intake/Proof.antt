@@ -4,7 +4,7 @@ use Rattle.block.specs.declared.Place.{Place}
 use Rattle.block.specs.Paper.{Held, Given, proper, step}
 use Rattle.block.specs.Inner.{placeOf}
 use Rattle.block.specs.Coded.{placed}
-use Rattle.block_intake.specs.Coded.{heldOf}
+use Rattle.block_intake.specs.Coded.{heldOf, leaving}
 use Rattle.block.proofs.Steps.{met, step-improper, step-by, adds-first, adds-next}
 use Rattle.block_intake.proofs.intake.Statement.{statement}
 use Rattle.block_intake.proofs.intake.Tie as tie
@@ -49,7 +49,7 @@ add-requires-2 c κs =
 returns-2 : tie.Need-returns-2
 returns-2 c =
     let b = c .before .before .before .before in
-    answered b _ (c .before .before .place .given .1) _ (c .refused2 .ensures ∙ rw (b .before .before .before .before .start .ensures))
+    answered b _ (c .before .before .place .given .1) _ (c .refused2 .ensures ∙ ap (leaving _) (b .before .before .before .before .start .ensures))
 
 returns-3 : tie.Need-returns-3
 returns-3 c =
