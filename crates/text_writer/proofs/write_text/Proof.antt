@@ -1,5 +1,5 @@
 -- `text_writer::write_text` meets its contract: each return is the first test of the order that holds, and the last makes the page.
-use Rattle.laws.proofs.Base.{_≡_, _≤_, _<_, arith, sym, ap, _∙_, false, List, [], _∷_, _++_, ℕ, _-_, needs, now, length, eq-eqb, ne-eqb, le-ltb, lt-ltb}
+use Rattle.laws.proofs.Base.{_≡_, _≤_, _<_, arith, sym, ap, _∙_, false, List, [], _∷_, _++_, ℕ, _-_, needs, now, length, ltb, eq-eqb, ne-eqb, le-ltb, lt-ltb}
 use Rattle.laws.specs.Ruled.{ruled}
 use Rattle.page.specs.Paper.{Heading, headerOctets}
 use Rattle.text.specs.Paper.{septets, packed, pageOf, usedOctets, badParameter, foreign, endsInCr, written}
@@ -21,11 +21,15 @@ returns-2 c =
     let over : 15 < c .before .before .before .before .args .scheme = omega arith in
     simp (eq-eqb _ _ (c .before .if1 .left), lt-ltb _ _ over)
 
+-- the scheme is ours
+ours : (c : tie.Else2) → ltb 15 (c .before .before .before .before .args .scheme) ≡ false
+ours c = let low : c .before .before .before .before .args .scheme ≤ 15 = omega arith in le-ltb _ _ low
+
 returns-3 : tie.Need-returns-3
 unfolding written
 returns-3 c =
     let b = c .before .before in
-    simp (eq-eqb _ _ (b .before .if1 .left), le-ltb _ _ (b .if2 .left), sym (c .before .bad-parameter .ensures) ∙ c .if3 .taken)
+    simp (eq-eqb _ _ (b .before .if1 .left), ours b, sym (c .before .bad-parameter .ensures) ∙ c .if3 .taken)
 
 -- the parameter is good
 good : (c : tie.Else3) → badParameter (c .before .before .before .before .before .before .args .parameter) ≡ false
@@ -36,7 +40,7 @@ unfolding written
 returns-4 c =
     let b = c .before .before .before in
     let long : 93 < length (now (b .before .before .before .before .args .text)) = omega arith in
-    simp (eq-eqb _ _ (b .before .if1 .left), le-ltb _ _ (b .if2 .left), good (c .before), lt-ltb _ _ long)
+    simp (eq-eqb _ _ (b .before .if1 .left), ours b, good (c .before), lt-ltb _ _ long)
 
 abbrev start : tie.Else4 → tie.Start
 start c = c .before .before .before .before .before .before .before
@@ -57,9 +61,8 @@ past : (c : tie.Else4)
     (record { number = 0; used = usedOctets (text c); page = pageOf (heading c) (text c) })
 unfolding written
 past c =
-    let ours : heading c .scheme ≤ 15 = omega arith in
     let short : length (text c) ≤ 93 = omega arith in
-    simp (eq-eqb _ _ (c .before .before .before .before .if1 .left), le-ltb _ _ ours, good (c .before), le-ltb _ _ short)
+    simp (eq-eqb _ _ (c .before .before .before .before .if1 .left), ours (c .before .before .before), good (c .before), le-ltb _ _ short)
 
 -- the array holds the text's septets
 array : (c : tie.After-septets2) → c .septets2 .last .1 .0 ≡ septets (text (c .before .before))
