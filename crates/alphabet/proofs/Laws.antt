@@ -1,5 +1,5 @@
 -- Laws of the default alphabet: finding a septet undoes reading one, 1B aside, and finds nothing else.
-use Rattle.laws.proofs.Base.{_≡_, refl, sym, _∙_, Bool, true, false, not, _&&_, _||_, List, [], _∷_, _⊎_, inl, inr, ℕ, suc, _+_, _<_, _≤_, mod-eq-of-lt, zero-add, add-zero, add-suc, suc-add, zero-lt-suc, arith, eqb, ltb, length, getD, eqb-true, eqb-false, ltb-true, ne-eqb, not-true}
+use Rattle.laws.proofs.Base.{_≡_, refl, sym, _∙_, Bool, true, false, not, _&&_, _||_, List, [], _∷_, _⊎_, inl, inr, ⊎-elim, ℕ, suc, _+_, _<_, _≤_, mod-eq-of-lt, zero-add, add-zero, add-suc, suc-add, zero-lt-suc, arith, eqb, ltb, length, getD, eqb-true, eqb-false, ltb-true, ne-eqb, not-true}
 use Rattle.laws.specs.Table.{every}
 use Rattle.laws.proofs.Table.{at}
 use Rattle.laws.proofs.Tests.{both}
@@ -77,11 +77,8 @@ found c = go (sought-ends c 0 alphabet)
 
 -- past the table there is none
 pub past-table : (c : ℕ) → 938 ≤ c → septetOf c ≡ noSeptet
-past-table c h = go (found c)
-  where
-    go : (septetOf c ≡ noSeptet) ⊎ Writes c (septetOf c) → septetOf c ≡ noSeptet
-    go (inl e) = e
-    go (inr w) = absurd (omega (arith, codePoint-below (septetOf c) (w .septet), w .reads))
+past-table c h =
+    ⊎-elim (λ e. e) (λ w. absurd (omega (arith, codePoint-below (septetOf c) (w .septet), w .reads))) (found c)
 
 -- CR reads as itself
 pub reads-cr : codePoint 0x0d ≡ 0x0d

@@ -1,5 +1,6 @@
 -- Laws of octets that are all 2B.
-use Rattle.laws.proofs.Base.{_≡_, refl, sym, ap, _∙_, Bool, true, false, _&&_, and-false, false≢true, List, [], _∷_, ℕ, _+_, _≤_, _<_, add-one, length, drop, getD, replicate, drop-of-length-le, drop-cons, eqb, eq-eqb, ne-eqb, eqb-true}
+use Rattle.laws.proofs.Base.{_≡_, refl, sym, ap, _∙_, Bool, true, false, _&&_, and-false, List, [], _∷_, ℕ, _+_, _≤_, _<_, add-one, length, drop, getD, replicate, drop-of-length-le, drop-cons, eqb, eq-eqb, ne-eqb, eqb-true}
+use Rattle.laws.proofs.Tests.{both}
 use Rattle.block.specs.Paper.{allBlank}
 
 module _ (xs : List ℕ) (i : ℕ) where
@@ -10,24 +11,22 @@ module _ (xs : List ℕ) (i : ℕ) where
   allBlank-end t false h e = sym e
 
   module _ (inside : i < length xs) (t b : Bool) (e : t ≡ (b && allBlank (drop i xs))) where
-    front : t ≡ (b && (eqb (getD xs i 0) 43 && allBlank (drop (i + 1) xs)))
+    front : t ≡ (b && (eqb (getD xs i 0) 0x2b && allBlank (drop (i + 1) xs)))
     unfolding allBlank
     front = rw add-one (rw (drop-cons xs i 0 inside) at e)
 
     -- an octet that is 2B leaves the verdict to those after it
-    pub allBlank-same : getD xs i 0 ≡ 43 → t ≡ (b && allBlank (drop (i + 1) xs))
-    allBlank-same x = rw (eq-eqb (getD xs i 0) 43 x) at front
+    pub allBlank-same : getD xs i 0 ≡ 0x2b → t ≡ (b && allBlank (drop (i + 1) xs))
+    allBlank-same x = rw (eq-eqb (getD xs i 0) 0x2b x) at front
 
     -- an octet that is not decides it
-    pub allBlank-other : (getD xs i 0 ≡ 43 → ⊥) → t ≡ (false && allBlank (drop (i + 1) xs))
-    allBlank-other x = (rw (ne-eqb (getD xs i 0) 43 x) at front) ∙ and-false b
+    pub allBlank-other : (getD xs i 0 ≡ 0x2b → ⊥) → t ≡ (false && allBlank (drop (i + 1) xs))
+    allBlank-other x = (rw (ne-eqb (getD xs i 0) 0x2b x) at front) ∙ and-false b
 
 -- octets that are all 2B are a repeat of it
-pub allBlank-is : (xs : List ℕ) → allBlank xs ≡ true → xs ≡ replicate (length xs) 43
+pub allBlank-is : (xs : List ℕ) → allBlank xs ≡ true → xs ≡ replicate (length xs) 0x2b
 unfolding allBlank
 allBlank-is [] e = refl
-allBlank-is (x ∷ xs) e = go (λ h. allBlank-is xs h) (eqb x 43) refl e
-  where
-    go : (allBlank xs ≡ true → xs ≡ replicate (length xs) 43) → (b : Bool) → eqb x 43 ≡ b → (b && allBlank xs) ≡ true → x ∷ xs ≡ 43 ∷ replicate (length xs) 43
-    go rest true q h = rw (eqb-true x 43 q) (ap (λ (l : List ℕ). 43 ∷ l) (rest h))
-    go rest false q h = absurd (false≢true h)
+allBlank-is (x ∷ xs) e =
+    let w = both (eqb x 0x2b) (allBlank xs) e in
+    rw (eqb-true x 0x2b (w .0)) (ap (_∷_ 0x2b) (allBlank-is xs (w .1)))

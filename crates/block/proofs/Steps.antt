@@ -2,10 +2,9 @@
 use Rattle.laws.proofs.Base.{_≡_, refl, sym, ap, _∙_, Bool, true, false, cond, false≢true, _&&_, List, [], ℕ, suc, _*_, _-_, _≤_, arith, length, drop, replicate, length-drop, eqb, leb, lit≤, eqb-true, leb-true, not-false}
 use Rattle.laws.specs.Ruled.{ruled}
 use Rattle.laws.proofs.Ruled.{ruled-map, ruling, Ruling, refuses, passes}
-use Rattle.laws.proofs.Tests.{both}
+use Rattle.laws.proofs.Tests.{true-or-false, both}
 use Rattle.block.specs.Paper.{page, schedule, kindNumber, Held, Given, proper, refusal, code, follows, faults, last, made, added, step, blank}
-use Rattle.block.specs.Inner.{Place, none, first, next, placeOf}
-use Rattle.block.specs.Coded.{stateWith, outcome, Adds}
+use Rattle.block.specs.Inner.{Place, none, first, next, placeOf, stateWith, outcome, Adds}
 use Rattle.block.proofs.Blank.{allBlank-is}
 
 pub step-improper : (h : Held) (p : List ℕ) → proper h ≡ false → step h p ≡ refusal 8
@@ -19,19 +18,19 @@ met h p (first k l) = outcome l (added (stateWith (kindNumber k) 0 []) p)
 met h p (next l) = outcome l (added h p)
 
 -- where nothing refuses, the place gives the answer of the paper
-met-passed : (h : Held) (p : List ℕ) (f e : Bool) → follows (code p) ≡ f → eqb (code p) 8 ≡ e
+met-passed : (h : Held) (p : List ℕ)
     → met h p (cond (follows (code p)) (next (last p (suc (h .taken)))) (first (cond (eqb (code p) 8) schedule page) (last p 1)))
     ≡ outcome (last p (made h p .taken)) (made h p)
-met-passed h p true e q r = rw q
-met-passed h p false true q r = rw (q, r)
-met-passed h p false false q r = rw (q, r)
+met-passed h p =
+    true-or-false (follows (code p)) (λ q. rw q)
+    (λ q. true-or-false (eqb (code p) 8) (λ r. rw (q, r)) (λ r. rw (q, r)))
 
 pub step-met : (h : Held) (p : List ℕ) → proper h ≡ true → step h p ≡ met h p (placeOf (h .taken) p)
 unfolding step placeOf
 step-met h p e =
     let x = cond (follows (code p)) (next (last p (suc (h .taken)))) (first (cond (eqb (code p) 8) schedule page) (last p 1)) in
     rw e
-    (ap (ruled refusal (faults (h .taken) p)) (sym (met-passed h p _ _ refl refl)) ∙ sym (ruled-map (met h p) none (faults (h .taken) p) x))
+    (ap (ruled refusal (faults (h .taken) p)) (sym (met-passed h p)) ∙ sym (ruled-map (met h p) none (faults (h .taken) p) x))
 
 -- the answer that the place of a piece means is the answer to it
 pub step-by : (h : Held) (p : List ℕ) (x : Place) (g : Given) → proper h ≡ true → placeOf (h .taken) p ≡ x → g ≡ met h p x → g ≡ step h p
@@ -41,11 +40,12 @@ step-by h p x g e q r = r ∙ sym (step-met h p e ∙ ap (met h p) q)
 pub record Proper (h : Held) : Type 0 where
   pub long : length (h .octets) ≡ 88
   pub room : h .taken ≤ 3
-  pub rest : drop (22 * h .taken) (h .octets) ≡ replicate (88 - 22 * h .taken) 43
+  pub rest : drop (22 * h .taken) (h .octets) ≡ replicate (88 - 22 * h .taken) 0x2b
 
-few : (k t : ℕ) (b : Bool) → eqb k 0 ≡ b → cond (eqb k 0) (eqb t 0) (leb k 2 && (leb 1 t && leb t 3)) ≡ true → t ≤ 3
-few k t true q e = omega (arith, eqb-true t 0 (rw q at e))
-few k t false q e = leb-true t 3 (both (leb 1 t) (leb t 3) (both (leb k 2) (leb 1 t && leb t 3) (rw q at e) .1) .1)
+few : (k t : ℕ) → cond (eqb k 0) (eqb t 0) (leb k 2 && (leb 1 t && leb t 3)) ≡ true → t ≤ 3
+few k t e =
+    true-or-false (eqb k 0) (λ q. omega (arith, eqb-true t 0 (rw q at e)))
+    (λ q. leb-true t 3 (both (leb 1 t) (leb t 3) (both (leb k 2) (leb 1 t && leb t 3) (rw q at e) .1) .1))
 
 pub proper-facts : (h : Held) → proper h ≡ true → Proper h
 unfolding proper
@@ -54,11 +54,11 @@ proper-facts h e =
     let long = eqb-true (length (h .octets)) 88 (parts .0) in
     let kinds = both _ _ (parts .1) in
     let rest = drop (22 * h .taken) (h .octets) in
-    let size : length rest ≡ 88 - 22 * h .taken = length-drop (22 * h .taken) (h .octets) ∙ ap (λ (n : ℕ). n - 22 * h .taken) long in
+    let size : length rest ≡ 88 - 22 * h .taken = length-drop (22 * h .taken) (h .octets) ∙ rw long in
     record {
       long = long;
-      room = few (h .kind) (h .taken) _ refl (kinds .0);
-      rest = allBlank-is rest (kinds .1) ∙ ap (λ (n : ℕ). replicate n 43) size;
+      room = few (h .kind) (h .taken) (kinds .0);
+      rest = rw size at (allBlank-is rest (kinds .1));
     }
 
 abbrev pub isTaken : Place → Bool

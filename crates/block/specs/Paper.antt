@@ -1,9 +1,9 @@
 -- Blocks and their intake as document 01 has them, in numbers and lists of octets.
 use mathlib.Core.Bool.{Bool, true, cond, not, _&&_, _||_}
 use mathlib.Core.List.{List, [], _∷_, _++_}
-use Prim.Native.Nat.{ℕ, zero, suc, _+_, _*_, _-_, _/_, _%_}
+use Prim.Native.Nat.{ℕ, suc, _*_, _-_, _/_, _%_}
 use lib.ListN.{length, take, drop, getD, replicate}
-use lib.Dec.{eqb, leb, ltb}
+use lib.Dec.{eqb, leb}
 use Rattle.laws.specs.Ruled.{ruled}
 
 -- 01 Blocks, 000 3.3.1: the type octet of a piece, its first
@@ -40,39 +40,6 @@ kindNumber schedule = 2
 abbrev pub codeOf : Kind → ℕ → ℕ
 codeOf k i = cond (eqb i 0) (firstCode k) i
 
--- 01 Blocks: the number of the last used block, from 1: used ÷ 22, rounded up
-abbrev pub lastUsed : ℕ → ℕ
-lastUsed used = (used + 21) / 22
-
--- 01 Blocks: LB of block i, counted from 0: 0 before the last used block and 1 from it on
-abbrev pub markOf : ℕ → ℕ → ℕ
-markOf used i = cond (leb (lastUsed used) (suc i)) 1 0
-
--- 01 Blocks: the type octet of block i, counted from 0: spare bit 0, discriminator 01, LB, code
-abbrev pub typeOf : Kind → ℕ → ℕ → ℕ
-typeOf k used i = 32 + 16 * markOf used i + codeOf k i
-
--- 01 Blocks: block i of a message m, counted from 0: its type octet and its 22 octets
-unfoldable pub block : Kind → ℕ → List ℕ → ℕ → List ℕ
-block k used m i = typeOf k used i ∷ take 22 (drop (22 * i) m)
-
--- 01 Blocks: the first n blocks of a message, one after the other
-unfoldable pub blocks : Kind → ℕ → List ℕ → ℕ → List ℕ
-blocks k used m zero = []
-blocks k used m (suc n) = blocks k used m n ++ block k used m n
-
--- what a call that writes leaves: its number, and the lent output
-pub record BlocksLeft : Type 0 where
-  pub number : ℕ
-  pub output : List ℕ
-
--- 01 Blocks, Order: the block writer; a refusal leaves the output as it was
-unfoldable pub written : List ℕ → Kind → ℕ → List ℕ → BlocksLeft
-written m k used out =
-    ruled (λ (n : ℕ). record { number = n; output = out })
-    ((not (eqb (length out) 92), 15) ∷ (not (eqb (length m) 88), 16) ∷ (eqb used 0 || ltb 88 used, 17) ∷ [])
-    (record { number = 0; output = blocks k used m 4 })
-
 -- 01 Intake: a state: kind (0 none, 1 page, 2 schedule), blocks taken, 88 octets
 pub record Held : Type 0 where
   pub kind : ℕ
@@ -81,11 +48,11 @@ pub record Held : Type 0 where
 
 -- 01 Intake: octets followed by 2B up to 88
 abbrev pub filled : List ℕ → List ℕ
-filled xs = xs ++ replicate (88 - length xs) 43
+filled xs = xs ++ replicate (88 - length xs) 0x2b
 
 -- 01 Intake: 88 octets of 2B
 abbrev pub blank : List ℕ
-blank = replicate 88 43
+blank = replicate 88 0x2b
 
 -- 01 Intake: what the start call gives
 abbrev pub start : Held
@@ -94,7 +61,7 @@ start = record { kind = 0; taken = 0; octets = blank }
 -- every octet is 2B
 unfoldable pub allBlank : List ℕ → Bool
 allBlank [] = true
-allBlank (x ∷ xs) = eqb x 43 && allBlank xs
+allBlank (x ∷ xs) = eqb x 0x2b && allBlank xs
 
 -- 01 Intake: kind 0 with 0 blocks, or 1 or 2 with 1 to 3; 88 octets, those that no taken block filled 2B
 unfoldable pub proper : Held → Bool

@@ -1,52 +1,60 @@
 -- One more block of a message: what a piece does to a state that holds the blocks before it.
 use Rattle.laws.proofs.Base.{_≡_, refl, sym, ap, _∙_, Bool, true, false, cond, not, _&&_, List, [], _∷_, _++_, append-assoc, append-nil, ℕ, zero, suc, _*_, _-_, _≤_, arith, length, take, drop, replicate, length-append, length-drop, length-replicate, take-at, drop-at, eqb, leb, lit≤, eq-eqb, ne-eqb, le-leb}
 use Rattle.laws.proofs.Snoc.{length-snoc}
-use Rattle.block.specs.Paper.{Kind, page, schedule, kindNumber, mark, code, last, filled, Held, start, proper, allBlank, refusal, added, step}
-use Rattle.block.specs.Inner.{none, first, next, placeOf}
-use Rattle.block.specs.Coded.{outcome}
+use Rattle.block.specs.Paper.{Kind, page, schedule, kindNumber, mark, code, last, filled, Held, Given, start, proper, allBlank, refusal, added, step}
+use Rattle.block.specs.Inner.{none, first, next, placeOf, outcome}
 use Rattle.block.proofs.Steps.{step-met, met}
 use Rattle.block_history.specs.Claims.{IsBlock, contents, holding}
 
--- unmarked blocks of a message of kind k, in order from the first, none or up to three
-pub data Part (k : Kind) : List (List ℕ) → Type 0 where
-  nothing : Part k []
-  more : {u : List (List ℕ)} {p : List ℕ} → Part k u → length u ≤ 2 → IsBlock k (length u) p → mark p ≡ 0 → Part k (u ++ (p ∷ []))
+abbrev pub Pieces : Type 0
+Pieces = List (List ℕ)
 
-pub contents-snoc : (u : List (List ℕ)) (p : List ℕ) → contents (u ++ (p ∷ [])) ≡ contents u ++ drop 1 p
+-- equal answers have equal numbers and leave equal states
+pub number-of : {g h : Given} → g ≡ h → g .number ≡ h .number
+number-of e = ap (λ (g : Given). g .number) e
+
+pub next-of : {g h : Given} → g ≡ h → g .next ≡ h .next
+next-of e = ap (λ (g : Given). g .next) e
+
+-- unmarked blocks of a message of kind k, in order from the first, none or up to three
+pub data Part (k : Kind) : Pieces → Type 0 where
+  nothing : Part k []
+  more : {u : Pieces} {p : List ℕ} → Part k u → length u ≤ 2 → IsBlock k (length u) p → mark p ≡ 0 → Part k (u ++ (p ∷ []))
+
+pub contents-snoc : (u : Pieces) (p : List ℕ) → contents (u ++ (p ∷ [])) ≡ contents u ++ drop 1 p
 unfolding contents
 contents-snoc [] p = append-nil (drop 1 p)
-contents-snoc (q ∷ u) p = ap (λ (l : List ℕ). drop 1 q ++ l) (contents-snoc u p) ∙ sym (append-assoc (drop 1 q) (contents u) (drop 1 p))
+contents-snoc (q ∷ u) p = rw (contents-snoc u p) (sym (append-assoc (drop 1 q) (contents u) (drop 1 p)))
 
-pub length-contents : {k : Kind} {u : List (List ℕ)} → Part k u → length (contents u) ≡ 22 * length u
+pub length-contents : {k : Kind} {u : Pieces} → Part k u → length (contents u) ≡ 22 * length u
 unfolding contents
 length-contents nothing = refl
 length-contents (more {u} {p} part h b m) =
-    ap length (contents-snoc u p) ∙ length-append (contents u) (drop 1 p)
-    ∙ rw (length-contents part, length-drop 1 p, b .whole, length-snoc u p) (omega arith)
+    rw (contents-snoc u p, length-append (contents u) (drop 1 p), length-contents part, length-drop 1 p, b .whole, length-snoc u p) (omega arith)
 
-pub length-part : {k : Kind} {u : List (List ℕ)} → Part k u → length u ≤ 3
+pub length-part : {k : Kind} {u : Pieces} → Part k u → length u ≤ 3
 length-part nothing = lit≤ tt
 length-part (more {u} {p} part h b m) = rw (length-snoc u p) (omega arith)
 
 -- a block added to what is held
-added-holding : {k : Kind} {u : List (List ℕ)} (p : List ℕ) → Part k u → added (holding k u) p ≡ holding k (u ++ (p ∷ []))
+added-holding : {k : Kind} {u : Pieces} (p : List ℕ) → Part k u → added (holding k u) p ≡ holding k (u ++ (p ∷ []))
 added-holding {k} {u} p part =
     let front : take (22 * length u) (filled (contents u)) ≡ contents u = take-at (contents u) _ (22 * length u) (length-contents part) in
     rw (front, length-snoc u p, contents-snoc u p)
 
-allBlank-replicate : (n : ℕ) → allBlank (replicate n 43) ≡ true
+allBlank-replicate : (n : ℕ) → allBlank (replicate n 0x2b) ≡ true
 unfolding allBlank
 allBlank-replicate zero = refl
 allBlank-replicate (suc n) = allBlank-replicate n
 
 -- a state that holds blocks is proper
-pub proper-holding : {k : Kind} {u : List (List ℕ)} → Part k u → 1 ≤ length u → proper (holding k u) ≡ true
+pub proper-holding : {k : Kind} {u : Pieces} → Part k u → 1 ≤ length u → proper (holding k u) ≡ true
 unfolding proper
 proper-holding {k} {u} part some =
     let n = length-contents part in
     let few = length-part part in
     let long : length (filled (contents u)) ≡ 88 = simp (length-append, length-replicate) (omega arith) in
-    let rest : drop (22 * length u) (filled (contents u)) ≡ replicate (88 - length (contents u)) 43 = drop-at (contents u) _ (22 * length u) n in
+    let rest : drop (22 * length u) (filled (contents u)) ≡ replicate (88 - length (contents u)) 0x2b = drop-at (contents u) _ (22 * length u) n in
     simp (eq-eqb _ _ long, le-leb _ _ some, le-leb _ _ few, rest, allBlank-replicate) (known k)
   where
     known : (k : Kind) → (cond (eqb (kindNumber k) 0) (eqb (length u) 0) (leb (kindNumber k) 2 && (true && true)) && true) ≡ true
@@ -81,7 +89,7 @@ unfolding contents
 join-first k h p good b = step-met h p good ∙ ap (met h p) (place-first k (h .taken) p b) ∙ rw append-nil
 
 -- a follower is added to the blocks before it
-join-next : (k : Kind) (h : Held) (u : List (List ℕ)) (p : List ℕ) → Part k u → 1 ≤ length u → h ≡ holding k u → IsBlock k (length u) p
+join-next : (k : Kind) (h : Held) (u : Pieces) (p : List ℕ) → Part k u → 1 ≤ length u → h ≡ holding k u → IsBlock k (length u) p
     → step h p ≡ outcome (last p (suc (length u))) (holding k (u ++ (p ∷ [])))
 join-next k h u p part some e b =
     rw e
@@ -95,11 +103,11 @@ not-next k i p some few b =
     step-met start p proper-start ∙ ap (met start p) (rw (ne-eqb i 0 (λ e. omega arith)) at (place-follower k 0 i p some few b))
 
 -- a proper state takes a first block; after it, a state that holds the blocks before
-pub data Base (k : Kind) (h : Held) : List (List ℕ) → Type 0 where
+pub data Base (k : Kind) (h : Held) : Pieces → Type 0 where
   fresh : proper h ≡ true → Base k h []
-  holds : {u : List (List ℕ)} → 1 ≤ length u → h ≡ holding k u → Base k h u
+  holds : {u : Pieces} → 1 ≤ length u → h ≡ holding k u → Base k h u
 
-pub join : {k : Kind} {h : Held} {u : List (List ℕ)} (p : List ℕ) → Part k u → Base k h u → IsBlock k (length u) p
+pub join : {k : Kind} {h : Held} {u : Pieces} (p : List ℕ) → Part k u → Base k h u → IsBlock k (length u) p
     → step h p ≡ outcome (last p (suc (length u))) (holding k (u ++ (p ∷ [])))
 join {k} {h} p part (fresh good) b = join-first k h p good b
 join {k} {h} p part (holds {u} some e) b = join-next k h u p part some e b

@@ -1,19 +1,17 @@
 -- The blocks that the writer writes, taken in: what each of the four is answered.
-use Rattle.laws.proofs.Base.{_≡_, refl, sym, ap, _∙_, Bool, true, false, List, [], _∷_, _++_, ℕ, zero, suc, _+_, _*_, _/_, _%_, _≤_, _<_, le-of-lt, arith, length, take, drop, length-drop, drop-at, take-all, take-append-le, drop-append-le, take-add, eqb, leb, ltb, lit≤, ne-eqb, le-leb, lt-leb, eqb-true, eqb-false, ltb-true, ltb-false}
+use Rattle.laws.proofs.Base.{_≡_, refl, sym, ap, _∙_, true, false, List, [], _∷_, ℕ, zero, suc, _+_, _*_, _/_, _%_, _≤_, _<_, le-of-lt, arith, length, take, drop, length-drop, drop-at, take-all, take-append-le, drop-append-le, take-add, eqb, leb, ltb, lit≤, ne-eqb, le-leb, lt-leb, eqb-true, eqb-false, ltb-true, ltb-false}
 use Rattle.laws.proofs.Snoc.{length-snoc}
-use Rattle.block.specs.Paper.{Kind, kindNumber, mark, codeOf, markOf, lastUsed, block, blocks, filled, Held, Given, start, proper, handed, last, step}
-use Rattle.block.specs.Coded.{outcome}
-use Rattle.block.proofs.Write.{codeOf-small, length-block, length-blocks}
-use Rattle.block_history.specs.Claims.{IsBlock, contents, after, piece, pieces, expected, BlocksTaken}
-use Rattle.block_history.proofs.Joins.{Part, nothing, more, join, not-next, contents-snoc}
+use Rattle.laws.proofs.Tests.{true-or-false, le-or-lt}
+use Rattle.block.specs.Paper.{Kind, kindNumber, mark, codeOf, filled, Held, start, proper, handed, last, step}
+use Rattle.block.specs.Inner.{outcome}
+use Rattle.block_writer.specs.Paper.{markOf, lastUsed, block, blocks}
+use Rattle.block_writer.proofs.Write.{codeOf-small, length-block, length-blocks}
+use Rattle.block_history.specs.Claims.{IsBlock, contents, after, piece, pieces, BlocksTaken}
+use Rattle.block_history.proofs.Joins.{next-of, Part, nothing, more, join, not-next, contents-snoc}
 use Rattle.block_history.proofs.History.{after-append, held-part}
 
 markOf-small : (used i : ℕ) → markOf used i ≤ 1
-markOf-small used i = go (leb (lastUsed used) (suc i)) refl
-  where
-    go : (b : Bool) → leb (lastUsed used) (suc i) ≡ b → markOf used i ≤ 1
-    go true e = rw e (lit≤ tt)
-    go false e = rw e (lit≤ tt)
+markOf-small used i = true-or-false (leb (lastUsed used) (suc i)) (λ e. rw e (lit≤ tt)) (λ e. rw e (lit≤ tt))
 
 -- the bits of a type octet
 type-bits : (l c : ℕ) → l ≤ 1 → c ≤ 8 → ((32 + 16 * l + c) / 32 % 4 ≡ 1) × ((32 + 16 * l + c) % 16 ≡ c) × ((32 + 16 * l + c) / 16 % 2 ≡ l)
@@ -26,21 +24,17 @@ module _ (k : Kind) (used : ℕ) (m : List ℕ) (long : length m ≡ 88) where
   cut : (n i : ℕ) → n ≤ 4 → i < n → take 23 (drop (23 * i) (blocks k used m n)) ≡ block k used m i
   unfolding blocks
   cut zero i h g = absurd (omega arith)
-  cut (suc n) i h g = go (λ below. cut n i (le-of-lt h) below) (eqb i n) refl
-    where
-      size : length (blocks k used m n) ≡ 23 * n
-      size = length-blocks k used m long n (le-of-lt h)
-
-      go : (i < n → take 23 (drop (23 * i) (blocks k used m n)) ≡ block k used m i) → (b : Bool) → eqb i n ≡ b
-          → take 23 (drop (23 * i) (blocks k used m n ++ block k used m n)) ≡ block k used m i
-      go rest true e =
-          rw (eqb-true i n e, drop-at (blocks k used m n) (block k used m n) (23 * n) size)
-          (take-all 23 (block k used m n) (omega (arith, length-block k used m long n h)))
-      go rest false e =
-          let below : i < n = omega (arith, eqb-false i n e) in
-          let room : 23 ≤ length (drop (23 * i) (blocks k used m n)) = simp length-drop (omega (arith, size)) in
-          ap (λ (l : List ℕ). take 23 l) (drop-append-le (23 * i) (blocks k used m n) (block k used m n) (omega (arith, size)))
-          ∙ take-append-le 23 (drop (23 * i) (blocks k used m n)) (block k used m n) room ∙ rest below
+  cut (suc n) i h g =
+      let size = length-blocks k used m long n (le-of-lt h) in
+      le-or-lt n i
+      (λ l.
+      let e : i ≡ n = omega arith in
+      rw (e, drop-at (blocks k used m n) (block k used m n) (23 * n) size)
+      (take-all 23 (block k used m n) (omega (arith, length-block k used m long n h))))
+      (λ below.
+      let room : 23 ≤ length (drop (23 * i) (blocks k used m n)) = simp length-drop (omega (arith, size)) in
+      rw (drop-append-le (23 * i) (blocks k used m n) (block k used m n) (omega (arith, size)))
+      (take-append-le 23 (drop (23 * i) (blocks k used m n)) (block k used m n) room ∙ cut n i (le-of-lt h) below))
 
   pub piece-block : (i : ℕ) → i < 4 → piece k used m i ≡ block k used m i
   piece-block i h = cut 4 i (lit≤ tt) h
@@ -102,27 +96,23 @@ module _ (k : Kind) (used : ℕ) (m : List ℕ) (long : length m ≡ 88) where
     ended zero a b = absurd (omega arith)
     ended (suc i) a b =
         after-append h (pieces k used m i) (piece k used m i ∷ [])
-        ∙ go (λ c. ended i c (le-of-lt b)) (eqb (suc i) (lastUsed used)) refl
-      where
-        go : (lastUsed used ≤ i → after h (pieces k used m i) ≡ start) → (c : Bool) → eqb (suc i) (lastUsed used) ≡ c
-            → step (after h (pieces k used m i)) (piece k used m i) .next ≡ start
-        go before true e = ap (λ (g : Given). g .next) (completed i b (eqb-true (suc i) (lastUsed used) e))
-        go before false e =
-            let past : lastUsed used ≤ i = omega (arith, eqb-false (suc i) (lastUsed used) e) in
-            rw (before past) (ap (λ (g : Given). g .next) (not-next k i (piece k used m i) (omega arith) (omega arith) (typed i b .0)))
+        ∙ le-or-lt (lastUsed used) i
+        (λ past.
+        rw (ended i past (le-of-lt b)) (next-of (not-next k i (piece k used m i) (omega arith) (omega arith) (typed i b .0))))
+        (λ l. next-of (completed i b (omega arith)))
 
 pub blocks-taken : BlocksTaken
-blocks-taken k used m h long some most good i b = go (ltb (suc i) (lastUsed used)) refl (eqb (suc i) (lastUsed used)) refl
-  where
-    go : (c : Bool) → ltb (suc i) (lastUsed used) ≡ c → (d : Bool) → eqb (suc i) (lastUsed used) ≡ d
-        → step (after h (pieces k used m i)) (piece k used m i) ≡ expected k used m i
-    go true e d f =
-        let a = ltb-true (suc i) (lastUsed used) e in
-        let unmarked : mark (piece k used m i) ≡ 0 = typed k used m long i b .1 ∙ rw (lt-leb (lastUsed used) (suc i) a) in
-        let more-to-come : eqb (suc i) 4 ≡ false = ne-eqb (suc i) 4 (omega arith) in
-        rw e (rw (unmarked, more-to-come) at (joined k used m long h good some most i b (omega arith)))
-    go false e true f = rw (e, f) (completed k used m long h good some most i b (eqb-true (suc i) (lastUsed used) f))
-    go false e false f =
-        let past : lastUsed used ≤ i = omega (arith, ltb-false (suc i) (lastUsed used) e, eqb-false (suc i) (lastUsed used) f) in
-        rw (e, f, ended k used m long h good some most i past (omega arith))
-        (not-next k i (piece k used m i) (omega arith) (omega arith) (typed k used m long i b .0))
+blocks-taken k used m h long some most good i b =
+    let w = typed k used m long i b in
+    true-or-false (ltb (suc i) (lastUsed used))
+    (λ e.
+    let a = ltb-true (suc i) (lastUsed used) e in
+    let unmarked : mark (piece k used m i) ≡ 0 = w .1 ∙ rw (lt-leb (lastUsed used) (suc i) a) in
+    let more-to-come : eqb (suc i) 4 ≡ false = ne-eqb (suc i) 4 (omega arith) in
+    rw e (rw (unmarked, more-to-come) at (joined k used m long h good some most i b (omega arith))))
+    (λ e. true-or-false (eqb (suc i) (lastUsed used))
+    (λ f. rw (e, f) (completed k used m long h good some most i b (eqb-true (suc i) (lastUsed used) f)))
+    (λ f.
+    let past : lastUsed used ≤ i = omega (arith, ltb-false (suc i) (lastUsed used) e, eqb-false (suc i) (lastUsed used) f) in
+    rw (e, f, ended k used m long h good some most i past (omega arith))
+    (not-next k i (piece k used m i) (omega arith) (omega arith) (w .0))))

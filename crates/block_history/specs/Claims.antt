@@ -7,7 +7,8 @@ use Prim.Native.Nat.{ℕ, zero, suc, _*_, _-_, _≤_, _<_}
 use lib.ListN.{length, take, drop, getD}
 use lib.Dec.{eqb, ltb}
 use Rattle.laws.specs.Ruled.{ruled}
-use Rattle.block.specs.Paper.{Kind, page, schedule, link, mark, code, reserved, codeOf, kindNumber, lastUsed, blocks, Held, Given, filled, start, proper, refusal, handed, kept, step}
+use Rattle.block.specs.Paper.{Kind, page, schedule, link, mark, code, reserved, codeOf, kindNumber, Held, Given, filled, start, proper, refusal, handed, kept, step}
+use Rattle.block_writer.specs.Paper.{lastUsed, blocks}
 
 -- 01 Numbers given: the answer to the piece that completes a message
 abbrev pub completes : Kind → ℕ

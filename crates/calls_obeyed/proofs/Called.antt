@@ -4,7 +4,8 @@ use Rattle.laws.proofs.Ruled.{NoneHolds, ruled-map, none-holds, ruled-none, unl
 use Rattle.plan.specs.Paper.{readPlan}
 use Rattle.sender.specs.Paper.{Writing, unwritten, write}
 use Rattle.checker.specs.Paper.{Checked, unchecked, check}
-use Rattle.block.specs.Paper.{lastUsed}
+use Rattle.block_writer.specs.Paper.{lastUsed}
+use Rattle.board.specs.Paper.{Decided}
 use Rattle.delivery.proofs.Accepted.{ours-accepted}
 use Rattle.board_obeyed.specs.Claims.{Obeys, after}
 use Rattle.board_obeyed.proofs.Obeyed.{wakes, wakes-only}

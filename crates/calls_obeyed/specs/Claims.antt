@@ -5,7 +5,7 @@ use mathlib.Core.List.{List, _∷_}
 use Prim.Native.Nat.{ℕ, zero, suc, _*_, _/_, _%_, _≤_, _<_}
 use lib.Dec.{eqb}
 use lib.ListN.{length}
-use Rattle.block.specs.Paper.{lastUsed}
+use Rattle.block_writer.specs.Paper.{lastUsed}
 use Rattle.plan.specs.Paper.{Plan, readPlan, entryAt, pageAt, lowestAt}
 use Rattle.board.specs.Paper.{Wanted}
 use Rattle.plan_calls.specs.Paper.{writeScheduleCall, checkScheduleCall}

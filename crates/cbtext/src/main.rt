@@ -18,7 +18,7 @@ use files::Opened;
 use libc::STDERR_FILENO;
 use page::MessageId;
 use page::Serial;
-use text::Got;
+use text_reader::Got;
 
 // Room for the longest line of each piece of a chunk.
 const ROOM: usize = 366592;
@@ -169,7 +169,7 @@ fn put_body(page: &[u8], received: usize, out: &mut [u8], at: usize) -> usize
     ensures { λ r. ⌜ Puts (body (now (page .entry)) received) 285 at (now (out .entry)) (now (out .exit)) r ⌝ }
 {
     let mut points = [0u16; 93];
-    let got = text::read_text(page, received, &mut points);
+    let got = text_reader::read_text(page, received, &mut points);
     if let Got::Characters(count) = got {
         return put_text(&points[..count], out, at);
     }

@@ -3,7 +3,8 @@ use Rattle.laws.proofs.Base.{_≡_, sym, ap, _∙_, List, ℕ, replicate, ne-eq
 use Rattle.refusals.specs.Number.{numberOf}
 use Rattle.refusals.specs.declared.Refusal.{Refusal}
 use Rattle.refusals.proofs.Inverse.{numberOf-positive}
-use Rattle.block.specs.Paper.{schedule, written}
+use Rattle.block.specs.Paper.{schedule}
+use Rattle.block_writer.specs.Paper.{written}
 use Rattle.plan.specs.Paper.{Plan}
 use Rattle.sender.specs.Paper.{Writing, write}
 use Rattle.sender.specs.Coded.{writingOf}

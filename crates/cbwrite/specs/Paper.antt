@@ -4,7 +4,8 @@ use mathlib.Core.List.{List}
 use Prim.Native.Nat.{ℕ}
 use lib.Dec.{eqb}
 use lib.ListN.{replicate}
-use Rattle.block.specs.Paper.{BlocksLeft, schedule, written}
+use Rattle.block.specs.Paper.{schedule}
+use Rattle.block_writer.specs.Paper.{BlocksLeft, written}
 use Rattle.plan.specs.Paper.{Plan}
 use Rattle.sender.specs.Paper.{Writing, write}
 

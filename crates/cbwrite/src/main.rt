@@ -1,13 +1,13 @@
 // Writes the four blocks of the schedule message of a plan file, beside the plan file before it: cbwrite CURRENT PREVIOUS BEGIN.
 ghost use mathlib.Core.Path.{_≡_};
 ghost use Prim.Native.Nat.{min};
-ghost use Rattle.block.specs.Coded.{sentOf};
+ghost use Rattle.block_writer.specs.Coded.{sentOf};
 ghost use Rattle.plan.specs.Coded.{planOf};
 ghost use Rattle.cbwrite.specs.Paper.{composed};
 ghost use Rattle.cbwrite.specs.Inner.{typed};
 use arguments::Asked;
 use block::Kind;
-use block::Sent;
+use block_writer::Sent;
 use libc::STDERR_FILENO;
 use plan::Plan;
 use refusals::Refusal;
@@ -140,7 +140,7 @@ fn compose(current: Plan, previous: Plan, begin: usize, out: &mut [u8]) -> Sent
     let mut message = [0u8; 88];
     let answer = sender::write_schedule(current, previous, begin, &mut message);
     match answer {
-        Writing::Written(used) => block::write_blocks(&message, Kind::Schedule, used, out),
+        Writing::Written(used) => block_writer::write_blocks(&message, Kind::Schedule, used, out),
         Writing::Refused(refusal) => Sent::Refused(refusal),
     }
 }

@@ -15,7 +15,7 @@ use Rattle.sender.specs.Paper.{planned, descriptions, messageOf, Writing, unwri
 use Rattle.sender.specs.Paper as sender
 use Rattle.checker.specs.Paper.{isTrue, untrue, unchecked, verdict, check}
 use Rattle.checker.specs.Paper as checker
-use Rattle.block.specs.Paper.{lastUsed}
+use Rattle.block_writer.specs.Paper.{lastUsed}
 use Rattle.delivery.specs.Claims.{Fits, Reads, OursAccepted}
 use Rattle.delivery.proofs.ReadsBack.{reads-back}
 use Rattle.delivery.proofs.Planned.{planned-tellable, planned-true, planned-repeats}

@@ -2,7 +2,8 @@
 use Rattle.laws.proofs.Base.{_≡_, refl, sym, ap, _∙_, true, cond, List, _++_, append-assoc, ℕ, zero, suc, _+_, _*_, _-_, _≤_, _<_, min, arith, length, take, replicate, length-append, length-replicate, replicate-append-replicate, length-take-le, take-at, take-append-add, eqb, eq-eqb, ne-eqb, lt-ltb, le-ltb}
 use Rattle.laws.specs.Upto.{each}
 use Rattle.laws.proofs.Parts.{take-replicate}
-use Rattle.block.specs.Paper.{Kind, page, schedule, kindNumber, lastUsed, blocks, Held, Given, BlocksLeft, filled, start, proper, step, written}
+use Rattle.block.specs.Paper.{Kind, page, schedule, kindNumber, Held, Given, filled, start, proper, step}
+use Rattle.block_writer.specs.Paper.{lastUsed, blocks, BlocksLeft, written}
 use Rattle.block_history.specs.Claims.{after, piece, pieces, expected}
 use Rattle.block_history.proofs.History.{standing, standing-proper, number-handed}
 use Rattle.block_history.proofs.Taken.{blocks-taken}

@@ -8,7 +8,8 @@ use Rattle.laws.specs.Radix.{Below}
 use Rattle.schedule.specs.Paper.{Told, first, again, optional, advised, Shown, type, begin, end, new, tells, place}
 use Rattle.sender.specs.Paper.{descriptions, messageOf, Writing, write}
 use Rattle.plan.specs.Paper.{Plan}
-use Rattle.block.specs.Paper.{lastUsed, Kind, page, schedule, Held, Given, filled, start, proper, step, written}
+use Rattle.block.specs.Paper.{Kind, page, schedule, Held, Given, filled, start, proper, step}
+use Rattle.block_writer.specs.Paper.{lastUsed, written}
 use Rattle.checker.specs.Paper.{check, unchecked}
 use Rattle.laws.specs.Upto.{each}
 use Rattle.page.specs.Paper.{Heading, header}

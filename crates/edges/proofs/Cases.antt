@@ -7,8 +7,8 @@ use Rattle.laws.specs.Upto.{some, count, picked, each}
 use Rattle.alphabet.specs.Paper.{alphabet, septetOf}
 use Rattle.page.specs.Paper.{headerOctets, samePage}
 use Rattle.text.specs.Paper.{septets, packed, pageOf, badParameter, foreign, endsInCr, written}
-use Rattle.block.specs.Paper.{block, blocks}
-use Rattle.block.specs.Paper as cut
+use Rattle.block_writer.specs.Paper.{block, blocks}
+use Rattle.block_writer.specs.Paper as cut
 use Rattle.plan.specs.Paper.{bad, planNumber, holds, lowestSlot, hasPage}
 use Rattle.schedule.specs.Paper.{new, place, order, tells, read}
 use Rattle.sender.specs.Paper.{plannedTold, newAt, octetsOfAll, descriptions, newBits, usedPart, padded, write}

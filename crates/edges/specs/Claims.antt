@@ -8,6 +8,7 @@ use Rattle.laws.specs.Upto.{each}
 use Rattle.page.specs.Paper.{Heading}
 use Rattle.text.specs.Paper as text
 use Rattle.block.specs.Paper as block
+use Rattle.block_writer.specs.Paper as writer
 use Rattle.plan.specs.Paper.{Entry, Plan, filledPlan, empty}
 use Rattle.schedule.specs.Paper as schedule
 use Rattle.sender.specs.Paper as sender
@@ -15,7 +16,7 @@ use Rattle.board.specs.Paper.{Decided, decide}
 
 -- 01 Blocks: the type octets of the four blocks of a page with some used octets
 abbrev pub types : ℕ → List ℕ
-types used = each (λ (i : ℕ). getD (block.written (replicate 88 0) block.page used (replicate 92 0) .output) (23 * i) 0) 4
+types used = each (λ (i : ℕ). getD (writer.written (replicate 88 0) block.page used (replicate 92 0) .output) (23 * i) 0) 4
 
 -- 01 Page and text: serial number 0010, identifier 8001, scheme 00, parameter 11
 abbrev pub heading : Heading

@@ -1,8 +1,9 @@
 -- Demand 2 over C calls: each state in lent memory is the one that the counted pieces leave, and nothing from before the start is in it.
-use Rattle.laws.proofs.Base.{_≡_, refl, sym, ap, _∙_, Bool, true, false, List, [], _∷_, _++_, append-assoc, append-nil, ℕ, _+_, _*_, _%_, _≤_, arith, length, eqb, lit≤, eq-eqb, ne-eqb, eqb-true, eqb-false}
-use Rattle.block.specs.Paper.{Kind, page, schedule, Given, start, step}
+use Rattle.laws.proofs.Base.{_≡_, refl, sym, ap, _∙_, List, [], _∷_, _++_, append-assoc, append-nil, ℕ, _+_, _*_, _%_, _≤_, arith, length, eqb, eq-eqb, ne-eqb, eqb-true, eqb-false}
+use Rattle.laws.proofs.Tests.{true-or-false}
+use Rattle.block.specs.Paper.{Kind, Given, start, step}
 use Rattle.block_history.specs.Claims.{completes, refusedBy, after, answered}
-use Rattle.block_history.proofs.History.{standing, standing-proper, after-append, number-small, complete-exactly, complete-gives, taken-gives, goes-on-decided, refused-gives}
+use Rattle.block_history.proofs.History.{standing, standing-proper, after-append, number-small, not-completes, complete-exactly, complete-gives, taken-gives, goes-on-decided, refused-gives}
 use Rattle.block.proofs.Steps.{proper-facts}
 use Rattle.firmware.specs.Paper.{IntakeLeft, Started, lent, heldIn, moved, startCall, intakeCall}
 use Rattle.firmware.specs.Claims.{Call, on, off, afterCalls, counted, called, LentHistory, NeverFinishesLeftovers}
@@ -16,6 +17,13 @@ length-lent ps = omega (arith, proper-facts (after start ps) (standing-proper (s
 pub right : (s p o : List ℕ) → length s ≡ 90 → length o ≡ 88 → intakeCall s p o ≡ moved (step (heldIn s) p) o
 unfolding intakeCall
 right s p o long size = simp (eq-eqb _ _ size, eq-eqb _ _ long)
+
+-- equal calls leave equal states and return equal numbers
+state-of : {x y : IntakeLeft} → x ≡ y → x .state ≡ y .state
+state-of e = ap (λ (x : IntakeLeft). x .state) e
+
+returned-of : {x y : IntakeLeft} → x ≡ y → x .returned ≡ y .returned
+returned-of e = ap (λ (x : IntakeLeft). x .returned) e
 
 -- calls that do not count change nothing
 uncounted-15 : (s p o : List ℕ) → (length o ≡ 88 → ⊥) → intakeCall s p o ≡ record { returned = 15; state = s; output = o }
@@ -35,17 +43,12 @@ lent-after : (ps : List (List ℕ)) (cs : List Call) → afterCalls (lent (after
 unfolding afterCalls counted
 lent-after ps [] = rw (append-nil ps)
 lent-after ps (off m w p o ∷ cs) = lent-after ps cs
-lent-after ps (on p o ∷ cs) = go (λ qs. lent-after qs cs) (eqb (length o) 88) refl
-  where
-    go : ((qs : List (List ℕ)) → afterCalls (lent (after start qs)) cs ≡ lent (after start (qs ++ counted cs))) → (b : Bool) → eqb (length o) 88 ≡ b
-        → afterCalls (intakeCall (lent (after start ps)) p o .state) cs ≡ lent (after start (ps ++ counted (on p o ∷ cs)))
-    go rest false e =
-        let state = ap (λ (x : IntakeLeft). x .state) (uncounted-15 (lent (after start ps)) p o (eqb-false (length o) 88 e)) in
-        rw (state, e) (rest ps)
-    go rest true e =
-        let one = after-one ps p in
-        let state = ap (λ (x : IntakeLeft). x .state) (right (lent (after start ps)) p o (length-lent ps) (eqb-true (length o) 88 e)) in
-        rw (state, e, ← one, ← append-assoc ps (p ∷ []) (counted cs)) (rest (ps ++ (p ∷ [])))
+lent-after ps (on p o ∷ cs) =
+    true-or-false (eqb (length o) 88)
+    (λ e.
+    let state = state-of (right (lent (after start ps)) p o (length-lent ps) (eqb-true (length o) 88 e)) in
+    rw (state, e, ← after-one ps p, ← append-assoc ps (p ∷ []) (counted cs)) (lent-after (ps ++ (p ∷ [])) cs))
+    (λ e. rw (state-of (uncounted-15 (lent (after start ps)) p o (eqb-false (length o) 88 e)), e) (lent-after ps cs))
 
 -- a start call on 90 octets leaves a started state
 started : (m : List ℕ) → length m ≡ 90 → startCall m ≡ record { number = 0; state = lent start }
@@ -56,29 +59,25 @@ started m long = rw (eq-eqb (length m) 90 long)
 called-answered : (m : List ℕ) (cs : List Call) (p o : List ℕ) → length m ≡ 90 → length o ≡ 88 → called m cs p o ≡ moved (answered (counted cs) p) o
 unfolding after
 called-answered m cs p o long size =
-    rw (ap (λ (x : Started). x .state) (started m long), lent-after [] cs) (right (lent (after start (counted cs))) p o (length-lent (counted cs)) size)
+    rw (started m long, lent-after [] cs) (right (lent (after start (counted cs))) p o (length-lent (counted cs)) size)
 
 -- the answer can be read off the returned number
 pub answer-of : (n r : ℕ) → n ≤ 8 → (n + 256 * r) % 256 ≡ n
 answer-of n r h = omega arith
-
--- some blocks are some octets
-some : (n : ℕ) → 1 ≤ n → 22 * n ≡ 0 → ⊥
-some n h e = omega arith
 
 pub lent-history : LentHistory
 lent-history =
     record {
       exactly = λ m cs p o k long size.
           let g = answered (counted cs) p in
-          let number = ap (λ (x : IntakeLeft). x .returned % 256) (called-answered m cs p o long size) ∙ answer-of (g .number) (g .received) (number-small (after start (counted cs)) p) in (
+          let number = ap (λ n. n % 256) (returned-of (called-answered m cs p o long size)) ∙ answer-of (g .number) (g .received) (number-small (after start (counted cs)) p) in (
             λ e. complete-exactly k (counted cs) p .0 (sym number ∙ e),
             λ x. number ∙ complete-exactly k (counted cs) p .1 x,
           );
       gives = λ m cs p o k r long size l run.
           called-answered m cs p o long size
           ∙ ap (λ (g : Given). moved g o) (complete-gives k (counted cs) p r l run)
-          ∙ rw (ne-eqb (22 * length r) 0 (some (length r) (run .some)));
+          ∙ (let some = run .some in rw (ne-eqb (22 * length r) 0 (omega arith)));
       takes = λ m cs p o k u long size l un.
           called-answered m cs p o long size ∙ ap (λ (g : Given). moved g o) (taken-gives k (counted cs) p u l un);
       refuses = λ m cs p o long size none.
@@ -96,36 +95,32 @@ module _ (m : List ℕ) (short : length m ≡ 90 → ⊥) where
   unfolding startCall
   not-started = rw (ne-eqb (length m) 90 short)
 
-  call-leaves : (p o : List ℕ) (b : Bool) → eqb (length o) 88 ≡ b → intakeCall m p o .state ≡ m
-  call-leaves p o false e = ap (λ (x : IntakeLeft). x .state) (uncounted-15 m p o (eqb-false (length o) 88 e))
-  call-leaves p o true e = ap (λ (x : IntakeLeft). x .state) (uncounted-8 m p o (eqb-true (length o) 88 e) short)
+  call-leaves : (p o : List ℕ) → intakeCall m p o .state ≡ m
+  call-leaves p o =
+      true-or-false (eqb (length o) 88)
+      (λ e. state-of (uncounted-8 m p o (eqb-true (length o) 88 e) short))
+      (λ e. state-of (uncounted-15 m p o (eqb-false (length o) 88 e)))
 
   calls-leave : (cs : List Call) → afterCalls m cs ≡ m
   unfolding afterCalls
   calls-leave [] = refl
   calls-leave (off n w p o ∷ cs) = calls-leave cs
-  calls-leave (on p o ∷ cs) = rw (call-leaves p o _ refl) (calls-leave cs)
-
--- a message complete is answered by less than 8
-not-completes : (k : Kind) (n : ℕ) → 8 ≤ n → n ≡ completes k → ⊥
-not-completes page n h e = omega arith
-not-completes schedule n h e = omega arith
+  calls-leave (on p o ∷ cs) = rw (call-leaves p o) (calls-leave cs)
 
 -- a call that completes a message has lengths that count
 right-lengths : (m : List ℕ) (cs : List Call) (p o : List ℕ) (k : Kind) → called m cs p o .returned % 256 ≡ completes k → (length m ≡ 90) × (length o ≡ 88)
-right-lengths m cs p o k e = go (eqb (length o) 88) refl (eqb (length m) 90) refl
-  where
-    go : (b : Bool) → eqb (length o) 88 ≡ b → (c : Bool) → eqb (length m) 90 ≡ c → (length m ≡ 90) × (length o ≡ 88)
-    go false eo c em =
-        absurd (not-completes k 15 (lit≤ tt) (sym (ap (λ (x : IntakeLeft). x .returned % 256) (uncounted-15 (afterCalls (startCall m .state) cs) p o (eqb-false (length o) 88 eo))) ∙ e))
-    go true eo false em =
-        let short = eqb-false (length m) 90 em in
-        let state : afterCalls (startCall m .state) cs ≡ m = ap (λ (s : List ℕ). afterCalls s cs) (not-started m short) ∙ calls-leave m short cs in
-        let left : called m cs p o .returned ≡ 8 =
-        ap (λ (s : List ℕ). intakeCall s p o .returned) state
-        ∙ ap (λ (x : IntakeLeft). x .returned) (uncounted-8 m p o (eqb-true (length o) 88 eo) short) in
-        absurd (not-completes k 8 (lit≤ tt) (sym (ap (λ (n : ℕ). n % 256) left) ∙ e))
-    go true eo true em = (eqb-true (length m) 90 em, eqb-true (length o) 88 eo)
+right-lengths m cs p o k e =
+    true-or-false (eqb (length o) 88)
+    (λ eo. true-or-false (eqb (length m) 90)
+    (λ em. (eqb-true (length m) 90 em, eqb-true (length o) 88 eo))
+    (λ em.
+    let short = eqb-false (length m) 90 em in
+    let state : afterCalls (startCall m .state) cs ≡ m = rw (not-started m short) (calls-leave m short cs) in
+    let left = returned-of (uncounted-8 m p o (eqb-true (length o) 88 eo) short) in
+    absurd (not-completes k 8 (omega arith) (omega arith) (rw (state, left) at e))))
+    (λ eo.
+    let left = returned-of (uncounted-15 (afterCalls (startCall m .state) cs) p o (eqb-false (length o) 88 eo)) in
+    absurd (not-completes k 15 (omega arith) (omega arith) (rw left at e)))
 
 same-start : (m n : List ℕ) → length m ≡ 90 → length n ≡ 90 → startCall m ≡ startCall n
 same-start m n a b = started m a ∙ sym (started n b)

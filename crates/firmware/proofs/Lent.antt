@@ -1,10 +1,9 @@
 -- Laws of a state in lent memory: two octets in front, and the 88 behind them.
-use Rattle.laws.proofs.Base.{_≡_, refl, sym, ap, _∙_, Bool, true, false, cond, List, [], _∷_, _++_, ℕ, suc, _+_, _*_, _-_, _≤_, add-zero, add-one, arith, length, take, drop, set, length-drop, take-all, eqb, ne-eqb}
+use Rattle.laws.proofs.Base.{_≡_, refl, sym, ap, _∙_, Bool, true, false, cond, List, [], _∷_, _++_, ℕ, suc, _+_, _*_, _-_, _≤_, add-zero, add-one, arith, length, take, drop, set, length-drop, eqb, ne-eqb}
 use borrow.Rule.Slice.PartMut.{midOf, putMid}
-use Rattle.laws.proofs.Parts.{copy-whole, put-copy}
+use Rattle.laws.proofs.Parts.{put-copy}
 use Rattle.block.specs.Paper.{Held, Given, filled, start, proper, refusal, added, step}
-use Rattle.block.specs.Inner.{Place, placeOf}
-use Rattle.block.specs.Coded.{stateWith, outcome, Adds}
+use Rattle.block.specs.Inner.{Place, placeOf, stateWith, outcome, Adds}
 use Rattle.block.proofs.Filled.{filled-next}
 use Rattle.block.proofs.Steps.{met, step-by}
 use Rattle.firmware.specs.Paper.{IntakeLeft, lent, moved}
@@ -25,13 +24,6 @@ drop-front (x ∷ y ∷ s) c n h =
     let up-to : 2 + n ≡ suc (suc n) = omega arith in
     rw (past, up-to)
 
--- the content of a piece, copied out of it
-pub content-is : (p d y : List ℕ) → length p ≡ 23 → length d ≡ 22
-    → y ≡ take (length (midOf 1 (length p - 1) p)) (midOf 1 (length p - 1) p) ++ drop (length (midOf 1 (length p - 1) p)) d → y ≡ drop 1 p
-content-is p d y whole size q =
-    let content : midOf 1 (length p - 1) p ≡ drop 1 p = take-all (length p - 1) (drop 1 p) (simp length-drop (omega arith)) in
-    rw content at (copy-whole d (midOf 1 (length p - 1) p) y (rw content (simp length-drop (omega arith))) q)
-
 -- a content that is copied behind those of the blocks taken
 pub put-content : (s p c y : List ℕ) (t : ℕ) → length s ≡ 90 → Adds t (drop 2 s) p → c ≡ drop 1 p
     → y ≡ take (length c) c ++ drop (length c) (midOf (2 + 22 * t) (2 + 22 * t + 22 - (2 + 22 * t)) s)
@@ -41,18 +33,8 @@ put-content s p c y t long adds e q =
     let room = adds .room in
     let size : length (drop 2 s) ≡ 88 = length-drop 2 s ∙ omega arith in
     let fits : length c ≡ 2 + 22 * t + 22 - (2 + 22 * t) = rw e (simp length-drop (omega arith)) in
-    ap (λ (l : List ℕ). drop 2 l) (put-copy (2 + 22 * t) (2 + 22 * t + 22) s c y (omega arith) (omega arith) fits q)
+    ap (drop 2) (put-copy (2 + 22 * t) (2 + 22 * t + 22) s c y (omega arith) (omega arith) fits q)
     ∙ rw e (drop-front s (drop 1 p) (22 * t) (omega arith) ∙ filled-next t (drop 2 s) p room size whole (adds .rest))
-
--- the octets behind the front ones, as they are lent
-pub behind : (s : List ℕ) → midOf 2 (length s - 2) s ≡ drop 2 s
-behind s = take-all (length s - 2) (drop 2 s) (simp length-drop (omega arith))
-
--- a whole message that is copied to the output
-pub handed-over : (s o y : List ℕ) → length s ≡ 90 → length o ≡ 88
-    → y ≡ take (length (midOf 2 (length s - 2) s)) (midOf 2 (length s - 2) s) ++ drop (length (midOf 2 (length s - 2) s)) o → y ≡ drop 2 s
-handed-over s o y long size q =
-    rw (behind s) at (copy-whole o (midOf 2 (length s - 2) s) y (rw (behind s) (simp length-drop (omega arith))) q)
 
 module _ (last : Bool) (k t : ℕ) (s p o w : List ℕ) (content : w ≡ filled (take (22 * t) (drop 2 s) ++ drop 1 p)) where
   -- what a block leaves that is only taken

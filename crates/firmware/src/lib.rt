@@ -5,7 +5,7 @@ ghost use Prim.Native.Nat.{_*_};
 ghost use lib.ListN.{length, take, drop, replicate};
 ghost use Rattle.refusals.specs.Number.{numberOf};
 ghost use Rattle.block.specs.Paper.{start, added, filled, step};
-ghost use Rattle.block.specs.Coded.{stateWith, outcome, Adds};
+ghost use Rattle.block.specs.Inner.{stateWith, outcome, Adds};
 ghost use Rattle.firmware.specs.Paper.{lent, heldIn, moved, startCall, intakeCall};
 use block::Place;
 use refusals::Refusal;

@@ -1,41 +1,22 @@
 -- A refusal is known by its number.
-use Rattle.laws.proofs.Base.{_≡_, refl, sym, ap, _∙_, cond, ℕ, arith, eqb}
+use Rattle.laws.proofs.Base.{_≡_, refl, sym, ap, _∙_, cond, List, [], _∷_, ℕ, arith, eqb}
 use Rattle.refusals.specs.declared.Refusal.{Refusal}
 use Rattle.refusals.specs.declared.Refusal.the-variants.{PieceLength, Discriminator, ReservedCode, NullCode, NotNext, StateImproper, TextLength, NotInAlphabet, EndsInCr, Scheme, PageParameter, OutputLength, MessageLength, UsedOctets, ReceivedOctets, ScheduleType, BeginOrEnd, NewPastEnd, DescriptionPastReceived, RepeatOfNoFirst, PlanMark, PlanVersion, PlanLength, PlanEntry, DescriptionsTooLong, PlanEmpty, Untrue, SlotNumber, WantedCount}
 use Rattle.refusals.specs.Number.{numberOf}
 
+-- the first of some refusals that has a number
+abbrev sought : ℕ → List Refusal → Refusal
+sought n [] = WantedCount
+sought n (r ∷ rs) = cond (eqb n (numberOf r)) r (sought n rs)
+
 -- the refusal that has a number, and some refusal for any other number
 abbrev pub refusalOf : ℕ → Refusal
 refusalOf n =
-    cond (eqb n 2) PieceLength (
-    cond (eqb n 3) Discriminator (
-    cond (eqb n 4) ReservedCode (
-    cond (eqb n 5) NullCode (
-    cond (eqb n 6) NotNext (
-    cond (eqb n 8) StateImproper (
-    cond (eqb n 10) TextLength (
-    cond (eqb n 11) NotInAlphabet (
-    cond (eqb n 12) EndsInCr (
-    cond (eqb n 13) Scheme (
-    cond (eqb n 14) PageParameter (
-    cond (eqb n 15) OutputLength (
-    cond (eqb n 16) MessageLength (
-    cond (eqb n 17) UsedOctets (
-    cond (eqb n 18) ReceivedOctets (
-    cond (eqb n 20) ScheduleType (
-    cond (eqb n 21) BeginOrEnd (
-    cond (eqb n 22) NewPastEnd (
-    cond (eqb n 23) DescriptionPastReceived (
-    cond (eqb n 24) RepeatOfNoFirst (
-    cond (eqb n 30) PlanMark (
-    cond (eqb n 31) PlanVersion (
-    cond (eqb n 32) PlanLength (
-    cond (eqb n 33) PlanEntry (
-    cond (eqb n 34) DescriptionsTooLong (
-    cond (eqb n 35) PlanEmpty (
-    cond (eqb n 40) Untrue (
-    cond (eqb n 41) SlotNumber (
-    WantedCount))))))))))))))))))))))))))))
+    sought n
+    (PieceLength ∷ Discriminator ∷ ReservedCode ∷ NullCode ∷ NotNext ∷ StateImproper
+    ∷ TextLength ∷ NotInAlphabet ∷ EndsInCr ∷ Scheme ∷ PageParameter ∷ OutputLength ∷ MessageLength ∷ UsedOctets ∷ ReceivedOctets
+    ∷ ScheduleType ∷ BeginOrEnd ∷ NewPastEnd ∷ DescriptionPastReceived ∷ RepeatOfNoFirst
+    ∷ PlanMark ∷ PlanVersion ∷ PlanLength ∷ PlanEntry ∷ DescriptionsTooLong ∷ PlanEmpty ∷ Untrue ∷ SlotNumber ∷ WantedCount ∷ [])
 
 -- `refusalOf` undoes `numberOf`
 pub refusalOf-numberOf : (r : Refusal) → refusalOf (numberOf r) ≡ r

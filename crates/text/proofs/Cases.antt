@@ -1,56 +1,19 @@
--- Each case of the writer's and the reader's order, on plain facts.
+-- What a refusal leaves, and each case of the reader's order past the text's length, on plain facts.
 use Rattle.laws.proofs.Base.{_≡_, sym, ap, _∙_, true, false, List, ℕ, _<_, _≤_, arith, length, eq-eqb, ne-eqb, lt-ltb, le-ltb}
 use Rattle.sizes.specs.Paper.{wholeBlocks}
-use Rattle.page.specs.Paper.{Heading, octet, handedNumber}
+use Rattle.page.specs.Paper.{octet, handedNumber}
 use Rattle.page.proofs.Received.{Handled, length-wrong, received-wrong, all-right, handled}
-use Rattle.text.specs.Paper.{Writing, Reading, badParameter, foreign, endsInCr, usedOctets, pageOf, written, septetsReceived, trimmed, shown, reading}
+use Rattle.text.specs.Paper.{Writing, Reading, septetsReceived, trimmed, shown, reading}
 
 -- a refusal by n leaves the page p
 abbrev pub unwritten : ℕ → List ℕ → Writing
 unwritten n p = record { number = n; used = 0; page = p }
-
-module _ (h : Heading) (t p : List ℕ) where
-  pub written-15 : (length p ≡ 88 → ⊥) → written h t p ≡ unwritten 15 p
-  unfolding written
-  written-15 ne = simp (ne-eqb (length p) 88 ne)
-
-  module _ (e : length p ≡ 88) where
-    pub written-13 : 15 < h .scheme → written h t p ≡ unwritten 13 p
-    unfolding written
-    written-13 l = simp (eq-eqb (length p) 88 e, lt-ltb 15 (h .scheme) l)
-
-    module _ (s : h .scheme ≤ 15) where
-      pub written-14 : badParameter (h .parameter) ≡ true → written h t p ≡ unwritten 14 p
-      unfolding written
-      written-14 b = simp (eq-eqb (length p) 88 e, le-ltb 15 (h .scheme) s, b)
-
-      module _ (b : badParameter (h .parameter) ≡ false) where
-        pub written-10 : 93 < length t → written h t p ≡ unwritten 10 p
-        unfolding written
-        written-10 l = simp (eq-eqb (length p) 88 e, le-ltb 15 (h .scheme) s, b, lt-ltb 93 (length t) l)
-
-        module _ (l : length t ≤ 93) where
-          pub written-11 : foreign t ≡ true → written h t p ≡ unwritten 11 p
-          unfolding written
-          written-11 f = simp (eq-eqb (length p) 88 e, le-ltb 15 (h .scheme) s, b, le-ltb 93 (length t) l, f)
-
-          pub written-12 : foreign t ≡ false → endsInCr t ≡ true → written h t p ≡ unwritten 12 p
-          unfolding written
-          written-12 f c = simp (eq-eqb (length p) 88 e, le-ltb 15 (h .scheme) s, b, le-ltb 93 (length t) l, f, c)
-
-          pub written-0 : foreign t ≡ false → endsInCr t ≡ false → written h t p ≡ record { number = 0; used = usedOctets t; page = pageOf h t }
-          unfolding written
-          written-0 f c = simp (eq-eqb (length p) 88 e, le-ltb 15 (h .scheme) s, b, le-ltb 93 (length t) l, f, c)
 
 -- a refusal by n leaves the text t
 abbrev pub unread : ℕ → List ℕ → Reading
 unread n t = record { number = n; characters = 0; text = t }
 
 module _ (p : List ℕ) (n : ℕ) (t : List ℕ) where
-  pub reading-15 : (length t ≡ 93 → ⊥) → reading p n t ≡ unread 15 t
-  unfolding reading
-  reading-15 ne = simp (ne-eqb (length t) 93 ne)
-
   module _ (e : length t ≡ 93) where
     pub reading-16 : (length p ≡ 88 → ⊥) → reading p n t ≡ unread 16 t
     unfolding reading

@@ -1,8 +1,4 @@
 -- What `text` proves.
 pub mod Cases
-pub mod Determined
-pub mod Marks
 pub mod Septets
-pub mod Shown
 pub mod Trim
-pub mod Words

@@ -1,5 +1,5 @@
 -- Laws of a text's septets: how many they are, that they are septets, and how the writer's array comes to hold them.
-use Rattle.laws.proofs.Base.{_≡_, ap, _∙_, false, List, [], _∷_, _++_, map, _⊎_, inl, inr, ℕ, _-_, _≤_, arith, eqb, lit<, length, replicate, length-append, length-map, length-replicate, eqb-false}
+use Rattle.laws.proofs.Base.{_≡_, _∙_, false, List, [], _∷_, map, ⊎-elim, ℕ, _-_, _≤_, arith, eqb, lit<, length, replicate, length-append, length-map, length-replicate, eqb-false}
 use Rattle.laws.specs.Radix.{Below}
 use Rattle.laws.specs.Table.{onto}
 use Rattle.laws.proofs.Parts.{drop-replicate}
@@ -14,8 +14,7 @@ use Rattle.text.specs.Paper.{cr, septets, foreign}
 pub septets-made : (t : List ℕ) → length t ≤ 93 → onto septetOf t (replicate 93 cr) ≡ septets t
 unfolding septets
 septets-made t h =
-    onto-room septetOf t (replicate 93 cr) (rw (length-replicate 93 cr) h)
-    ∙ ap (λ (l : List ℕ). map septetOf t ++ l) (drop-replicate (length t) 93 cr)
+    onto-room septetOf t (replicate 93 cr) (rw (length-replicate 93 cr) h) ∙ rw (drop-replicate (length t) 93 cr)
 
 pub septets-count : (t : List ℕ) → length t ≤ 93 → length (septets t) ≡ 93
 unfolding septets
@@ -23,11 +22,7 @@ septets-count t h = simp (length-append, length-map, length-replicate) (omega ar
 
 -- the septet of a character that has one, by what finding it says
 pub known : (c : ℕ) → eqb (septetOf c) noSeptet ≡ false → Writes c (septetOf c)
-known c h = go (found c)
-  where
-    go : (septetOf c ≡ noSeptet) ⊎ Writes c (septetOf c) → Writes c (septetOf c)
-    go (inl e) = absurd (eqb-false (septetOf c) noSeptet h e)
-    go (inr w) = w
+known c h = ⊎-elim (λ e. absurd (eqb-false (septetOf c) noSeptet h e)) (λ w. w) (found c)
 
 found-below : (t : List ℕ) → foreign t ≡ false → Below 128 (map septetOf t)
 unfolding foreign

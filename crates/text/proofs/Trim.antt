@@ -1,6 +1,6 @@
 -- Laws of dropping the CRs at the end of some septets.
-use Rattle.laws.proofs.Base.{_≡_, refl, ap, _∙_, Bool, true, false, _&&_, and-false, List, [], _∷_, _++_, ℕ, suc, _-_, _<_, _≤_, sub-zero, suc-sub-suc, arith, eqb, length, getD, take, replicate, length-append, take-suc, take-at, ne-eqb, eqb-true}
-use Rattle.laws.proofs.Tests.{both}
+use Rattle.laws.proofs.Base.{_≡_, refl, ap, _∙_, _&&_, and-false, List, [], _∷_, _++_, ℕ, suc, _-_, _<_, _≤_, sub-zero, suc-sub-suc, arith, eqb, length, getD, take, replicate, length-append, take-suc, take-at, ne-eqb, eqb-true}
+use Rattle.laws.proofs.Tests.{true-or-false, both}
 use Rattle.text.specs.Paper.{cr, trimmed}
 
 empty : (s : List ℕ) → length s ≡ 0 → s ≡ []
@@ -23,8 +23,8 @@ trim-other (y ∷ s) x ne =
 
 pub take-last : (s : List ℕ) (n : ℕ) → 0 < n → n ≤ length s → take n s ≡ take (n - 1) s ++ (getD s (n - 1) 0 ∷ [])
 take-last s n p h =
-    let e : n ≡ suc (n - 1) = omega arith in
-    ap (λ (k : ℕ). take k s) e ∙ take-suc s (n - 1) 0 (omega arith)
+    let e : suc (n - 1) ≡ n = omega arith in
+    rw e at (take-suc s (n - 1) 0 (omega arith))
 
 -- the last of the first n septets decides
 module _ (s : List ℕ) (n : ℕ) (p : 0 < n) (h : n ≤ length s) where
@@ -38,16 +38,14 @@ module _ (s : List ℕ) (n : ℕ) (p : 0 < n) (h : n ≤ length s) where
 pub trim-rest : (s : List ℕ) → s ≡ trimmed s ++ replicate (length s - length (trimmed s)) cr
 unfolding trimmed
 trim-rest [] = refl
-trim-rest (x ∷ s) = go (eqb x cr && eqb (length (trimmed s)) 0) refl (trim-rest s)
-  where
-    go : (b : Bool) → (eqb x cr && eqb (length (trimmed s)) 0) ≡ b → s ≡ trimmed s ++ replicate (length s - length (trimmed s)) cr
-        → x ∷ s ≡ trimmed (x ∷ s) ++ replicate (length (x ∷ s) - length (trimmed (x ∷ s))) cr
-    go true e r =
-        let w = both (eqb x cr) (eqb (length (trimmed s)) 0) e in
-        let n : trimmed s ≡ [] = empty (trimmed s) (eqb-true _ 0 (w .1)) in
-        let q : s ≡ replicate (length s) cr = simp (n, sub-zero) at r in
-        rw (e, eqb-true x cr (w .0)) (simp sub-zero (ap (λ (l : List ℕ). cr ∷ l) q))
-    go false e r = rw e (ap (λ (l : List ℕ). x ∷ l) (rw suc-sub-suc r))
+trim-rest (x ∷ s) =
+    true-or-false (eqb x cr && eqb (length (trimmed s)) 0)
+    (λ e.
+    let w = both (eqb x cr) (eqb (length (trimmed s)) 0) e in
+    let n : trimmed s ≡ [] = empty (trimmed s) (eqb-true _ 0 (w .1)) in
+    let q : s ≡ replicate (length s) cr = simp (n, sub-zero) at (trim-rest s) in
+    rw (e, eqb-true x cr (w .0)) (simp sub-zero (ap (_∷_ cr) q)))
+    (λ e. rw e (ap (_∷_ x) (rw suc-sub-suc (trim-rest s))))
 
 pub trim-length : (s : List ℕ) → length (trimmed s) ≤ length s
 trim-length s = omega (arith, simp length-append at (ap length (trim-rest s)))
@@ -55,5 +53,5 @@ trim-length s = omega (arith, simp length-append at (ap length (trim-rest s)))
 -- what is left is the beginning
 pub trim-front : (s : List ℕ) → take (length (trimmed s)) s ≡ trimmed s
 trim-front s =
-    ap (λ (l : List ℕ). take (length (trimmed s)) l) (trim-rest s)
+    ap (take (length (trimmed s))) (trim-rest s)
     ∙ take-at (trimmed s) (replicate (length s - length (trimmed s)) cr) (length (trimmed s)) refl

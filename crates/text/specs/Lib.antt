@@ -1,4 +1,2 @@
 -- What `text` defines.
-pub mod Coded
-pub mod Inner
 pub mod Paper

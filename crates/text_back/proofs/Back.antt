@@ -1,8 +1,7 @@
 -- What the writer writes is read back, the same characters, received whole or up to the last used block.
-use Rattle.laws.proofs.Base.{_≡_, refl, sym, ap, _∙_, true, false, _||_, or-assoc, List, [], _∷_, _++_, map, map-append, append-assoc, append-nil, ℕ, zero, suc, _+_, _*_, _-_, _/_, _^_, _<_, _≤_, min, zero-lt-suc, le-refl, add-sub-of-le, arith, eqb, lit<, length, getD, take, drop, replicate, length-append, length-map, take-length, take-at, take-take, drop-at, take-append-add, getD-take, eqb-false}
+use Rattle.laws.proofs.Base.{_≡_, refl, sym, ap, _∙_, false, _||_, or-assoc, List, [], _∷_, _++_, map, map-append, append-assoc, append-nil, ℕ, zero, suc, _+_, _*_, _-_, _/_, _^_, _<_, _≤_, min, zero-lt-suc, le-refl, add-sub-of-le, arith, eqb, lit<, length, getD, take, drop, replicate, length-append, length-map, take-length, take-at, take-take, drop-at, take-append-add, getD-take, eqb-false}
 use lib.Pow.{pow-add}
 use Rattle.laws.specs.Radix.{value, Below}
-use Rattle.sizes.specs.Paper.{wholeBlocks}
 use Rattle.laws.proofs.Parts.{drop-take, take-replicate}
 use Rattle.laws.proofs.Radix.{length-digits, take-digits, digits-front, digits-kept, power-bits}
 use Rattle.sizes.proofs.Received.{whole-times, whole-bounds}
@@ -11,17 +10,17 @@ use Rattle.alphabet.specs.Paper.{codePoint, septetOf, noSeptet}
 use Rattle.alphabet.proofs.Laws.{Writes, reads-cr}
 use Rattle.page.specs.Paper.{Heading, header, headerOctets, octet}
 use Rattle.page.proofs.HeaderBack.{header-back, header-length}
-use Rattle.text.specs.Paper.{Writing, cr, septets, packed, pageOf, usedOctets, foreign, endsInCr, written, wholeOf, septetsReceived, trimmed, shown, reading}
+use Rattle.text.specs.Paper.{cr, septets, packed, pageOf, usedOctets, foreign, endsInCr, written, wholeOf, septetsReceived, trimmed, shown}
 use Rattle.text.proofs.Cases.{reading-0}
 use Rattle.text.proofs.Septets.{known, septets-count, septets-below}
 use Rattle.text.proofs.Trim.{trim-cr, trim-other, take-last}
+use Rattle.text_back.specs.Claims.{givenBack, TextBack, TextBackWhole, TextBackBlocks, HeadingBack}
 use Rattle.text_back.proofs.Accepted.{writer-accepts}
 
 -- 128 ^ k divides 256 ^ m where k septets are no more bits than m octets
 bits-kept : (k m : ℕ) → 7 * k ≤ 8 * m → 128 ^ k * 2 ^ (8 * m - 7 * k) ≡ 256 ^ m
 bits-kept k m h =
-    rw (power-bits 7 k, power-bits 8 m)
-    (sym (pow-add 2 (7 * k) (8 * m - 7 * k)) ∙ ap (λ (e : ℕ). 2 ^ e) (add-sub-of-le h))
+    rw (power-bits 7 k, power-bits 8 m, ← pow-add 2 (7 * k) (8 * m - 7 * k), add-sub-of-le h)
 
 -- the whole septets of the first m packed octets are the first septets
 front-back : (s : List ℕ) (m : ℕ) → length s ≡ 93 → m ≤ 82 → Below 128 s → wholeOf (take m (packed s)) ≡ take (8 * m / 7) s
@@ -81,41 +80,34 @@ trim-front-back t k h f ends =
     let m : List ℕ = map septetOf t in
     let pad : List ℕ = replicate (93 - length t) cr in
     let e : length m + (k - length m) ≡ k = add-sub-of-le (rw (length-map t septetOf) h) in
-    let cut : take k (m ++ pad) ≡ m ++ replicate (min (k - length m) (93 - length t)) cr =
-    ap (λ (n : ℕ). take n (m ++ pad)) (sym e)
-    ∙ take-append-add m pad (k - length m)
-    ∙ ap (λ (l : List ℕ). m ++ l) (take-replicate (k - length m) (93 - length t) cr) in
+    let cut = rw (e, take-replicate (k - length m) (93 - length t) cr) at (take-append-add m pad (k - length m)) in
     ap trimmed cut ∙ trim-padding (min (k - length m) (93 - length t)) m ∙ trim-found t f ends
 
 -- the content of what agrees with a written page on its first n octets
 content-back : (h : Heading) (t q : List ℕ) (n : ℕ) → take n q ≡ take n (pageOf h t) → take (n - 6) (drop 6 q) ≡ take (n - 6) (packed (septets t))
 unfolding pageOf
 content-back h t q n e =
-    sym (drop-take 6 n q) ∙ ap (λ (l : List ℕ). drop 6 l) e ∙ drop-take 6 n (pageOf h t)
-    ∙ ap (λ (l : List ℕ). take (n - 6) l) (drop-at (headerOctets h) (packed (septets t)) 6 (header-length h))
+    sym (drop-take 6 n q)
+    ∙ rw (e, drop-take 6 n (pageOf h t), drop-at (headerOctets h) (packed (septets t)) 6 (header-length h))
 
 -- what was written is a page
 pub written-length : (h : Heading) (t p : List ℕ) → written h t p .number ≡ 0 → length (written h t p .page) ≡ 88
 unfolding pageOf packed
 written-length h t p z =
-    ap (λ (x : Writing). length (x .page)) (writer-accepts h t p z .result)
-    ∙ length-append (headerOctets h) (packed (septets t))
-    ∙ rw (header-length h, length-digits 256 82 (value 128 (septets t)))
+    rw (writer-accepts h t p z .result)
+    (length-append (headerOctets h) (packed (septets t)) ∙ rw (header-length h, length-digits 256 82 (value 128 (septets t))))
 
 -- what agrees with a written page on its header octets has the header that was written
 heading-agrees : (h : Heading) (t q : List ℕ) (n : ℕ) → 6 ≤ n → take n q ≡ take n (pageOf h t) → header (take 6 q) ≡ h
 unfolding pageOf
 heading-agrees h t q n l e =
-    let front : take 6 q ≡ headerOctets h =
-    sym (take-take 6 n q l) ∙ ap (λ (x : List ℕ). take 6 x) e ∙ take-take 6 n (pageOf h t) l
-    ∙ take-at (headerOctets h) (packed (septets t)) 6 (header-length h) in
-    ap header front ∙ header-back h
+    rw (← take-take 6 n q l, e, take-take 6 n (pageOf h t) l, take-at (headerOctets h) (packed (septets t)) 6 (header-length h)) (header-back h)
 
 scheme-back : (h : Heading) (t q : List ℕ) (n : ℕ) → 6 ≤ n → take n q ≡ take n (pageOf h t) → octet q 5 ≡ h .scheme
 unfolding header
 scheme-back h t q n l e = sym (getD-take 6 q 4 0 (lit< tt)) ∙ ap (λ (x : Heading). x .scheme) (heading-agrees h t q n l e)
 
-shown-back : (t : List ℕ) → foreign t ≡ false → shown (map septetOf t) ≡ record { number = 0; characters = length t; text = t ++ replicate (93 - length t) 0 }
+shown-back : (t : List ℕ) → foreign t ≡ false → shown (map septetOf t) ≡ givenBack t
 unfolding shown
 shown-back t f = rw (length-map t septetOf, reads-back t f)
 
@@ -123,18 +115,14 @@ shown-back t f = rw (length-map t septetOf, reads-back t f)
 pub used-bounds : (h : Heading) (t p : List ℕ) → written h t p .number ≡ 0 → (6 ≤ written h t p .used) × (written h t p .used ≤ 88)
 used-bounds h t p z =
     let a = writer-accepts h t p z in
-    let e : written h t p .used ≡ usedOctets t = ap (λ (x : Writing). x .used) (a .result) in
+    let e : written h t p .used ≡ usedOctets t = rw (a .result) in
     omega (arith, e, a .short)
 
--- any page that agrees with the written one on the octets received, all used ones among them, is read back as the text
-pub text-back : (h : Heading) (t p : List ℕ) → written h t p .number ≡ 0
-    → (q u : List ℕ) (n : ℕ) → wholeBlocks n ≡ true → usedOctets t ≤ n → length q ≡ 88 → length u ≡ 93
-    → take n q ≡ take n (written h t p .page)
-    → reading q n u ≡ record { number = 0; characters = length t; text = t ++ replicate (93 - length t) 0 }
+pub text-back : TextBack
 text-back h t p z q u n w used lq lu agree =
     let a = writer-accepts h t p z in
     let b = whole-bounds n w in
-    let e : take n q ≡ take n (pageOf h t) = agree ∙ ap (λ (x : Writing). take n (x .page)) (a .result) in
+    let e : take n q ≡ take n (pageOf h t) = agree ∙ rw (a .result) in
     let s : octet q 5 ≤ 15 = rw (scheme-back h t q n (omega arith) e) (a .scheme) in
     let got : septetsReceived q n ≡ take (8 * (n - 6) / 7) (septets t) =
     ap wholeOf (content-back h t q n e)
@@ -144,29 +132,19 @@ text-back h t p z q u n w used lq lu agree =
     ∙ ap shown (trim-front-back t (8 * (n - 6) / 7) (omega arith) (a .known) (a .open-ended))
     ∙ shown-back t (a .known)
 
--- the header of any page that agrees with the written one on the octets received is the one that was written
-pub heading-back : (h : Heading) (t p q : List ℕ) (n : ℕ) → written h t p .number ≡ 0 → 6 ≤ n → take n q ≡ take n (written h t p .page) → header (take 6 q) ≡ h
+pub heading-back : HeadingBack
 heading-back h t p q n z l agree =
-    heading-agrees h t q n l (agree ∙ ap (λ (x : Writing). take n (x .page)) (writer-accepts h t p z .result))
+    heading-agrees h t q n l (rw (writer-accepts h t p z .result) at agree)
 
--- the written page itself, received whole
-pub text-back-whole : (h : Heading) (t p u : List ℕ) → written h t p .number ≡ 0 → length u ≡ 93
-    → reading (written h t p .page) 88 u ≡ record { number = 0; characters = length t; text = t ++ replicate (93 - length t) 0 }
+pub text-back-whole : TextBackWhole
 text-back-whole h t p u z lu =
     let a = writer-accepts h t p z in
     text-back h t p z (written h t p .page) u 88 (whole-times 4 (omega arith) (omega arith)) (omega (arith, a .short)) (written-length h t p z) lu refl
 
--- the octets of the blocks up to the last used one
-abbrev pub usedBlocks : ℕ → ℕ
-usedBlocks used = 22 * ((used + 21) / 22)
-
--- what agrees with the written page on the blocks up to the last used one, received so far
-pub text-back-blocks : (h : Heading) (t p q u : List ℕ) → written h t p .number ≡ 0 → length q ≡ 88 → length u ≡ 93
-    → take (usedBlocks (written h t p .used)) q ≡ take (usedBlocks (written h t p .used)) (written h t p .page)
-    → reading q (usedBlocks (written h t p .used)) u ≡ record { number = 0; characters = length t; text = t ++ replicate (93 - length t) 0 }
+pub text-back-blocks : TextBackBlocks
 text-back-blocks h t p q u z lq lu agree =
     let a = writer-accepts h t p z in
-    let e : written h t p .used ≡ usedOctets t = ap (λ (x : Writing). x .used) (a .result) in
+    let e : written h t p .used ≡ usedOctets t = rw (a .result) in
     let j : ℕ = (written h t p .used + 21) / 22 in
     text-back h t p z q u (22 * j) (whole-times j (omega (arith, a .short)) (omega (arith, a .short)))
     (omega (arith, e)) lq lu agree

@@ -1,5 +1,5 @@
 -- `block::is_proper` meets its contract: the tests that led to each answer decide the parts of `proper`.
-use Rattle.laws.proofs.Base.{_≤_, and-false, needs, eq-eqb, ne-eqb, le-leb, lt-leb, arith}
+use Rattle.laws.proofs.Base.{_≤_, _<_, and-false, needs, eq-eqb, ne-eqb, le-leb, lt-leb, arith}
 use Rattle.block.specs.Paper.{proper}
 use Rattle.block.proofs.is_proper.Statement.{statement}
 use Rattle.block.proofs.is_proper.Tie as tie
@@ -33,24 +33,27 @@ returns-5 c =
 returns-6 : tie.Need-returns-6
 unfolding proper
 returns-6 c =
+    let many : 3 < c .before .before .before .before .before .before .args .taken = omega arith in
     simp (
       eq-eqb _ _ (c .before .before .before .before .if1 .left),
       ne-eqb _ _ (c .before .before .before .if2 .left),
       le-leb _ _ (c .before .before .if4 .left),
-      lt-leb _ _ (c .if6 .taken),
+      lt-leb _ _ many,
       and-false,
     )
 
 returns-7 : tie.Need-returns-7
 unfolding proper
 returns-7 c =
-    let some : 1 ≤ c .before .before .before .before .before .before .before .args .taken = omega arith in
+    let taken = c .before .before .before .before .before .before .before .args .taken in
+    let some : 1 ≤ taken = omega arith in
+    let few : taken ≤ 3 = omega arith in
     simp (
       eq-eqb _ _ (c .before .before .before .before .before .if1 .left),
       ne-eqb _ _ (c .before .before .before .before .if2 .left),
       le-leb _ _ (c .before .before .before .if4 .left),
       le-leb _ _ some,
-      le-leb _ _ (c .before .if6 .left),
+      le-leb _ _ few,
     )
     (c .is-blank2 .ensures)
 

@@ -6,8 +6,8 @@ use Rattle.sizes.proofs.Received.{whole-bounds}
 use Rattle.page.specs.Paper.{Part}
 use Rattle.page.specs.Coded.{partOf}
 use Rattle.page.proofs.Received.{handed-content}
-use Rattle.text.specs.Coded.{readingOf}
-use Rattle.text.specs.declared.Got.{Got}
+use Rattle.text_reader.specs.Coded.{readingOf}
+use Rattle.text_reader.specs.declared.Got.{Got}
 use Rattle.lines.proofs.Behind.{puts-wider}
 use Rattle.cbtext.specs.Paper.{hexPart, body}
 use Rattle.cbtext.proofs.Body.{Reads, reads-text, reads-none}

@@ -1,6 +1,6 @@
 -- `firmware::hand_out` meets its contract.
 use Rattle.laws.proofs.Base.{needs}
-use Rattle.firmware.proofs.Lent.{handed-over}
+use Rattle.block.proofs.Filled.{copied-rest}
 use Rattle.firmware.proofs.hand_out.Statement.{statement}
 use Rattle.firmware.proofs.hand_out.Tie as tie
 
@@ -9,7 +9,7 @@ returns c =
     let copied = c .before .before .before .before .before .before in
     let s = copied .before .before .before .before .before .before in (
       c .before .before .clear .ensures,
-      handed-over (s .args .state .now) (s .args .output .now) (copied .copy .last .1 .0) (s .pre .0) (s .pre .1) (copied .copy .ensures .1),
+      copied-rest 2 88 (s .args .state .now) (s .args .output .now) (copied .copy .last .1 .0) (s .pre .0) (s .pre .1) (copied .copy .ensures .1),
     )
 
 pub hand-out-spec : {M : Type 1} → statement M

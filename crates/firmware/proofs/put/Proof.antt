@@ -1,6 +1,7 @@
 -- `firmware::put` meets its contract.
 use Rattle.laws.proofs.Base.{refl, needs}
-use Rattle.firmware.proofs.Lent.{content-is, put-content}
+use Rattle.block.proofs.Filled.{copied-rest}
+use Rattle.firmware.proofs.Lent.{put-content}
 use Rattle.firmware.proofs.put.Statement.{statement}
 use Rattle.firmware.proofs.put.Tie as tie
 
@@ -9,7 +10,7 @@ returns c =
     let b = c .before .before .before .before .before .before in
     let s = b .before .before .before .before .before in
     let a = s .args in
-    let content = content-is (a .piece .now) _ (b .copy .last .1 .0) (s .pre .1 .whole) refl (b .copy .ensures .1) in
+    let content = copied-rest 1 22 (a .piece .now) _ (b .copy .last .1 .0) (s .pre .1 .whole) refl (b .copy .ensures .1) in
     put-content (a .state .now) (a .piece .now) (b .copy .last .1 .0) (c .before .before .copy2 .last .1 .0) (a .taken) (s .pre .0) (s .pre .1) content
     (c .before .before .copy2 .ensures .1)
 

@@ -1,0 +1,3 @@
+-- What `block_intake` proves.
+pub mod Answers
+pub mod Determined

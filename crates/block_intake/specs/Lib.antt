@@ -1,0 +1,2 @@
+-- What `block_intake` defines.
+pub mod Coded

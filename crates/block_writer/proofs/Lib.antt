@@ -1,0 +1,3 @@
+-- What `block_writer` proves.
+pub mod Determined
+pub mod Write

@@ -1,0 +1,3 @@
+-- What `block_writer` defines.
+pub mod Coded
+pub mod Paper

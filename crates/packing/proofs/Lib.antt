@@ -1,0 +1,3 @@
+-- What `packing` proves.
+pub mod Determined
+pub mod Words

@@ -1,0 +1,2 @@
+-- What `packing` defines.
+pub mod Inner

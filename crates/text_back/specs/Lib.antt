@@ -1,0 +1,2 @@
+-- What `text_back` states.
+pub mod Claims

@@ -1,0 +1,3 @@
+-- What `text_reader` proves.
+pub mod Determined
+pub mod Shown

@@ -1,0 +1,2 @@
+-- What `text_reader` defines.
+pub mod Coded

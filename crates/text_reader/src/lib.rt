@@ -1,0 +1,70 @@
+// Text of the default alphabet read out of a page.
+ghost use mathlib.Core.Path.{_≡_};
+ghost use Prim.Native.Nat.{_≤_};
+ghost use lib.ListN.{length, replicate};
+ghost use Rattle.text.specs.Paper.{trimmed, wholeOf, shown, reading};
+ghost use Rattle.text_reader.specs.Coded.{readingOf};
+use page::Handing;
+use refusals::Refusal;
+use text::CHARACTERS;
+
+// The number of characters that were read.
+pub enum Got {
+    Characters(usize),
+    Refused(Refusal),
+}
+
+// How many septets are left when the CRs at the end are dropped.
+fn without_crs(septets: &[u8]) -> usize
+    ensures { λ r. ⌜ r ≡ length (trimmed (now (septets .entry))) ⌝ }
+{
+    let mut n = septets.len();
+    while n > 0 {
+        if septets[n - 1] != 0x0D {
+            return n;
+        }
+        n -= 1;
+    }
+    0
+}
+
+fn blank(text: &mut [u16])
+    ensures { λ r. ⌜ now (text .exit) ≡ replicate (length (now (text .entry))) 0 ⌝ }
+{
+    let mut i = 0;
+    while i < text.len() {
+        text[i] = 0;
+        i += 1;
+    }
+}
+
+// Writes the text of some content received, 0 after it, and answers its length.
+fn show(content: &[u8], text: &mut [u16]) -> usize
+    requires { ⌜ (length (now content) ≤ 82) × (length (now text) ≡ 93) ⌝ }
+    ensures { λ r. ⌜ readingOf (Got.Characters r) (now (text .exit)) ≡ shown (trimmed (wholeOf (now (content .entry)))) ⌝ }
+{
+    let whole = content.len() + content.len() / 7;
+    let mut septets = [0u8; CHARACTERS];
+    packing::unpack(content, &mut septets[..whole]);
+    let n = without_crs(&septets[..whole]);
+    alphabet::code_points(&septets[..n], text);
+    blank(&mut text[n..]);
+    n
+}
+
+// Reads the text of what was received of a page, or refuses it and leaves the text as it is.
+pub fn read_text(page: &[u8], received: usize, text: &mut [u16]) -> Got
+    ensures { λ r. ⌜ readingOf r (now (text .exit)) ≡ reading (now (page .entry)) received (now (text .entry)) ⌝ }
+{
+    if text.len() != CHARACTERS {
+        return Got::Refused(Refusal::OutputLength);
+    }
+    let answer = page::content_answer(page, received);
+    if let Handing::Refused(refusal) = answer {
+        return Got::Refused(refusal);
+    }
+    if page[4] > 0x0F {
+        return Got::Refused(Refusal::Scheme);
+    }
+    Got::Characters(show(page::content(page, received), text))
+}

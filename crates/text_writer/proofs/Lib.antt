@@ -1,0 +1,3 @@
+-- What `text_writer` proves.
+pub mod Determined
+pub mod Marks

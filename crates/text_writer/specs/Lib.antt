@@ -1,0 +1,3 @@
+-- What `text_writer` defines.
+pub mod Coded
+pub mod Inner
