@@ -2,7 +2,8 @@
 use Rattle.laws.proofs.Base.{_≡_, refl, subst, Bool, true, false, cond, or-true, List, ⊎-elim, ℕ, zero, suc, _≤_, _<_, eq-or-lt-of-le, le-of-suc-le-suc, not-suc-le-zero, arith, eqb, eqb-true, eq-eqb}
 use Rattle.laws.specs.Search.{some}
 use Rattle.page.specs.Paper.{Name, samePage}
-use Rattle.plan.specs.Paper.{Plan, entryAt, pageAt}
+use Rattle.plan.specs.Paper.{Plan, entryAt}
+use Rattle.plan_slots.specs.Paper.{pageAt}
 use Rattle.board.specs.Paper.{Wanted, decide}
 use Rattle.board_obeyed.specs.Claims.{obeyed, Board, Holds, Has, entering, passing, after}
 use Rattle.board.proofs.Sets.{held-kept}

@@ -5,8 +5,9 @@ use Rattle.laws.proofs.Search.{some-implies}
 use Rattle.schedule.specs.Paper.{Told, first, again, optional, advised, tells}
 use Rattle.page.specs.Paper.{Name, samePage}
 use Rattle.page.proofs.Sameness.{Same, same-reflexive, same-symmetric, same-transitive}
-use Rattle.plan.specs.Paper.{Plan, entryAt, pageAt, lowestAt}
-use Rattle.plan.proofs.Lowest.{leading}
+use Rattle.plan.specs.Paper.{Plan, entryAt}
+use Rattle.plan_slots.specs.Paper.{pageAt, lowestAt}
+use Rattle.plan_slots.proofs.Lowest.{leading}
 use Rattle.checker_truth.specs.Claims.{Truthful}
 use Rattle.board.specs.Paper.{Wanted, Decided, isHeld, firstMatches, readsFor, decide, enteredUnder, entryFor}
 use Rattle.board.proofs.Matching.{low15-wanted}

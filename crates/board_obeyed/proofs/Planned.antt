@@ -1,8 +1,9 @@
 -- What a truthful message tells of a slot, seen from what it tells: which slots of the plan can be told so.
 use Rattle.laws.proofs.Base.{_≡_, _∙_, List, _⊎_, ⊎-elim, ℕ, suc, _-_, _≤_, _<_, eq-or-lt-of-le, le-of-suc-le-suc, arith}
 use Rattle.schedule.specs.Paper.{first, again, optional, advised, tells, shown}
-use Rattle.plan.specs.Paper.{Plan, entryAt, lowestAt, low15At}
-use Rattle.plan.proofs.Lowest.{leading}
+use Rattle.plan.specs.Paper.{Plan, entryAt}
+use Rattle.plan_slots.specs.Paper.{lowestAt, low15At}
+use Rattle.plan_slots.proofs.Lowest.{leading}
 use Rattle.checker_truth.specs.Claims.{TrueAt, Truthful}
 use Rattle.plan.proofs.GoodPlan.{kind-few}
 use Rattle.board_obeyed.specs.Claims.{LowestSlot}

@@ -1,8 +1,9 @@
 -- A board that got a page in a slot told as first or repeat reads no later repeat of it.
 use Rattle.laws.proofs.Base.{_≡_, sym, ap, _∙_, true, false, false≢true, and-false, List, inl, inr, ⊎-elim, ℕ, suc, _-_, _≤_, _<_, arith}
 use Rattle.schedule.specs.Paper.{tells}
-use Rattle.plan.specs.Paper.{Plan, entryAt, lowestAt}
-use Rattle.plan.proofs.Lowest.{leading}
+use Rattle.plan.specs.Paper.{Plan, entryAt}
+use Rattle.plan_slots.specs.Paper.{lowestAt}
+use Rattle.plan_slots.proofs.Lowest.{leading}
 use Rattle.checker_truth.specs.Claims.{Truthful}
 use Rattle.board.specs.Paper.{Wanted, isHeld, enter, firstMatches, readsFor, enteredUnder, entryFor}
 use Rattle.board.proofs.Sets.{Slot, held-entered}

@@ -3,8 +3,9 @@ use Rattle.laws.proofs.Base.{_≡_, sym, ap, _∙_, true, not, false≢true, Li
 use Rattle.laws.proofs.Tests.{both}
 use Rattle.schedule.specs.Paper.{first, again, optional, isFirst, tells, end, read}
 use Rattle.schedule.proofs.Repeats.{false-other}
-use Rattle.plan.specs.Paper.{Plan, entryAt, lowestAt, low15At}
-use Rattle.plan.proofs.Lowest.{leading}
+use Rattle.plan.specs.Paper.{Plan, entryAt}
+use Rattle.plan_slots.specs.Paper.{lowestAt, low15At}
+use Rattle.plan_slots.proofs.Lowest.{leading}
 use Rattle.checker_truth.specs.Claims.{Truthful}
 use Rattle.board.specs.Paper.{Wanted, isWanted, isHeld, firstMatches, readsFor, tellsOf, decide, enteredUnder, entryFor}
 use Rattle.board_obeyed.specs.Claims.{obeyed, Wakes, Why, marked, led, repeated, WakesOnly}

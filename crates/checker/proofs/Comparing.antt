@@ -11,10 +11,10 @@ use Rattle.schedule.specs.declared.Placed.{Placed}
 use Rattle.schedule.specs.Paper.{new, Told, shown, read, placed, Placed as Places, Read as Reads}
 use Rattle.schedule.specs.Coded.{readOf, placedOf}
 use Rattle.schedule.proofs.Givens.{Good, read-placed, given-good, told-at}
-use Rattle.plan.specs.declared.Planned.{Planned as PlannedCode}
-use Rattle.plan.specs.Paper.{Planned}
-use Rattle.plan.specs.Coded.{plannedOf}
-use Rattle.plan.specs.Inner.{nothing}
+use Rattle.plan_slots.specs.declared.Planned.{Planned as PlannedCode}
+use Rattle.plan_slots.specs.Paper.{Planned}
+use Rattle.plan_slots.specs.Coded.{plannedOf}
+use Rattle.plan_slots.specs.Inner.{nothing}
 use Rattle.checker.specs.Paper.{trueBy, unchecked, untrueAt}
 use Rattle.checker.specs.Inner.{untrueTo, compared}
 use Rattle.checker.specs.Coded.{untrueBy}

@@ -4,7 +4,8 @@ use Rattle.refusals.specs.Number.{numberOf}
 use Rattle.refusals.proofs.Inverse.{refusalOf, refusalOf-numberOf, numberOf-positive}
 use Rattle.plan.specs.declared.Plan.{Plan as PlanCode}
 use Rattle.plan.specs.Coded.{planOf}
-use Rattle.plan.proofs.Determined.{verdict-injective, said-injective}
+use Rattle.plan.proofs.Determined.{verdict-injective}
+use Rattle.plan_slots.proofs.Determined.{said-injective}
 use Rattle.checker.specs.declared.Checking.{Checking}
 use Rattle.checker.specs.declared.Checking.the-variants.{True, Refused}
 use Rattle.checker.specs.Paper.{Checked, check}

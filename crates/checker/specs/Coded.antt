@@ -6,9 +6,10 @@ use lib.ListN.{getD}
 use Rattle.refusals.specs.Number.{numberOf}
 use Rattle.schedule.specs.Paper.{new}
 use Rattle.schedule.specs.Inner.{toldBy}
-use Rattle.plan.specs.declared.Planned.{Planned}
-use Rattle.plan.specs.Coded.{verdictOf, plannedOf}
-use Rattle.plan.specs.Inner.{nothing}
+use Rattle.plan_slots.specs.declared.Planned.{Planned}
+use Rattle.plan.specs.Coded.{verdictOf}
+use Rattle.plan_slots.specs.Coded.{plannedOf}
+use Rattle.plan_slots.specs.Inner.{nothing}
 use Rattle.checker.specs.declared.Checking.{Checking}
 use Rattle.checker.specs.declared.Checking.the-variants.{True, Refused}
 use Rattle.checker.specs.declared.Plans.{Plans as PlansCode}

@@ -7,7 +7,9 @@ use lib.ListN.{getD, replicate}
 use Rattle.laws.specs.Ruled.{ruled, unless0}
 use Rattle.laws.specs.Upto.{lowest}
 use Rattle.schedule.specs.Paper.{shown, end, read}
-use Rattle.plan.specs.Paper.{Plan, Planned, planNumber, nonePlanned, allPlanned}
+use Rattle.plan.specs.Paper.{Plan, planNumber}
+use Rattle.plan_slots.specs.Inner.{nonePlanned, allPlanned}
+use Rattle.plan_slots.specs.Paper.{Planned}
 use Rattle.checker.specs.Paper.{trueBy, Checked, unchecked, untrueAt}
 
 -- 01 Order: the number that the plans are refused by or 0, the current plan's count, and what both say of each slot

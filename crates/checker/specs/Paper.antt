@@ -6,7 +6,8 @@ use lib.Dec.{eqb}
 use Rattle.laws.specs.Ruled.{ruled, unless0}
 use Rattle.laws.specs.Upto.{lowest}
 use Rattle.schedule.specs.Paper.{Told, first, again, optional, advised, Shown, shown, end, read}
-use Rattle.plan.specs.Paper.{Plan, planNumber, Planned, plannedAt}
+use Rattle.plan.specs.Paper.{Plan, planNumber}
+use Rattle.plan_slots.specs.Paper.{Planned, plannedAt}
 
 -- 01 Truthful: the lowest slot with a page
 abbrev pub leads : Planned → ℕ → Bool

@@ -5,13 +5,14 @@ ghost use mathlib.Core.List.{map};
 ghost use Rattle.refusals.specs.Number.{numberOf};
 ghost use Rattle.laws.specs.Upto.{lowest as lowestOf};
 ghost use Rattle.schedule.specs.Coded.{toldOf, shownOf};
-ghost use Rattle.plan.specs.Coded.{planOf, plannedOf};
+ghost use Rattle.plan.specs.Coded.{planOf};
+ghost use Rattle.plan_slots.specs.Coded.{plannedOf};
 ghost use Rattle.checker.specs.Paper.{leads, repeats, mayTell, newFor, trueBy, check};
 ghost use Rattle.checker.specs.Inner.{beside as besideThem, unsaid, compared, checkBeside};
 ghost use Rattle.checker.specs.Coded.{untrueBy, checkedOf, plansOf};
 use plan::Plan;
-use plan::Planned;
 use plan::Verdict;
+use plan_slots::Planned;
 use refusals::Refusal;
 use schedule::Description;
 use schedule::Reading;
@@ -182,7 +183,7 @@ pub fn beside(current: Plan, previous: Plan) -> Plans
     if current.count == 0 {
         return unsaid(Refusal::PlanEmpty);
     }
-    let said = plan::all_planned(current, previous);
+    let said = plan_slots::all_planned(current, previous);
     Plans {
         verdict: Verdict::Good,
         count: current.count,

@@ -10,10 +10,12 @@ use Rattle.page.specs.Paper.{Heading}
 use Rattle.text.specs.Paper as text
 use Rattle.text_back.proofs.Back.{written-length, used-bounds as text-used, text-back-blocks, heading-back}
 use Rattle.sender.specs.Paper.{usedPart, padded, planned, Writing, write}
+use Rattle.sender.proofs.Cases.{accepts}
+use Rattle.sender.proofs.Message.{used-length}
 use Rattle.checker.specs.Paper.{check}
 use Rattle.delivery.specs.Claims.{blockOf, takenAt, StartedProper, Carried, textHanded, OverTheAir, HeaderOverTheAir, OursDelivered}
-use Rattle.delivery.proofs.ReadsBack.{reads-back, used-length}
-use Rattle.delivery.proofs.Accepted.{written as ours-written, used-bounds, ours-accepted}
+use Rattle.delivery.proofs.ReadsBack.{reads-back}
+use Rattle.delivery.proofs.Accepted.{fits, used-bounds, ours-accepted}
 
 pub started-proper : StartedProper
 started-proper ps = standing-proper (standing ps)
@@ -120,13 +122,13 @@ filled-padded x n l h =
 pub ours-delivered : OursDelivered
 ours-delivered c p b m o h z room good =
     let w = write c p b m in
-    let v = ours-written c p b m z in
+    let v = accepts c p b m z in
     let bounds = used-bounds c p b m z in
     let k = 22 * lastUsed (w .used) in
     let x = usedPart b (planned c p) (c .count) in
-    let output : w .output ≡ padded x = ap (λ (y : Writing). y .output) (v .result) in
-    let used : w .used ≡ length x = ap (λ (y : Writing). y .used) (v .result) ∙ sym (used-length b (planned c p) (c .count) (v .fits)) in
-    let whole : length (w .output) ≡ 88 = ap length output ∙ reads-back b (planned c p) (c .count) (v .fits) .whole in
+    let output : w .output ≡ padded x = ap (λ (y : Writing). y .output) (v .writes) in
+    let used : w .used ≡ length x = ap (λ (y : Writing). y .used) (v .writes) ∙ sym (used-length b (planned c p) (c .count)) in
+    let whole : length (w .output) ≡ 88 = ap length output ∙ reads-back b (planned c p) (c .count) (fits c p b m v) .whole in
     let sent : Carried schedule (w .output) (w .used) o h = carries schedule (w .output) (w .used) o h whole (bounds .0) (bounds .1) room good in
     let kept : filled (take k (w .output)) ≡ w .output =
     ap (λ (y : List ℕ). filled (take k y)) output ∙ filled-padded x k (omega arith) (omega arith) ∙ sym output in

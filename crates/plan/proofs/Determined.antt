@@ -1,5 +1,5 @@
 -- Answers that meet a contract of `plan` are equal.
-use Rattle.laws.proofs.Base.{_≡_, refl, sym, ap, _∙_, cond, List, map, ℕ, eqb, ne-eqb}
+use Rattle.laws.proofs.Base.{_≡_, refl, sym, ap, _∙_, cond, List, ℕ, eqb, ne-eqb}
 use Rattle.laws.proofs.Map.{map-injective}
 use Rattle.refusals.specs.Number.{numberOf}
 use Rattle.refusals.proofs.Inverse.{refusalOf, refusalOf-numberOf, numberOf-positive}
@@ -8,9 +8,8 @@ use Rattle.plan.specs.declared.Plan.{Plan as PlanCode}
 use Rattle.plan.specs.declared.Verdict.{Verdict}
 use Rattle.plan.specs.declared.Verdict.the-variants.{Good, Refused}
 use Rattle.plan.specs.declared.Reading.{Reading}
-use Rattle.plan.specs.declared.Planned.{Planned as PlannedCode}
-use Rattle.plan.specs.Paper.{Entry, Plan, Read, Planned, empty, planNumber, readPlan, allPlanned}
-use Rattle.plan.specs.Coded.{entryOf, planOf, verdictOf, readingOf, plannedOf}
+use Rattle.plan.specs.Paper.{Entry, Plan, Read, empty, planNumber, readPlan}
+use Rattle.plan.specs.Coded.{entryOf, planOf, verdictOf, readingOf}
 
 -- the code's entry, plan and verdict by the paper's
 abbrev entryFrom : Entry → EntryCode
@@ -43,13 +42,3 @@ determined-read-plan file r s a b =
     let verdict = verdict-injective (r .verdict) (s .verdict) (ap (λ (x : Read). x .number) e) in
     let plan = plan-injective (r .plan) (s .plan) (ap (λ (x : Read). x .plan) e) in
     λ i. record { verdict = verdict i; plan = plan i }
-
-abbrev plannedFrom : Planned → PlannedCode
-plannedFrom v = record { kind = v .kind; low = v .low; lowest = v .lowest; fresh = v .fresh }
-
-pub said-injective : (r s : List PlannedCode) → map plannedOf r ≡ map plannedOf s → r ≡ s
-said-injective r s e = map-injective plannedOf plannedFrom (λ x. refl) r s e
-
-pub determined-all-planned : (current previous : PlanCode) (r s : List PlannedCode)
-    → map plannedOf r ≡ allPlanned (planOf current) (planOf previous) → map plannedOf s ≡ allPlanned (planOf current) (planOf previous) → r ≡ s
-determined-all-planned current previous r s a b = said-injective r s (a ∙ sym b)

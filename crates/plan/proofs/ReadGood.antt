@@ -5,6 +5,7 @@ use Rattle.laws.proofs.Ruled.{Ruling, refuses, passes, ruling}
 use Rattle.laws.proofs.Tests.{neither}
 use Rattle.page.specs.Paper.{octet}
 use Rattle.plan.specs.Paper.{Entry, Read, free, filledPlan, empty, bad, planNumber, listed, refusal, faults, readPlan}
+use Rattle.plan.specs.Claims.{ReadIsGood}
 use Rattle.plan.proofs.Answers.{none-bad}
 use Rattle.plan.proofs.Entries.{length-entries}
 
@@ -17,7 +18,7 @@ held-good : (es : List Entry) → length es ≤ 48 → some bad es ≡ false →
 held-good es few good = none-bad (filledPlan es) few (rw (take-append-seam es (replicate (48 - length es) free)) good)
 
 -- the plan that reading gives is good, beside a refusal too
-pub read-is-good : (f : List ℕ) → planNumber (readPlan f .plan) ≡ 0
+pub read-is-good : ReadIsGood
 unfolding readPlan
 read-is-good f = go (ruling refusal (faults f) (record { number = 0; plan = filledPlan (listed f) }))
   where

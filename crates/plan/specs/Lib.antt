@@ -1,4 +1,4 @@
 -- What `plan` defines.
-pub mod Coded
 pub mod Paper
-pub mod Inner
+pub mod Coded
+pub mod Claims

@@ -1,7 +1,6 @@
 -- Each case of the writer's order, on plain facts; and what its acceptance means.
-use Rattle.laws.proofs.Base.{_≡_, sym, ap, _∙_, false, _&&_, List, _⊎_, inl, inr, ℕ, _≤_, _<_, arith, length, leb, eq-eqb, ne-eqb, lt-ltb, le-ltb, le-leb, eqb-true, eqb-false, leb-true, ltb-false, not-true, not-false}
-use Rattle.laws.proofs.Ruled.{NoneHolds}
-use Rattle.laws.proofs.Outcome.{Outcome, refuses, passes, outcome, Because, ruled-because}
+use Rattle.laws.proofs.Base.{_≡_, sym, _∙_, false, _&&_, List, ℕ, _≤_, _<_, arith, length, leb, eq-eqb, ne-eqb, lt-ltb, le-ltb, le-leb, eqb-true, leb-true, ltb-false, not-false}
+use Rattle.laws.proofs.Ruled.{ruled-map, none-holds, ruled-none, unless0-numbered}
 use Rattle.laws.proofs.Tests.{both}
 use Rattle.plan.specs.Paper.{Plan, planNumber}
 use Rattle.sender.specs.Paper.{Writing, unwritten, planned, descriptions, message, faults, write}
@@ -55,18 +54,14 @@ module _ (c p : Plan) (b : ℕ) (o : List ℕ) where
     pub few : length (descriptions (planned c p) (c .count)) ≤ 80
     pub writes : write c p b o ≡ message c p b
 
-  -- a test of the order refuses by a number that is not 0
-  refused-positive : Because 0 (faults c p b o) → ⊥
-  refused-positive (inl h) = absurd (omega arith)
-  refused-positive (inr (inl h)) = eqb-false (planNumber c) 0 (not-true _ (h .1)) (sym (h .0))
-  refused-positive (inr (inr (inl h))) = eqb-false (planNumber p) 0 (not-true _ (h .1)) (sym (h .0))
-  refused-positive (inr (inr (inr (inl h)))) = absurd (omega arith)
-  refused-positive (inr (inr (inr (inr (inl h))))) = absurd (omega arith)
-  refused-positive (inr (inr (inr (inr (inr (inl h)))))) = absurd (omega arith)
-  refused-positive (inr (inr (inr (inr (inr (inr h)))))) = h
-
-  none-refuses : NoneHolds (faults c p b o) → write c p b o ≡ message c p b → Accepts
-  none-refuses h w =
+  pub accepts : write c p b o .number ≡ 0 → Accepts
+  unfolding write
+  accepts z =
+      let ts = faults c p b o in
+      let h =
+      none-holds ts 0
+      ((λ t e. omega arith), (unless0-numbered (planNumber c), (unless0-numbered (planNumber p), ((λ t e. omega arith), ((λ t e. omega arith), ((λ t e. omega arith), tt))))))
+      (sym (ruled-map (λ (w : Writing). w .number) (unwritten o) ts (message c p b)) ∙ z) in
       let range = both (leb 1 b) (leb b (c .count)) (not-false _ (h .1 .1 .1 .1 .0)) in
       record {
         room = eqb-true (length o) 88 (not-false _ (h .0));
@@ -75,19 +70,5 @@ module _ (c p : Plan) (b : ℕ) (o : List ℕ) where
         one = leb-true 1 b (range .0);
         within = leb-true b (c .count) (range .1);
         few = ltb-false 80 _ (h .1 .1 .1 .1 .1 .0);
-        writes = w;
+        writes = ruled-none (unwritten o) ts (message c p b) h;
       }
-
-  pub accepts : write c p b o .number ≡ 0 → Accepts
-  unfolding write
-  accepts e = go (outcome (faults c p b o))
-    where
-      go : Outcome (faults c p b o) → Accepts
-      go (passes h q) = none-refuses h (q Writing (unwritten o) (message c p b))
-      go (refuses n a q) =
-          let zero : n ≡ 0 = sym (ap (λ (w : Writing). w .number) (q Writing (unwritten o) (message c p b))) ∙ e in
-          past (ruled-because (faults c p b o) 1 0 (q ℕ (λ (k : ℕ). k) 1 ∙ zero))
-        where
-          past : (_≡_ {A = ℕ} 1 0) ⊎ Because 0 (faults c p b o) → Accepts
-          past (inl h) = absurd (omega arith)
-          past (inr h) = absurd (refused-positive h)

@@ -11,7 +11,7 @@ module _ (s : ℕ → Shown) (n j : ℕ) where
   pub newBit-few : (i : ℕ) → newBit s n i ≤ 1
   newBit-few i = bit-few (ltb i n && s i .new)
 
-  newBits-lt : (k : ℕ) → newBits s n j k < 2 ^ k
+  pub newBits-lt : (k : ℕ) → newBits s n j k < 2 ^ k
   unfolding newBits
   newBits-lt zero = rw pow-zero (le-refl 1)
   newBits-lt (suc k) = let h = newBits-lt k in rw pow-succ' (omega (arith, newBit-few (8 * j + k)))

@@ -4,11 +4,12 @@ use Rattle.schedule.specs.declared.Slot.{Slot}
 use Rattle.schedule.specs.Coded.{shownOf}
 use Rattle.schedule.specs.Inner.{zeroed}
 use Rattle.schedule.specs.Paper.{Told, first, again, optional, advised, Shown}
-use Rattle.plan.specs.declared.Planned.{Planned as PlannedCode}
-use Rattle.plan.specs.Paper.{Plan, Planned, entryAt, lowestAt, low15At, plannedAt, nonePlanned, saidAt, allPlanned}
-use Rattle.plan.specs.Coded.{plannedOf}
-use Rattle.plan.specs.Inner.{nothing}
-use Rattle.plan.proofs.Said.{says-at, said-counted}
+use Rattle.plan_slots.specs.declared.Planned.{Planned as PlannedCode}
+use Rattle.plan.specs.Paper.{Plan, entryAt}
+use Rattle.plan_slots.specs.Inner.{nonePlanned, saidAt, allPlanned, nothing}
+use Rattle.plan_slots.specs.Paper.{Planned, lowestAt, low15At, plannedAt}
+use Rattle.plan_slots.specs.Coded.{plannedOf}
+use Rattle.plan_slots.proofs.Said.{says-at, said-counted}
 use Rattle.sender.specs.Paper.{plannedTold, newAt, planned}
 use Rattle.sender.specs.Coded.{shownIn, shownBy, Low, AllLow}
 

@@ -9,7 +9,7 @@ use Rattle.schedule.specs.declared.Slot.{Slot}
 use Rattle.schedule.specs.Paper.{Told, first, again, optional, advised, Shown}
 use Rattle.schedule.specs.Coded.{shownOf}
 use Rattle.schedule.specs.Inner.{zeroed}
-use Rattle.plan.specs.Paper.{Planned}
+use Rattle.plan_slots.specs.Paper.{Planned}
 use Rattle.sender.specs.Paper.{Writing}
 use Rattle.sender.specs.declared.Writing.{Writing as WritingCode}
 use Rattle.sender.specs.declared.Writing.the-variants.{Written, Refused}

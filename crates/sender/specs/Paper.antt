@@ -7,7 +7,8 @@ use lib.Dec.{eqb, leb, ltb}
 use Rattle.laws.specs.Ruled.{ruled, unless0}
 use Rattle.laws.specs.Upto.{picked, each}
 use Rattle.schedule.specs.Paper.{Told, first, again, optional, advised, Shown}
-use Rattle.plan.specs.Paper.{Plan, planNumber, hasPage, entryAt, pageAt, lowestAt, low15At}
+use Rattle.plan.specs.Paper.{Plan, planNumber, entryAt}
+use Rattle.plan_slots.specs.Paper.{hasPage, pageAt, lowestAt, low15At}
 
 -- 01 The plan, our writer: first, repeat, 40 and 41 as planned: a page's lowest slot is a first transmission, a later one a repeat that names it
 unfoldable pub plannedTold : Plan → ℕ → Told

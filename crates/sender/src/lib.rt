@@ -6,12 +6,13 @@ ghost use Prim.Native.Nat.{ℕ, _+_, _≤_, _<_};
 ghost use lib.ListN.{length, replicate};
 ghost use lib.Seq.{sets};
 ghost use Rattle.schedule.specs.Coded.{toldOf, shownOf};
-ghost use Rattle.plan.specs.Coded.{planOf, plannedOf};
+ghost use Rattle.plan.specs.Coded.{planOf};
+ghost use Rattle.plan_slots.specs.Coded.{plannedOf};
 ghost use Rattle.sender.specs.Paper.{planned, octetsOf, octetsOfAll, group, descriptions, newBits, bitmapOf, messageOf, write};
 ghost use Rattle.sender.specs.Coded.{writingOf, shownIn, shownBy, Low, AllLow};
 use plan::Plan;
-use plan::Planned;
 use plan::Verdict;
+use plan_slots::Planned;
 use refusals::Refusal;
 use schedule::Description;
 use schedule::Slot;
@@ -65,7 +66,7 @@ fn telling(current: Plan, previous: Plan) -> [Slot; 48]
         new: false,
         description: Description::Optional,
     }; 48];
-    let all = plan::all_planned(current, previous);
+    let all = plan_slots::all_planned(current, previous);
     let count = current.count;
     let mut i = 0;
     while i < count {

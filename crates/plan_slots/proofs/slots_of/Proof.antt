@@ -1,7 +1,7 @@
--- `plan::slots_of` meets its contract: a count over 48 is cut.
+-- `plan_slots::slots_of` meets its contract: a count over 48 is cut.
 use Rattle.laws.proofs.Base.{arith, lt-ltb, le-ltb}
-use Rattle.plan.proofs.slots_of.Statement.{statement}
-use Rattle.plan.proofs.slots_of.Tie as tie
+use Rattle.plan_slots.proofs.slots_of.Statement.{statement}
+use Rattle.plan_slots.proofs.slots_of.Tie as tie
 
 returns : tie.Need-returns
 returns c = (simp (lt-ltb _ _ (c .if1 .taken)), omega arith)

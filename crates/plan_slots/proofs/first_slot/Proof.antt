@@ -1,9 +1,9 @@
--- `plan::first_slot` meets its contract. The invariant: the answer is that of the search among the marks ahead.
+-- `plan_slots::first_slot` meets its contract. The invariant: the answer is that of the search among the marks ahead.
 use Rattle.laws.proofs.Base.{_≡_, refl, sym, ap, _∙_, ℕ, _+_, _-_, _≤_, _<_, eqb, length, getD, drop, arith, needs, eq-eqb, ne-eqb}
 use Rattle.laws.specs.Search.{firstFrom}
 use Rattle.laws.proofs.Search.{first-next, first-here, first-end}
-use Rattle.plan.proofs.first_slot.Statement.{statement}
-use Rattle.plan.proofs.first_slot.Tie as tie
+use Rattle.plan_slots.proofs.first_slot.Statement.{statement}
+use Rattle.plan_slots.proofs.first_slot.Tie as tie
 
 abbrev Inv-loop : tie.InvT-loop
 Inv-loop marks mark slot₀ slot =

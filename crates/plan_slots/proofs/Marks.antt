@@ -6,11 +6,12 @@ use Rattle.laws.proofs.Search.{found-some}
 use Rattle.page.specs.Paper.{samePage}
 use Rattle.page.specs.Coded.{keyOf}
 use Rattle.page.proofs.Sameness.{Small, key-same}
 use Rattle.plan.specs.declared.Entry.{Entry as EntryCode}
-use Rattle.plan.specs.Paper.{Entry, free, pageOf, holds}
+use Rattle.plan.specs.Paper.{Entry, free}
+use Rattle.plan_slots.specs.Paper.{pageOf, holds}
 use Rattle.plan.specs.Coded.{entryOf, entriesOf}
-use Rattle.plan.specs.Inner.{counted, Marked, Marks}
+use Rattle.plan_slots.specs.Inner.{counted, Marked, Marks}
 use Rattle.plan.proofs.Entries.{none, entry-at}
 
 pub marks-none : (es : List EntryCode) → length es ≡ 48 → Marks (replicate 48 0) (entriesOf es) 0
 marks-none es full = record { long = refl; whole = length-map es entryOf ∙ full; each = below-none _ }

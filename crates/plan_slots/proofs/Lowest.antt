@@ -1,17 +1,9 @@
 -- The lowest slot of the page of a slot: it is no higher, has the same page, and is its own lowest.
 use Rattle.laws.proofs.Base.{_≡_, refl, sym, ap, _∙_, true, ℕ, suc, _-_, _≤_, _<_, arith, by-contra, length, getD, length-take, List·getD-eq-default, getD-take}
-use Rattle.page.proofs.Sameness.{Same}
-use Rattle.plan.specs.Paper.{Entry, Plan, free, entriesWithin, holds, entryAt, pageAt, lowestAt}
-use Rattle.plan.proofs.Slots.{holds-kind, holds-own, holds-identifier, lowest-same, Has, Lowest, absent, lowest, lowest-slot, lowest-reached}
-
--- what is known of the lowest slot, with number s, of the page of slot i
-pub record Leading (p : Plan) (i s : ℕ) : Type 0 where
-  pub some : 0 < s
-  pub reaches : s ≤ suc i
-  pub page : entryAt p (s - 1) .kind ≡ 2
-  pub same : Same (pageAt p (s - 1)) (pageAt p i)
-  pub id : entryAt p (s - 1) .id ≡ entryAt p i .id
-  pub own : lowestAt p (s - 1) ≡ s
+use Rattle.plan.specs.Paper.{Entry, Plan, free, entriesWithin, entryAt}
+use Rattle.plan_slots.specs.Paper.{holds, pageAt, lowestAt}
+use Rattle.plan_slots.specs.Claims.{Leading, LowestLeads}
+use Rattle.plan_slots.proofs.Slots.{holds-kind, holds-own, holds-identifier, lowest-same, Has, Lowest, absent, lowest, lowest-slot, lowest-reached}
 
 module _ (p : Plan) where
   within-at : (i : ℕ) → i < p .count → getD (entriesWithin p) i free ≡ entryAt p i
@@ -36,8 +28,8 @@ module _ (p : Plan) where
           holding = rw (within-at i l) (holds-own (entryAt p i) k);
         }
 
-    pub leading : Leading p i (lowestAt p i)
-    leading = go (lowestAt p i) refl (lowest-slot p (pageAt p i))
+    leads : Leading p i (lowestAt p i)
+    leads = go (lowestAt p i) refl (lowest-slot p (pageAt p i))
       where
         go : (s : ℕ) → lowestAt p i ≡ s → Lowest p (pageAt p i) s → Leading p i s
         go s e (absent z none) = absurd (none i has-own)
@@ -55,3 +47,6 @@ module _ (p : Plan) where
               id = rw here (holds-identifier (pageAt p i) (entryAt p j) holding);
               own = rw here (lowest-same (pageAt p j) (pageAt p i) (known .1) p ∙ e);
             }
+
+pub leading : LowestLeads
+leading p i l k = leads p i l k

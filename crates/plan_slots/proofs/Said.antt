@@ -4,12 +4,13 @@ use borrow.Author.Count.{below-none}
 use Rattle.laws.specs.Search.{some, firstFrom}
 use Rattle.laws.specs.Upto.{each}
 use Rattle.laws.proofs.Upto.{each-length, each-at}
-use Rattle.plan.specs.declared.Planned.{Planned as PlannedCode}
-use Rattle.plan.specs.Paper.{Entry, Plan, Planned, free, entryAt, pageAt, plannedAt, lowestSlot, hasPage, nonePlanned, saidAt, allPlanned}
-use Rattle.plan.specs.Coded.{plannedOf}
-use Rattle.plan.specs.Inner.{nothing, counted, saidBy, Marked, Marks}
-use Rattle.plan.proofs.Marks.{lowest-marked, some-marked}
-use Rattle.plan.proofs.Slots.{lowest-counted}
+use Rattle.plan_slots.specs.declared.Planned.{Planned as PlannedCode}
+use Rattle.plan.specs.Paper.{Entry, Plan, free, entryAt}
+use Rattle.plan_slots.specs.Inner.{nonePlanned, saidAt, allPlanned, nothing, counted, saidBy, Marked, Marks}
+use Rattle.plan_slots.specs.Paper.{Planned, pageAt, plannedAt, lowestSlot, hasPage}
+use Rattle.plan_slots.specs.Coded.{plannedOf}
+use Rattle.plan_slots.proofs.Marks.{lowest-marked, some-marked}
+use Rattle.plan_slots.proofs.Slots.{lowest-counted}
 
 -- a slot below a count that is cut is below the count, and below 48
 below-counted : (n i : ℕ) → i < counted n → (i < n) × (i < 48)

@@ -1,11 +1,11 @@
--- `plan::all_planned` meets its contract. The invariant: the slots passed are said by the searches for their marks.
+-- `plan_slots::all_planned` meets its contract. The invariant: the slots passed are said by the searches for their marks.
 use Rattle.laws.proofs.Base.{_≡_, _-_, _≤_, _<_, length, length-map, length-take, arith, needs}
 use Rattle.plan.specs.Coded.{entryOf, entriesOf, planOf}
-use Rattle.plan.specs.Inner.{counted}
+use Rattle.plan_slots.specs.Inner.{counted}
 use Rattle.plan.proofs.Entries.{entry-at}
-use Rattle.plan.proofs.Said.{searched, searched-said, Says, says-none, says-more, says-all}
-use Rattle.plan.proofs.all_planned.Statement.{statement}
-use Rattle.plan.proofs.all_planned.Tie as tie
+use Rattle.plan_slots.proofs.Said.{searched, searched-said, Says, says-none, says-more, says-all}
+use Rattle.plan_slots.proofs.all_planned.Statement.{statement}
+use Rattle.plan_slots.proofs.all_planned.Tie as tie
 
 abbrev Inv-loop : tie.InvT-loop
 Inv-loop entries marks marks-before count before planned₀ i₀ planned i =

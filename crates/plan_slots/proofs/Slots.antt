@@ -4,7 +4,8 @@ use Rattle.laws.proofs.Search.{found-some, Found, none-passes, first-passes, se
 use Rattle.laws.proofs.Tests.{both}
 use Rattle.page.specs.Paper.{Name, samePage}
 use Rattle.page.proofs.Sameness.{Same, same-reflexive, same-symmetric, same-transitive, same-identifier}
-use Rattle.plan.specs.Paper.{Entry, Plan, free, entriesWithin, pageOf, holds, lowestSlot, hasPage}
+use Rattle.plan.specs.Paper.{Entry, Plan, free, entriesWithin}
+use Rattle.plan_slots.specs.Paper.{pageOf, holds, lowestSlot, hasPage}
 
 -- an entry that holds a page is one of kind 2 whose page is the same
 pub holds-kind : (x : Name) (e : Entry) → holds x e ≡ true → (e .kind ≡ 2) × Same (pageOf e) x

@@ -1,13 +1,30 @@
--- What the inner functions give, in the paper's terms.
+-- What is said of all slots at once, as the code gives it, and what the inner functions give.
 use mathlib.Core.Path.{_≡_}
 use mathlib.Core.Bool.{Bool, false, cond, not}
 use mathlib.Core.List.{List}
 use Prim.Native.Nat.{ℕ, _+_, _*_, _%_, _<_}
 use lib.Dec.{eqb, ltb}
 use lib.ListN.{length, getD}
+use Rattle.laws.specs.Upto.{each}
 use Rattle.page.specs.Coded.{keyOf}
-use Rattle.plan.specs.declared.Planned.{Planned as PlannedCode}
-use Rattle.plan.specs.Paper.{Entry, Planned, free, pageOf, nonePlanned}
+use Rattle.plan.specs.Paper.{Entry, Plan, free, entryAt}
+use Rattle.plan_slots.specs.declared.Planned.{Planned as PlannedCode}
+use Rattle.plan_slots.specs.Paper.{Planned, pageOf, plannedAt}
+
+-- of a slot planned with no page only the kind is said
+abbrev pub nonePlanned : ℕ → Planned
+nonePlanned k = record { kind = k; low = 0; lowest = 0; fresh = false }
+
+-- what is said of a slot within the count; entries past it mean nothing, and are said as unused ones are
+unfoldable pub saidAt : Plan → Plan → ℕ → Planned
+saidAt c p i =
+    cond (ltb i (c .count))
+    (cond (eqb (entryAt c i .kind) 2) (plannedAt c p i) (nonePlanned (entryAt c i .kind)))
+    (nonePlanned 0)
+
+-- DECISIONS, Plans looked up once: what is said of each of the forty-eight slots
+unfoldable pub allPlanned : Plan → Plan → List Planned
+allPlanned c p = each (saidAt c p) 48
 
 -- the slots of a count that there are entries for
 abbrev pub counted : ℕ → ℕ
