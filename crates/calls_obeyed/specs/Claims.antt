@@ -6,7 +6,8 @@ use Prim.Native.Nat.{ℕ, zero, suc, _*_, _/_, _%_, _≤_, _<_}
 use lib.Dec.{eqb}
 use lib.ListN.{length}
 use Rattle.block.specs.Paper.{lastUsed}
-use Rattle.plan.specs.Paper.{Plan, readPlan, entryAt}
+use Rattle.plan.specs.Paper.{Plan, entryAt}
+use Rattle.plan_read.specs.Paper.{readPlan}
 use Rattle.plan_slots.specs.Paper.{pageAt, lowestAt}
 use Rattle.board.specs.Paper.{Wanted}
 use Rattle.capi.specs.Paper.{writeScheduleCall, checkScheduleCall, decideCall}

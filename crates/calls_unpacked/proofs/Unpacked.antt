@@ -9,7 +9,8 @@ use Rattle.block.specs.Paper.{refusal as refused, step}
 use Rattle.block_history.proofs.History.{number-small}
 use Rattle.firmware.specs.Paper.{heldIn, moved, intakeCall}
 use Rattle.page.specs.Paper.{Heading}
-use Rattle.plan.specs.Paper.{Plan, entriesWithin, bad, planNumber, Read as PlanRead, filledPlan, listed, faults as planFaults, refusal as planRefusal, readPlan}
+use Rattle.plan.specs.Paper.{Plan, entriesWithin, bad, planNumber, filledPlan}
+use Rattle.plan_read.specs.Paper.{Read as PlanRead, listed, faults as planFaults, refusal as planRefusal, readPlan}
 use Rattle.schedule.specs.Paper.{end, faults, Read, unread, good, read, Shown, Given, next, noMore, refusal, givenAt, given}
 use Rattle.text.specs.Paper.{Writing, written, writerTests, usedOctets, pageOf, Reading, reading, readerTests, shown, trimmed, septetsReceived}
 use Rattle.sender.specs.Paper as sender

@@ -9,7 +9,8 @@ use Rattle.refusals.specs.declared.Refusal.{Refusal}
 use Rattle.refusals.specs.Number.{numberOf}
 use Rattle.schedule.specs.Paper.{end}
 use Rattle.plan.specs.declared.Plan.{Plan as PlanCode}
-use Rattle.plan.specs.Paper.{Plan, readPlan}
+use Rattle.plan.specs.Paper.{Plan}
+use Rattle.plan_read.specs.Paper.{readPlan}
 use Rattle.plan.specs.Coded.{planOf}
 use Rattle.sender.specs.declared.Writing.{Writing as WritingCode}
 use Rattle.sender.specs.declared.Writing.the-variants.{Written, Refused}

@@ -5,11 +5,13 @@ use Rattle.refusals.specs.declared.Refusal.{Refusal}
 use Rattle.refusals.specs.Number.{numberOf}
 use Rattle.refusals.proofs.Inverse.{numberOf-positive}
 use Rattle.plan.specs.declared.Verdict.the-variants.{Good, Refused}
-use Rattle.plan.specs.declared.Reading.{Reading}
-use Rattle.plan.specs.Paper.{Plan, Read, filledPlan, listed, refusal, faults, planNumber, readPlan}
-use Rattle.plan.specs.Coded.{verdictOf, readingOf}
+use Rattle.plan_read.specs.declared.Reading.{Reading}
+use Rattle.plan.specs.Paper.{Plan, filledPlan, planNumber}
+use Rattle.plan_read.specs.Paper.{Read, listed, refusal, faults, readPlan}
+use Rattle.plan.specs.Coded.{verdictOf}
+use Rattle.plan_read.specs.Coded.{readingOf}
 use Rattle.plan.proofs.Answers.{over}
-use Rattle.plan.proofs.ReadGood.{read-is-good}
+use Rattle.plan_read.proofs.ReadGood.{read-is-good}
 use Rattle.capi.specs.Paper.{planCall}
 
 -- a good plan has no more than 48 slots

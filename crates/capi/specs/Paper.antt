@@ -7,7 +7,7 @@ use lib.Dec.{eqb}
 use Rattle.laws.specs.Ruled.{ruled, unless0}
 use Rattle.block.specs.Paper.{Kind, page, schedule, written as writtenBlocks}
 use Rattle.page.specs.Paper.{Heading, handedNumber}
-use Rattle.plan.specs.Paper.{readPlan}
+use Rattle.plan_read.specs.Paper.{readPlan}
 use Rattle.schedule.specs.Paper.{read, Given, next, noMore, refusal, given}
 use Rattle.text.specs.Paper.{written, reading}
 use Rattle.sender.specs.Paper.{Writing, unwritten, write}

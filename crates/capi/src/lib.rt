@@ -1,7 +1,7 @@
 // Entries for C beside those of `firmware`: numbers come back packed, and slices go in as a pointer and a length.
 ghost use mathlib.Core.Path.{_≡_};
 ghost use Rattle.block.specs.Coded.{kindOf};
-ghost use Rattle.plan.specs.Paper.{readPlan};
+ghost use Rattle.plan_read.specs.Paper.{readPlan};
 ghost use Rattle.plan.specs.Coded.{planOf, verdictOf};
 ghost use Rattle.board.specs.Coded.{idsOf};
 ghost use Prim.Native.Nat.{_≤_};
@@ -142,7 +142,7 @@ pub extern "C" fn cb_write_blocks(
 pub extern "C" fn cb_read_plan(file: &[u8]) -> u32
     ensures { λ r. ⌜ r ≡ planCall (now (file .entry)) ⌝ }
 {
-    let reading = plan::read_plan(file);
+    let reading = plan_read::read_plan(file);
     let verdict = reading.verdict;
     match verdict {
         Verdict::Good => 256 * reading.plan.count as u32,
@@ -160,8 +160,8 @@ struct Files {
 fn read_plans(current: &[u8], previous: &[u8]) -> Files
     ensures { λ r. ⌜ (verdictOf (r .verdict) ≡ filesNumber (now (current .entry)) (now (previous .entry))) × (planOf (r .current) ≡ readPlan (now (current .entry)) .plan) × (planOf (r .previous) ≡ readPlan (now (previous .entry)) .plan) ⌝ }
 {
-    let this = plan::read_plan(current);
-    let last = plan::read_plan(previous);
+    let this = plan_read::read_plan(current);
+    let last = plan_read::read_plan(previous);
     let verdict = this.verdict;
     let other = last.verdict;
     let plan = this.plan;

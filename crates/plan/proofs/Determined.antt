@@ -7,15 +7,14 @@ use Rattle.plan.specs.declared.Entry.{Entry as EntryCode}
 use Rattle.plan.specs.declared.Plan.{Plan as PlanCode}
 use Rattle.plan.specs.declared.Verdict.{Verdict}
 use Rattle.plan.specs.declared.Verdict.the-variants.{Good, Refused}
-use Rattle.plan.specs.declared.Reading.{Reading}
-use Rattle.plan.specs.Paper.{Entry, Plan, Read, empty, planNumber, readPlan}
-use Rattle.plan.specs.Coded.{entryOf, planOf, verdictOf, readingOf}
+use Rattle.plan.specs.Paper.{Entry, Plan, empty, planNumber}
+use Rattle.plan.specs.Coded.{entryOf, planOf, verdictOf}
 
 -- the code's entry, plan and verdict by the paper's
 abbrev entryFrom : Entry → EntryCode
 entryFrom e = record { kind = e .kind; serial = record { 0 = e .serial }; id = record { 0 = e .id }; parameter = e .parameter }
 
-plan-injective : (r s : PlanCode) → planOf r ≡ planOf s → r ≡ s
+pub plan-injective : (r s : PlanCode) → planOf r ≡ planOf s → r ≡ s
 plan-injective r s e =
     let entries = map-injective entryOf entryFrom (λ x. refl) (r .entries) (s .entries) (ap (λ (p : Plan). p .entries) e) in
     λ i. record { count = e i .count; entries = entries i }
@@ -35,10 +34,3 @@ determined-empty-plan r s a b = plan-injective r s (a ∙ sym b)
 
 pub determined-plan-answer : (plan : PlanCode) (r s : Verdict) → verdictOf r ≡ planNumber (planOf plan) → verdictOf s ≡ planNumber (planOf plan) → r ≡ s
 determined-plan-answer plan r s a b = verdict-injective r s (a ∙ sym b)
-
-pub determined-read-plan : (file : List ℕ) (r s : Reading) → readingOf r ≡ readPlan file → readingOf s ≡ readPlan file → r ≡ s
-determined-read-plan file r s a b =
-    let e = a ∙ sym b in
-    let verdict = verdict-injective (r .verdict) (s .verdict) (ap (λ (x : Read). x .number) e) in
-    let plan = plan-injective (r .plan) (s .plan) (ap (λ (x : Read). x .plan) e) in
-    λ i. record { verdict = verdict i; plan = plan i }

@@ -2,6 +2,4 @@
 pub mod Answers
 pub mod Determined
 pub mod Entries
-pub mod FileBack
 pub mod GoodPlan
-pub mod ReadGood

@@ -2,12 +2,11 @@
 use Prim.Native.Nat.{ℕ}
 use mathlib.Core.List.{List, map}
 use Rattle.refusals.specs.Number.{numberOf}
-use Rattle.plan.specs.Paper.{Entry, Plan, Read}
+use Rattle.plan.specs.Paper.{Entry, Plan}
 use Rattle.plan.specs.declared.Entry.{Entry as EntryCode}
 use Rattle.plan.specs.declared.Plan.{Plan as PlanCode}
 use Rattle.plan.specs.declared.Verdict.{Verdict}
 use Rattle.plan.specs.declared.Verdict.the-variants.{Good, Refused}
-use Rattle.plan.specs.declared.Reading.{Reading}
 
 -- an entry as its numbers
 abbrev pub entryOf : EntryCode → Entry
@@ -25,7 +24,3 @@ planOf p = record { count = p .count; entries = entriesOf (p .entries) }
 abbrev pub verdictOf : Verdict → ℕ
 verdictOf Good = 0
 verdictOf (Refused r) = numberOf r
-
--- what reading gave: a number and a plan
-abbrev pub readingOf : Reading → Read
-readingOf r = record { number = verdictOf (r .verdict); plan = planOf (r .plan) }

@@ -1,4 +1,3 @@
 -- What `plan` defines.
 pub mod Paper
 pub mod Coded
-pub mod Claims

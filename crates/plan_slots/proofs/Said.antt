@@ -1,12 +1,12 @@
 -- What is said of the slots of a plan, told from the marks of it and of the plan before.
-use Rattle.laws.proofs.Base.{_≡_, refl, sym, ap, _∙_, Bool, true, false, cond, List, map, ℕ, _+_, _≤_, _<_, arith, eqb, ltb, length, getD, take, set, replicate, getD-replicate, length-map, length-set, List·getD-map, ext-getD, getD-set-same, getD-set-other, eqb-true, eqb-false, lt-ltb, ltb-true, ltb-false}
+use Rattle.laws.proofs.Base.{_≡_, refl, sym, ap, _∙_, Bool, true, false, cond, List, map, ℕ, _+_, _≤_, _<_, arith, eqb, ltb, length, getD, take, set, replicate, getD-replicate, length-map, length-set, List·getD-map, ext-getD, getD-take, getD-set-same, getD-set-other, eqb-true, eqb-false, lt-ltb, ltb-true, ltb-false}
 use borrow.Author.Count.{below-none}
 use Rattle.laws.specs.Search.{some, firstFrom}
 use Rattle.laws.specs.Upto.{each}
 use Rattle.laws.proofs.Upto.{each-length, each-at}
 use Rattle.plan_slots.specs.declared.Planned.{Planned as PlannedCode}
 use Rattle.plan.specs.Paper.{Entry, Plan, free, entryAt}
-use Rattle.plan_slots.specs.Inner.{nonePlanned, saidAt, allPlanned, nothing, counted, saidBy, Marked, Marks}
+use Rattle.plan_slots.specs.Inner.{nonePlanned, saidAt, allPlanned, nothing, counted, saidBy, Marks, searched, Says}
 use Rattle.plan_slots.specs.Paper.{Planned, pageAt, plannedAt, lowestSlot, hasPage}
 use Rattle.plan_slots.specs.Coded.{plannedOf}
 use Rattle.plan_slots.proofs.Marks.{lowest-marked, some-marked}
@@ -34,35 +34,28 @@ counted-above n i l = go (ltb 48 n) refl
     go true e = let over = ltb-true 48 n e in rw e (omega arith)
     go false e = rw e l
 
--- what is said of slot i of some entries, n slots of them and b of the plan before, by the searches for its mark
-abbrev pub searched : List Entry → List ℕ → ℕ → List ℕ → ℕ → ℕ → Planned
-searched es ms n qs b i = saidBy (getD es i free) (firstFrom (eqb (getD ms i 0)) 1 (take n ms)) (some (eqb (getD ms i 0)) (take b qs))
-
 module _ (c p : Plan) (ms qs : List ℕ) (h : Marks ms (c .entries) 48) (before : Marks qs (p .entries) 48) where
-  pub searched-said : (i : ℕ) → i < counted (c .count) → searched (c .entries) ms (counted (c .count)) qs (counted (p .count)) i ≡ saidAt c p i
+  pub searched-said : (i : ℕ) → i < counted (c .count) → searched (c .entries) (take (counted (c .count)) ms) (take (counted (p .count)) qs) i ≡ saidAt c p i
   unfolding saidBy saidAt lowestSlot hasPage
-  searched-said i l = go (eqb (entryAt c i .kind) 2) refl
+  searched-said i l = rw (lt-ltb i (c .count) (low .0), getD-take (counted (c .count)) ms i 0 l) (go (eqb (entryAt c i .kind) 2) refl)
     where
       low : (i < c .count) × (i < 48)
       low = below-counted (c .count) i l
 
-      own : Marked (getD ms i 0) (entryAt c i)
-      own = h .each i (low .1)
+      m : ℕ
+      m = getD ms i 0
 
-      go : (b : Bool) → eqb (entryAt c i .kind) 2 ≡ b → searched (c .entries) ms (counted (c .count)) qs (counted (p .count)) i ≡ saidAt c p i
+      go : (b : Bool) → eqb (entryAt c i .kind) 2 ≡ b
+          → saidBy (entryAt c i) (firstFrom (eqb m) 1 (take (counted (c .count)) ms)) (some (eqb m) (take (counted (p .count)) qs))
+          ≡ cond (eqb (entryAt c i .kind) 2) (plannedAt c p i) (nonePlanned (entryAt c i .kind))
       go true k =
           let two = eqb-true (entryAt c i .kind) 2 k in
-          rw (lt-ltb i (c .count) (low .0), k, lowest-marked (getD ms i 0) (entryAt c i) own two ms (c .entries) h (c .count), some-marked (getD ms i 0) (entryAt c i) own two qs (p .entries) before (p .count))
-      go false k = rw (lt-ltb i (c .count) (low .0), k)
+          let own = h .each i (low .1) in
+          rw (k, lowest-marked m (entryAt c i) own two ms (c .entries) h (c .count), some-marked m (entryAt c i) own two qs (p .entries) before (p .count))
+      go false k = rw k
 
 module _ (f : ℕ → Planned) where
-  -- an array says f of the slots below i, and nothing of the others
-  pub record Says (xs : List PlannedCode) (i : ℕ) : Type 0 where
-    pub long : length xs ≡ 48
-    pub said : (k : ℕ) → k < i → plannedOf (getD xs k nothing) ≡ f k
-    pub rest : (k : ℕ) → k < 48 → i ≤ k → plannedOf (getD xs k nothing) ≡ nonePlanned 0
-
-  pub says-none : (x : PlannedCode) → plannedOf x ≡ nonePlanned 0 → Says (replicate 48 x) 0
+  pub says-none : (x : PlannedCode) → plannedOf x ≡ nonePlanned 0 → Says f (replicate 48 x) 0
   says-none x e =
       record {
         long = refl;
@@ -71,7 +64,7 @@ module _ (f : ℕ → Planned) where
       }
 
   -- a turn of the loop that fills the array
-  pub says-more : (xs : List PlannedCode) (i : ℕ) (x : PlannedCode) → i < 48 → Says xs i → plannedOf x ≡ f i → Says (set xs i x) (i + 1)
+  pub says-more : (xs : List PlannedCode) (i : ℕ) (x : PlannedCode) → i < 48 → Says f xs i → plannedOf x ≡ f i → Says f (set xs i x) (i + 1)
   says-more xs i x l h own =
       record {
         long = length-set xs i x ∙ h .long;

@@ -2,14 +2,16 @@
 use mathlib.Core.Path.{_≡_}
 use mathlib.Core.Bool.{Bool, false, cond, not}
 use mathlib.Core.List.{List}
-use Prim.Native.Nat.{ℕ, _+_, _*_, _%_, _<_}
+use Prim.Native.Nat.{ℕ, _+_, _*_, _%_, _≤_, _<_}
 use lib.Dec.{eqb, ltb}
 use lib.ListN.{length, getD}
+use Rattle.laws.specs.Search.{some, firstFrom}
 use Rattle.laws.specs.Upto.{each}
 use Rattle.page.specs.Coded.{keyOf}
 use Rattle.plan.specs.Paper.{Entry, Plan, free, entryAt}
 use Rattle.plan_slots.specs.declared.Planned.{Planned as PlannedCode}
 use Rattle.plan_slots.specs.Paper.{Planned, pageOf, plannedAt}
+use Rattle.plan_slots.specs.Coded.{plannedOf}
 
 -- of a slot planned with no page only the kind is said
 abbrev pub nonePlanned : ℕ → Planned
@@ -54,3 +56,13 @@ nothing = record { kind = 0; low = 0; lowest = 0; fresh = false }
 -- what is said of a slot by its entry, the lowest slot with its page, and whether the plan before has that
 unfoldable pub saidBy : Entry → ℕ → Bool → Planned
 saidBy e l h = cond (eqb (e .kind) 2) (record { kind = e .kind; low = e .id % 32768; lowest = l; fresh = not h }) (nonePlanned (e .kind))
+
+-- what is said of slot i of some entries by the searches for its mark among the marks of the plan and of the plan before
+abbrev pub searched : List Entry → List ℕ → List ℕ → ℕ → Planned
+searched es ms qs i = saidBy (getD es i free) (firstFrom (eqb (getD ms i 0)) 1 ms) (some (eqb (getD ms i 0)) qs)
+
+-- an array says f of the slots below n, and of the others what is said of an optional one
+pub record Says (f : ℕ → Planned) (xs : List PlannedCode) (n : ℕ) : Type 0 where
+  pub long : length xs ≡ 48
+  pub said : (i : ℕ) → i < n → plannedOf (getD xs i nothing) ≡ f i
+  pub rest : (i : ℕ) → i < 48 → n ≤ i → plannedOf (getD xs i nothing) ≡ nonePlanned 0

@@ -3,10 +3,11 @@ ghost use mathlib.Core.Path.{_≡_};
 ghost use mathlib.Core.List.{map};
 ghost use Prim.Native.Nat.{_≤_};
 ghost use lib.Dec.{eqb};
+ghost use lib.ListN.{length};
 ghost use Rattle.laws.specs.Search.{some, firstFrom};
 ghost use Rattle.plan.specs.Coded.{entryOf, entriesOf, planOf};
 ghost use Rattle.plan_slots.specs.Coded.{plannedOf};
-ghost use Rattle.plan_slots.specs.Inner.{nonePlanned, allPlanned, counted, saidBy, Marked, Marks};
+ghost use Rattle.plan_slots.specs.Inner.{nonePlanned, allPlanned, counted, saidBy, Marked, Marks, searched, Says};
 use page::PageName;
 use plan::Entry;
 use plan::Plan;
@@ -102,6 +103,22 @@ fn slots_of(count: usize) -> usize
     count
 }
 
+// What is said of each slot that has a mark, by the marks of the plan and of the plan before it; of the others, what is said of an optional one.
+fn said_by_marks(entries: [Entry; 48], current: &[u64], previous: &[u64]) -> [Planned; 48]
+    requires { ⌜ length (now current) ≤ 48 ⌝ }
+    ensures { λ r. ⌜ Says (searched (entriesOf entries) (now (current .entry)) (now (previous .entry))) r (length (now (current .entry))) ⌝ }
+{
+    let unused = none_planned(0);
+    let mut planned = [unused; 48];
+    let mut i = 0;
+    while i < current.len() {
+        let entry = entries[i];
+        planned[i] = planned_by(entry, current[i], current, previous);
+        i += 1;
+    }
+    planned
+}
+
 // What a plan and the plan before it say of each slot; of those past the count, what is said of an optional one.
 pub fn all_planned(current: Plan, previous: Plan) -> [Planned; 48]
     ensures { λ r. ⌜ map plannedOf r ≡ allPlanned (planOf current) (planOf previous) ⌝ }
@@ -112,14 +129,5 @@ pub fn all_planned(current: Plan, previous: Plan) -> [Planned; 48]
     let marks_before = marks_of(older);
     let count = slots_of(current.count);
     let before = slots_of(previous.count);
-    let unused = none_planned(0);
-    let mut planned = [unused; 48];
-    let mut i = 0;
-    while i < count {
-        let entry = entries[i];
-        let own = marks[i];
-        planned[i] = planned_by(entry, own, &marks[..count], &marks_before[..before]);
-        i += 1;
-    }
-    planned
+    said_by_marks(entries, &marks[..count], &marks_before[..before])
 }

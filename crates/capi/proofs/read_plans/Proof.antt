@@ -1,7 +1,7 @@
 -- `capi::read_plans` meets its contract: the current file's refusal comes first, and the plans are as read.
 use Rattle.laws.proofs.Base.{sym, ap, _∙_, needs}
 use Rattle.refusals.proofs.Inverse.{numberOf-positive}
-use Rattle.plan.specs.Paper.{Read}
+use Rattle.plan_read.specs.Paper.{Read}
 use Rattle.plan.specs.Coded.{verdictOf}
 use Rattle.capi.proofs.Filed.{current-good, current-refused}
 use Rattle.capi.proofs.read_plans.Statement.{statement}

@@ -1,8 +1,8 @@
--- `plan::refused` meets its contract: the number, beside the empty plan.
+-- `plan_read::refused` meets its contract: the number, beside the empty plan.
 use Rattle.laws.proofs.Base.{needs}
 use Rattle.refusals.specs.Number.{numberOf}
-use Rattle.plan.proofs.refused.Statement.{statement}
-use Rattle.plan.proofs.refused.Tie as tie
+use Rattle.plan_read.proofs.refused.Statement.{statement}
+use Rattle.plan_read.proofs.refused.Tie as tie
 
 returns : tie.Need-returns
 returns c = λ i. record { number = numberOf (c .before .args .why); plan = c .empty-plan .ensures i }

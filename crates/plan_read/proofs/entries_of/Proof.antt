@@ -1,10 +1,11 @@
--- `plan::entries_of` meets its contract. The invariant: the entries so far stand at the front, and the rest is optional.
-use Rattle.laws.proofs.Base.{_≡_, refl, _∙_, _++_, _-_, _≤_, length, drop, replicate, length-set, arith, needs}
-use Rattle.plan.specs.Paper.{free, entriesIn}
-use Rattle.plan.specs.Coded.{entriesOf}
-use Rattle.plan.proofs.Entries.{entries-turn}
-use Rattle.plan.proofs.entries_of.Statement.{statement}
-use Rattle.plan.proofs.entries_of.Tie as tie
+-- `plan_read::entries_of` meets its contract. The invariant: the entries so far stand at the front, and the rest is optional.
+use Rattle.laws.proofs.Base.{_≡_, sym, ap, _∙_, _++_, _-_, _≤_, length, drop, replicate, length-map, length-set, arith, needs}
+use Rattle.plan.specs.Paper.{Plan, free}
+use Rattle.plan_read.specs.Paper.{entriesIn}
+use Rattle.plan.specs.Coded.{entryOf, entriesOf}
+use Rattle.plan_read.proofs.Entries.{entries-turn}
+use Rattle.plan_read.proofs.entries_of.Statement.{statement}
+use Rattle.plan_read.proofs.entries_of.Tie as tie
 
 abbrev Inv-loop : tie.InvT-loop
 Inv-loop file count entries₀ i₀ entries i =
@@ -15,12 +16,14 @@ abbrev μ-loop : tie.MeasureT-loop
 
 loop-holds : tie.Need-loop-holds Inv-loop μ-loop
 unfolding entriesIn
-loop-holds c = (omega arith, λ j. replicate 48 (c .free-entry .ensures j), refl)
+loop-holds c =
+    let unused = ap (λ (p : Plan). p .entries) (c .before .empty-plan .ensures) in
+    (omega arith, unused, sym (length-map (c .before .empty-plan .result .entries) entryOf) ∙ ap length unused)
 
 loop-again : tie.Need-loop-again Inv-loop μ-loop
 loop-again c =
     let l = c .before .before .loop in
-    let a = c .before .before .before .before .before .args in (
+    let a = c .before .before .before .before .before .before .args in (
       omega arith,
       entries-turn (a .file .now) (l .i) (l .entries) (c .entry-at .result) (omega arith) (l .inv .1) (c .entry-at .ensures),
       length-set (l .entries) (l .i) (c .entry-at .result) ∙ l .inv .2,
@@ -29,7 +32,7 @@ loop-again c =
 returns : tie.Need-returns Inv-loop μ-loop
 returns c =
     let l = c .before .loop in
-    let end : l .i ≡ c .before .before .before .before .args .count = omega arith in
+    let end : l .i ≡ c .before .before .before .before .before .args .count = omega arith in
     rw end at (l .inv .1)
 
 pub entries-of-spec : {M : Type 1} → statement M

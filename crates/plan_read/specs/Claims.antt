@@ -5,7 +5,8 @@ use mathlib.Core.List.{List}
 use Prim.Native.Nat.{ℕ, _≤_}
 use lib.ListN.{length}
 use Rattle.laws.specs.Search.{some}
-use Rattle.plan.specs.Paper.{Entry, filledPlan, bad, planNumber, readPlan, fileOf}
+use Rattle.plan.specs.Paper.{Entry, filledPlan, bad, planNumber}
+use Rattle.plan_read.specs.Paper.{readPlan, fileOf}
 
 -- 01 The plan: a file that was written from good entries, no more than 48, reads as them
 abbrev pub FileBack : Type 0
