@@ -23,10 +23,10 @@ use Rattle.delivery.proofs.Planned.{planned-tellable, planned-true, pla
 pub fits : (c p : Plan) (b : ℕ) (o : List ℕ) → Accepts c p b o → Fits b (planned c p) (c .count)
 fits c p b o w =
     record {
-      some = w .one;
-      begins = w .within;
-      few = good-counted c (w .current);
-      tellable = planned-tellable c (w .current);
+      some = w .given .one;
+      begins = w .given .within;
+      few = good-counted c (w .given .current);
+      tellable = planned-tellable c (w .given .current);
       short = w .few;
     }
 
@@ -91,7 +91,7 @@ module _ (c p : Plan) (b : ℕ) (o : List ℕ) (z : write c p b o .number ≡ 0)
       let f = fits c p b o w in
       let e : write c p b o .used ≡ 8 + length (descriptions (planned c p) (c .count)) = ap (λ (x : Writing). x .used) (w .writes) in
       ap (λ (x : Writing). check c p (x .output) received) (w .writes)
-      ∙ checks c p b (messageOf b (planned c p) (c .count)) (w .current) (w .previous) f (reads-back b (planned c p) (c .count) f) received whole-blocks (omega arith)
+      ∙ checks c p b (messageOf b (planned c p) (c .count)) (w .given .current) (w .given .previous) f (reads-back b (planned c p) (c .count) f) received whole-blocks (omega arith)
 
 pub ours-accepted : OursAccepted
 ours-accepted c p b o z =

@@ -1,5 +1,5 @@
 -- Answers that meet a contract of `plan` are equal.
-use Rattle.laws.proofs.Base.{_≡_, refl, sym, ap, _∙_, cond, List, ℕ, eqb, ne-eqb}
+use Rattle.laws.proofs.Base.{_≡_, refl, sym, ap, _∙_, cond, ℕ, eqb, ne-eqb}
 use Rattle.laws.proofs.Map.{map-injective}
 use Rattle.refusals.specs.Number.{numberOf}
 use Rattle.refusals.proofs.Inverse.{refusalOf, refusalOf-numberOf, numberOf-positive}

@@ -1,12 +1,12 @@
 -- Which test of a plan file answers: those of its front, on plain facts, and after them those of the plan by value.
-use Rattle.laws.proofs.Base.{_≡_, refl, sym, ap, _∙_, Bool, true, false, cond, not, List, [], _∷_, _++_, ℕ, _+_, _*_, _-_, _≤_, _<_, arith, eqb, length, take, drop, replicate, take-append-seam, eq-eqb, ne-eqb, eqb-true, lt-ltb, le-ltb, ltb-false, not-false}
+use Rattle.laws.proofs.Base.{_≡_, refl, _∙_, Bool, true, false, cond, not, List, [], _∷_, _++_, ℕ, _+_, _*_, _-_, _≤_, _<_, arith, eqb, length, take, drop, replicate, take-append-seam, eq-eqb, ne-eqb, eqb-true, lt-ltb, le-ltb, ltb-false, not-false}
 use Rattle.laws.specs.Ruled.{ruled, unless0}
 use Rattle.laws.specs.Search.{some}
-use Rattle.laws.proofs.Outcome.{Outcome, refuses, passes, outcome}
 use Rattle.laws.proofs.Ruled.{NoneHolds, none-holds, ruled-none}
 use Rattle.laws.proofs.Tests.{neither}
 use Rattle.page.specs.Paper.{octet}
 use Rattle.plan.specs.Paper.{Entry, Plan, free, filledPlan, bad, planNumber}
+use Rattle.plan.proofs.Answers.{ruled-refuses}
 use Rattle.plan_read.specs.Paper.{sixteen, marked, listed, Read, refusal, faults, readPlan}
 use Rattle.plan_read.specs.Inner.{frontNumber}
 use Rattle.plan_read.proofs.Entries.{length-entries}
@@ -43,11 +43,7 @@ module _ (f : List ℕ) where
   -- a front that is refused refuses the file
   pub front-refuses : (n : ℕ) → frontNumber f ≡ n → (n ≡ 0 → ⊥) → readPlan f ≡ refusal n
   unfolding readPlan frontNumber
-  front-refuses n e k = go (outcome (take 4 (faults f)))
-    where
-      go : Outcome (take 4 (faults f)) → readPlan f ≡ refusal n
-      go (refuses m a q) = q Read refusal _ ∙ ap refusal (sym (q ℕ (λ (x : ℕ). x) 0) ∙ e)
-      go (passes h q) = absurd (k (sym e ∙ q ℕ (λ (x : ℕ). x) 0))
+  front-refuses n e k = ruled-refuses (take 4 (faults f)) n e k Read refusal _
 
 -- a plan of some entries, no more than 48, is good unless one of them is bad
 pub filled-number : (es : List Entry) → length es ≤ 48 → planNumber (filledPlan es) ≡ cond (some bad es) 33 0

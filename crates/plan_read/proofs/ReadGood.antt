@@ -1,8 +1,8 @@
 -- Whatever is read from a plan file is a good plan.
-use Rattle.laws.proofs.Base.{_≡_, refl, ap, _∙_, Bool, true, false, not, List, ℕ, eqb, eqb-true, eqb-false}
+use Rattle.laws.proofs.Base.{_≡_, refl, Bool, true, false, eqb, eqb-true, eqb-false}
 use Rattle.laws.specs.Search.{some}
 use Rattle.plan.specs.Paper.{filledPlan, empty, planNumber}
-use Rattle.plan_read.specs.Paper.{listed, Read, readPlan}
+use Rattle.plan_read.specs.Paper.{listed, readPlan}
 use Rattle.plan_read.specs.Claims.{ReadIsGood}
 use Rattle.plan_read.specs.Inner.{frontNumber}
 use Rattle.plan_read.proofs.Answers.{front-refuses, front-passes}

@@ -1,5 +1,5 @@
 -- The lowest slot of the page of a slot: it is no higher, has the same page, and is its own lowest.
-use Rattle.laws.proofs.Base.{_≡_, refl, sym, ap, _∙_, true, ℕ, suc, _-_, _≤_, _<_, arith, by-contra, length, getD, length-take, List·getD-eq-default, getD-take}
+use Rattle.laws.proofs.Base.{_≡_, refl, sym, ap, _∙_, true, ℕ, suc, _-_, _<_, arith, by-contra, length, getD, length-take, List·getD-eq-default, getD-take}
 use Rattle.plan.specs.Paper.{Entry, Plan, free, entriesWithin, entryAt}
 use Rattle.plan_slots.specs.Paper.{holds, pageAt, lowestAt}
 use Rattle.plan_slots.specs.Claims.{Leading, LowestLeads}

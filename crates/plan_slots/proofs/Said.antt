@@ -5,7 +5,7 @@ use Rattle.laws.specs.Search.{some, firstFrom}
 use Rattle.laws.specs.Upto.{each}
 use Rattle.laws.proofs.Upto.{each-length, each-at}
 use Rattle.plan_slots.specs.declared.Planned.{Planned as PlannedCode}
-use Rattle.plan.specs.Paper.{Entry, Plan, free, entryAt}
+use Rattle.plan.specs.Paper.{Plan, entryAt}
 use Rattle.plan_slots.specs.Inner.{nonePlanned, saidAt, allPlanned, nothing, counted, saidBy, Marks, searched, Says}
 use Rattle.plan_slots.specs.Paper.{Planned, pageAt, plannedAt, lowestSlot, hasPage}
 use Rattle.plan_slots.specs.Coded.{plannedOf}

@@ -27,10 +27,10 @@ planned c p i = record { new = newAt c p i; told = plannedTold c i }
 
 -- 01 Schedule message, 000 3.5.5: the octets of a description: two with bit 8 set and 15 bits, high part first, for a first transmission; else one
 abbrev pub octetsOf : Told → List ℕ
-octetsOf (first x) = (128 + x / 256) ∷ (x % 256) ∷ []
+octetsOf (first x) = (0x80 + x / 256) ∷ (x % 256) ∷ []
 octetsOf (again n) = n ∷ []
-octetsOf optional = 64 ∷ []
-octetsOf advised = 65 ∷ []
+octetsOf optional = 0x40 ∷ []
+octetsOf advised = 0x41 ∷ []
 
 -- 01 Schedule message: the octets of the descriptions of some slots, one after the other
 unfoldable pub octetsOfAll : (ℕ → Shown) → List ℕ → List ℕ
@@ -68,7 +68,7 @@ usedPart b s n = (b ∷ n ∷ []) ++ (bitmapOf s n ++ descriptions s n)
 
 -- 01 Schedule message: after that 2B, up to 88 octets
 unfoldable pub padded : List ℕ → List ℕ
-padded o = o ++ replicate (88 - length o) 43
+padded o = o ++ replicate (88 - length o) 0x2b
 
 -- 01 Schedule message: the message that tells n slots
 abbrev pub messageOf : ℕ → (ℕ → Shown) → ℕ → List ℕ

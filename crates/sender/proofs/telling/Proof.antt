@@ -4,7 +4,8 @@ use borrow.Author.Count.{below-none}
 use Rattle.plan.specs.Coded.{planOf}
 use Rattle.plan_slots.specs.Coded.{plannedOf}
 use Rattle.plan_slots.specs.Inner.{nothing}
-use Rattle.sender.specs.Coded.{shownIn, shownBy}
+use Rattle.sender.specs.Coded.{shownIn}
+use Rattle.sender.specs.Inner.{shownBy}
 use Rattle.sender.proofs.Tells.{all-counted, all-told, told-more}
 use Rattle.sender.proofs.telling.Statement.{statement}
 use Rattle.sender.proofs.telling.Tie as tie
