@@ -1,6 +1,7 @@
 -- The lowest slot of the page of a slot: it is no higher, has the same page, and is its own lowest.
-use Rattle.laws.proofs.Base.{_≡_, refl, sym, ap, _∙_, true, ℕ, suc, _-_, _<_, arith, by-contra, length, getD, length-take, List·getD-eq-default, getD-take}
-use Rattle.plan.specs.Paper.{Entry, Plan, free, entriesWithin, entryAt}
+use Rattle.laws.proofs.Base.{_≡_, refl, sym, _∙_, true, ℕ, _-_, _<_, arith, getD, length-take, getD-take}
+use Rattle.plan.specs.Paper.{Plan, free, entriesWithin, entryAt}
+use Rattle.plan.proofs.GoodPlan.{inside}
 use Rattle.plan_slots.specs.Paper.{holds, pageAt, lowestAt}
 use Rattle.plan_slots.specs.Claims.{Leading, LowestLeads}
 use Rattle.plan_slots.proofs.Slots.{holds-kind, holds-own, holds-identifier, lowest-same, Has, Lowest, absent, lowest, lowest-slot, lowest-reached}
@@ -10,21 +11,11 @@ module _ (p : Plan) where
   within-at i l = getD-take (p .count) (p .entries) i free l
 
   module _ (i : ℕ) (l : i < p .count) (k : entryAt p i .kind ≡ 2) where
-    -- an entry past the array is free, so one with a page is in it
-    inside : i < length (p .entries)
-    inside =
-        by-contra (suc i) (length (p .entries))
-        (λ far.
-        let none : entryAt p i .kind ≡ 0 =
-        ap (λ (e : Entry). e .kind) (List·getD-eq-default (p .entries) free (omega arith))
-        in
-        omega arith)
-
     -- a slot within the count that is planned with a page has that page
     pub has-own : Has p (pageAt p i) i
     has-own =
         record {
-          inside = rw length-take (let a = inside in omega arith);
+          inside = rw length-take (let a = inside p i (omega arith) in omega arith);
           holding = rw (within-at i l) (holds-own (entryAt p i) k);
         }
 

@@ -1,6 +1,6 @@
 -- Marks: two entries with a page have the same one exactly if their marks are equal, so that a search among marks finds a page's slots.
-use Rattle.laws.proofs.Base.{_≡_, refl, sym, ap, _∙_, Bool, true, false, not, List, [], _∷_, ℕ, zero, suc, _+_, _<_, arith, eqb, ltb, length, getD, take, set, replicate, length-map, length-set, take-all, getD-set-same, getD-set-other, eq-eqb, ne-eqb, eqb-true, eqb-false, ltb-true}
-use borrow.Author.Count.{below-none}
+use Rattle.laws.proofs.Base.{_≡_, refl, sym, ap, _∙_, Bool, true, false, not, List, [], _∷_, ℕ, zero, suc, _+_, _<_, min, arith, eqb, ltb, length, getD, take, set, replicate, length-map, length-set, take-all, getD-set-same, getD-set-other, eq-eqb, ne-eqb, eqb-true, eqb-false, ltb-true, ltb-false}
+use borrow.Author.Count.{below-none, below-more}
 use Rattle.laws.specs.Search.{some, firstFrom}
 use Rattle.laws.proofs.Search.{found-some}
 use Rattle.page.specs.Paper.{samePage}
@@ -10,7 +10,7 @@ use Rattle.plan.specs.declared.Entry.{Entry as EntryCode}
 use Rattle.plan.specs.Paper.{Entry, free}
 use Rattle.plan_slots.specs.Paper.{pageOf, holds}
 use Rattle.plan.specs.Coded.{entryOf, entriesOf}
-use Rattle.plan_slots.specs.Inner.{counted, Marked, Marks}
+use Rattle.plan_slots.specs.Inner.{Marked, Marks}
 use Rattle.plan.proofs.Entries.{none, entry-at}
 
 pub marks-none : (es : List EntryCode) → length es ≡ 48 → Marks (replicate 48 0) (entriesOf es) 0
@@ -20,15 +20,14 @@ marks-none es full = record { long = refl; whole = length-map es entryOf ∙ ful
 pub marks-more : (es : List EntryCode) (ms : List ℕ) (i m : ℕ) → i < length es → Marks ms (entriesOf es) i
     → Marked m (entryOf (getD es i none)) → Marks (set ms i m) (entriesOf es) (i + 1)
 marks-more es ms i m l h own =
-    record { long = length-set ms i m ∙ h .long; whole = h .whole; each = λ k b. go k b (eqb k i) refl }
-  where
-    go : (k : ℕ) → k < i + 1 → (b : Bool) → eqb k i ≡ b → Marked (getD (set ms i m) k 0) (getD (entriesOf es) k free)
-    go k b true q =
-        let room : i < length ms = omega (arith, h .long, h .whole, length-map es entryOf) in
-        rw (eqb-true k i q, getD-set-same ms i m 0 room, entry-at es i l) own
-    go k b false q =
-        let other = eqb-false k i q in
-        rw (getD-set-other ms i k m 0 other) (h .each k (omega arith))
+    let room : i < length ms = omega (arith, h .long, h .whole, length-map es entryOf) in
+    record {
+      long = length-set ms i m ∙ h .long;
+      whole = h .whole;
+      each =
+          below-more _ i (λ k b. let other : k ≡ i → ⊥ = λ e. omega arith in rw (getD-set-other ms i k m 0 other) (h .each k b))
+          (rw (getD-set-same ms i m 0 room, entry-at es i l) own);
+    }
 
 -- none of some marks is as given where the first that is has place 0
 pub lacks-mark : (m : ℕ) (ms : List ℕ) (s : ℕ) → s ≡ firstFrom (eqb m) 1 ms → eqb s 0 ≡ not (some (eqb m) ms)
@@ -79,18 +78,19 @@ module _ (m : ℕ) (a : Entry) (p : Marked m a) (two : a .kind ≡ 2) where
 
   module _ (ms : List ℕ) (es : List Entry) (h : Marks ms es 48) (n : ℕ) where
     -- the first of the marks within a count is that of the lowest slot with the page
-    pub lowest-marked : firstFrom (eqb m) 1 (take (counted n) ms) ≡ firstFrom (holds (pageOf a)) 1 (take n es)
+    pub lowest-marked : firstFrom (eqb m) 1 (take (min n 48) ms) ≡ firstFrom (holds (pageOf a)) 1 (take n es)
     lowest-marked = rw (within (ltb 48 n) refl) (first-marked 1 n ms es (h .long ∙ sym (h .whole)) (λ i b. h .each i (omega (arith, h .whole))))
       where
-        within : (b : Bool) → ltb 48 n ≡ b → take (counted n) ms ≡ take n ms
+        within : (b : Bool) → ltb 48 n ≡ b → take (min n 48) ms ≡ take n ms
         within true e =
             let over = ltb-true 48 n e in
-            rw e (take-all 48 ms (omega (arith, h .long)) ∙ sym (take-all n ms (omega (arith, h .long))))
-        within false e = rw e
+            let cut : min n 48 ≡ 48 = omega arith in
+            rw cut (take-all 48 ms (omega (arith, h .long)) ∙ sym (take-all n ms (omega (arith, h .long))))
+        within false e = let whole : min n 48 ≡ n = omega (arith, ltb-false 48 n e) in rw whole
 
     -- a page is among the marks within a count exactly if the plan has it
-    pub some-marked : some (eqb m) (take (counted n) ms) ≡ some (holds (pageOf a)) (take n es)
+    pub some-marked : some (eqb m) (take (min n 48) ms) ≡ some (holds (pageOf a)) (take n es)
     some-marked =
-        sym (found-some (eqb m) 0 (take (counted n) ms))
+        sym (found-some (eqb m) 0 (take (min n 48) ms))
         ∙ ap (λ (s : ℕ). not (eqb s 0)) lowest-marked
         ∙ found-some (holds (pageOf a)) 0 (take n es)

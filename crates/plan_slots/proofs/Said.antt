@@ -1,56 +1,31 @@
 -- What is said of the slots of a plan, told from the marks of it and of the plan before.
-use Rattle.laws.proofs.Base.{_≡_, refl, sym, ap, _∙_, Bool, true, false, cond, List, map, ℕ, _+_, _≤_, _<_, arith, eqb, ltb, length, getD, take, set, replicate, getD-replicate, length-map, length-set, List·getD-map, ext-getD, getD-take, getD-set-same, getD-set-other, eqb-true, eqb-false, lt-ltb, ltb-true, ltb-false}
-use borrow.Author.Count.{below-none}
+use Rattle.laws.proofs.Base.{_≡_, refl, sym, ap, _∙_, Bool, true, false, cond, List, map, ℕ, _+_, _≤_, _<_, min, arith, eqb, ltb, getD, take, set, replicate, getD-replicate, length-map, length-set, List·getD-map, ext-getD, getD-take, getD-set-same, getD-set-other, eqb-true, lt-ltb, ltb-true, ltb-false}
+use borrow.Author.Count.{below-none, below-more}
 use Rattle.laws.specs.Search.{some, firstFrom}
 use Rattle.laws.specs.Upto.{each}
 use Rattle.laws.proofs.Upto.{each-length, each-at}
 use Rattle.plan_slots.specs.declared.Planned.{Planned as PlannedCode}
 use Rattle.plan.specs.Paper.{Plan, entryAt}
-use Rattle.plan_slots.specs.Inner.{nonePlanned, saidAt, allPlanned, nothing, counted, saidBy, Marks, searched, Says}
+use Rattle.plan_slots.specs.Inner.{nonePlanned, saidAt, allPlanned, nothing, saidBy, Marks, searched, Says}
 use Rattle.plan_slots.specs.Paper.{Planned, pageAt, plannedAt, lowestSlot, hasPage}
 use Rattle.plan_slots.specs.Coded.{plannedOf}
 use Rattle.plan_slots.proofs.Marks.{lowest-marked, some-marked}
 use Rattle.plan_slots.proofs.Slots.{lowest-counted}
 
--- a slot below a count that is cut is below the count, and below 48
-below-counted : (n i : ℕ) → i < counted n → (i < n) × (i < 48)
-below-counted n i l = go (ltb 48 n) refl
-  where
-    go : (b : Bool) → ltb 48 n ≡ b → (i < n) × (i < 48)
-    go true e = let over = ltb-true 48 n e in let low : i < 48 = rw e at l in (omega arith, low)
-    go false e = let few = ltb-false 48 n e in let low : i < n = rw e at l in (low, omega arith)
-
-counted-below : (n i : ℕ) → i < n → i < 48 → i < counted n
-counted-below n i l k = go (ltb 48 n) refl
-  where
-    go : (b : Bool) → ltb 48 n ≡ b → i < counted n
-    go true e = rw e k
-    go false e = rw e l
-
-counted-above : (n i : ℕ) → n ≤ i → counted n ≤ i
-counted-above n i l = go (ltb 48 n) refl
-  where
-    go : (b : Bool) → ltb 48 n ≡ b → counted n ≤ i
-    go true e = let over = ltb-true 48 n e in rw e (omega arith)
-    go false e = rw e l
-
 module _ (c p : Plan) (ms qs : List ℕ) (h : Marks ms (c .entries) 48) (before : Marks qs (p .entries) 48) where
-  pub searched-said : (i : ℕ) → i < counted (c .count) → searched (c .entries) (take (counted (c .count)) ms) (take (counted (p .count)) qs) i ≡ saidAt c p i
+  pub searched-said : (i : ℕ) → i < min (c .count) 48 → searched (c .entries) (take (min (c .count) 48) ms) (take (min (p .count) 48) qs) i ≡ saidAt c p i
   unfolding saidBy saidAt lowestSlot hasPage
-  searched-said i l = rw (lt-ltb i (c .count) (low .0), getD-take (counted (c .count)) ms i 0 l) (go (eqb (entryAt c i .kind) 2) refl)
+  searched-said i l = rw (lt-ltb i (c .count) (omega arith), getD-take (min (c .count) 48) ms i 0 l) (go (eqb (entryAt c i .kind) 2) refl)
     where
-      low : (i < c .count) × (i < 48)
-      low = below-counted (c .count) i l
-
       m : ℕ
       m = getD ms i 0
 
       go : (b : Bool) → eqb (entryAt c i .kind) 2 ≡ b
-          → saidBy (entryAt c i) (firstFrom (eqb m) 1 (take (counted (c .count)) ms)) (some (eqb m) (take (counted (p .count)) qs))
+          → saidBy (entryAt c i) (firstFrom (eqb m) 1 (take (min (c .count) 48) ms)) (some (eqb m) (take (min (p .count) 48) qs))
           ≡ cond (eqb (entryAt c i .kind) 2) (plannedAt c p i) (nonePlanned (entryAt c i .kind))
       go true k =
           let two = eqb-true (entryAt c i .kind) 2 k in
-          let own = h .each i (low .1) in
+          let own = h .each i (omega arith) in
           rw (k, lowest-marked m (entryAt c i) own two ms (c .entries) h (c .count), some-marked m (entryAt c i) own two qs (p .entries) before (p .count))
       go false k = rw k
 
@@ -68,21 +43,18 @@ module _ (f : ℕ → Planned) where
   says-more xs i x l h own =
       record {
         long = length-set xs i x ∙ h .long;
-        said = λ k b. go k b (eqb k i) refl;
-        rest = λ k b m. let other : k ≡ i → ⊥ = λ e. omega arith in rw (getD-set-other xs i k x nothing other) (h .rest k b (omega arith));
+        said =
+            below-more _ i (λ k b. kept k (λ e. omega arith) (h .said k b))
+            (rw (getD-set-same xs i x nothing (rw (h .long) l)) own);
+        rest = λ k b m. kept k (λ e. omega arith) (h .rest k b (omega arith));
       }
     where
-      go : (k : ℕ) → k < i + 1 → (b : Bool) → eqb k i ≡ b → plannedOf (getD (set xs i x) k nothing) ≡ f k
-      go k b true q =
-          let room : i < length xs = omega (arith, h .long) in
-          rw (eqb-true k i q, getD-set-same xs i x nothing room) own
-      go k b false q =
-          let other = eqb-false k i q in
-          rw (getD-set-other xs i k x nothing other) (h .said k (omega arith))
+      kept : (k : ℕ) {v : Planned} → (k ≡ i → ⊥) → plannedOf (getD xs k nothing) ≡ v → plannedOf (getD (set xs i x) k nothing) ≡ v
+      kept k other q = rw (getD-set-other xs i k x nothing other) q
 
 module _ (c p : Plan) (xs : List PlannedCode) where
   -- the array filled up to the count
-  pub says-all : (f : ℕ → Planned) → ((i : ℕ) → i < counted (c .count) → f i ≡ saidAt c p i) → Says f xs (counted (c .count)) → map plannedOf xs ≡ allPlanned c p
+  pub says-all : (f : ℕ → Planned) → ((i : ℕ) → i < min (c .count) 48 → f i ≡ saidAt c p i) → Says f xs (min (c .count) 48) → map plannedOf xs ≡ allPlanned c p
   unfolding allPlanned saidAt
   says-all f q h =
       ext-getD (nonePlanned 0) (map plannedOf xs) (each (saidAt c p) 48) (length-map xs plannedOf ∙ h .long ∙ sym (each-length (saidAt c p) 48))
@@ -91,8 +63,8 @@ module _ (c p : Plan) (xs : List PlannedCode) where
       List·getD-map plannedOf xs i nothing ∙ slot i low (ltb i (c .count)) refl ∙ sym (each-at (saidAt c p) 48 i (nonePlanned 0) low))
     where
       slot : (i : ℕ) → i < 48 → (b : Bool) → ltb i (c .count) ≡ b → plannedOf (getD xs i nothing) ≡ saidAt c p i
-      slot i l true e = let k = counted-below (c .count) i (ltb-true i (c .count) e) l in h .said i k ∙ q i k
-      slot i l false e = h .rest i l (counted-above (c .count) i (ltb-false i (c .count) e)) ∙ rw e
+      slot i l true e = let k : i < min (c .count) 48 = omega (arith, ltb-true i (c .count) e) in h .said i k ∙ q i k
+      slot i l false e = h .rest i l (omega (arith, ltb-false i (c .count) e)) ∙ rw e
 
   -- what the array says of a slot
   pub says-at : map plannedOf xs ≡ allPlanned c p → (i : ℕ) → i < 48 → plannedOf (getD xs i nothing) ≡ saidAt c p i

@@ -28,10 +28,6 @@ saidAt c p i =
 unfoldable pub allPlanned : Plan → Plan → List Planned
 allPlanned c p = each (saidAt c p) 48
 
--- the slots of a count that there are entries for
-abbrev pub counted : ℕ → ℕ
-counted n = cond (ltb 48 n) 48 n
-
 -- an entry as one number
 abbrev pub markOf : Entry → ℕ
 markOf e = keyOf (pageOf e) * 65536 + e .kind

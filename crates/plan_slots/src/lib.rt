@@ -1,13 +1,13 @@
 // What a plan and the plan before it say of each slot.
 ghost use mathlib.Core.Path.{_≡_};
 ghost use mathlib.Core.List.{map};
-ghost use Prim.Native.Nat.{_≤_};
+ghost use Prim.Native.Nat.{_≤_, min};
 ghost use lib.Dec.{eqb};
 ghost use lib.ListN.{length};
 ghost use Rattle.laws.specs.Search.{some, firstFrom};
 ghost use Rattle.plan.specs.Coded.{entryOf, entriesOf, planOf};
 ghost use Rattle.plan_slots.specs.Coded.{plannedOf};
-ghost use Rattle.plan_slots.specs.Inner.{nonePlanned, allPlanned, counted, saidBy, Marked, Marks, searched, Says};
+ghost use Rattle.plan_slots.specs.Inner.{nonePlanned, allPlanned, saidBy, Marked, Marks, searched, Says};
 use page::PageName;
 use plan::Entry;
 use plan::Plan;
@@ -95,7 +95,7 @@ fn planned_by(entry: Entry, mark: u64, current: &[u64], previous: &[u64]) -> Pla
 
 // The slots of a count that a plan has entries for.
 fn slots_of(count: usize) -> usize
-    ensures { λ r. ⌜ (r ≡ counted count) × (r ≤ 48) ⌝ }
+    ensures { λ r. ⌜ r ≡ min count 48 ⌝ }
 {
     if count > SLOTS {
         return SLOTS;

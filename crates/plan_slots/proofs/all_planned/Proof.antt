@@ -16,7 +16,7 @@ returns c =
     let long : length (take (n .result) (ms .result)) ≡ n .result = length-take-le (n .result) (ms .result) (omega arith) in
     says-all (planOf (a .current)) (planOf (a .previous)) (c .said-by-marks .result) _
     (searched-said (planOf (a .current)) (planOf (a .previous)) (ms .result) (older .result) (ms .ensures) (older .ensures))
-    (rw (long, n .ensures .0, counts .slots-of2 .ensures .0) at (c .said-by-marks .ensures))
+    (rw (long, n .ensures, counts .slots-of2 .ensures) at (c .said-by-marks .ensures))
 
 pub all-planned-spec : {M : Type 1} → statement M
 all-planned-spec =
