@@ -41,8 +41,8 @@ unfolding shownBy saidAt plannedTold newAt
 told-said c p i l = rw (lt-ltb i (c .count) l) (go (eqb (entryAt c i .kind) 2) refl)
   where
     go : (b : Bool) → eqb (entryAt c i .kind) 2 ≡ b → shownBy (cond (eqb (entryAt c i .kind) 2) (plannedAt c p i) (nonePlanned (entryAt c i .kind))) i ≡ planned c p i
-    go true k = rw k
-    go false k = rw k
+    go true k = rw (k, k)
+    go false k = rw (k, k)
 
 module _ (c p : Plan) (xs : List PlannedCode) (q : map plannedOf xs ≡ allPlanned c p) (few : c .count ≤ 48) (i : ℕ) (l : i < c .count) where
   -- a slot that an array of all that the plans say names is within the count
