@@ -35,11 +35,14 @@ module _ (front rest : List ℕ) where
   told-at optional h = rw (at-front 64 rest)
   told-at advised h = rw (at-front 65 rest)
 
+one-below : (x : ℕ) → x < 256 → Below 256 (x ∷ [])
+one-below x l = below-cons 256 x [] l (below-nil 256 (omega arith))
+
 octets-below : (t : Told) → Tellable t → Below 256 (octetsOf t)
-octets-below (first x) h = below-cons 256 (128 + x / 256) (x % 256 ∷ []) (omega arith) (below-cons 256 (x % 256) [] (omega arith) (below-nil 256 (omega arith)))
-octets-below (again k) h = below-cons 256 k [] (omega arith) (below-nil 256 (omega arith))
-octets-below optional h = below-cons 256 64 [] (omega arith) (below-nil 256 (omega arith))
-octets-below advised h = below-cons 256 65 [] (omega arith) (below-nil 256 (omega arith))
+octets-below (first x) h = below-cons 256 (128 + x / 256) (x % 256 ∷ []) (omega arith) (one-below (x % 256) (omega arith))
+octets-below (again k) h = one-below k (omega arith)
+octets-below optional h = one-below 64 (omega arith)
+octets-below advised h = one-below 65 (omega arith)
 
 module _ (s : ℕ → Shown) where
   all-below : (is : List ℕ) → ((k : ℕ) → k < length is → Tellable (s (getD is k 0) .told)) → Below 256 (octetsOfAll s is)
