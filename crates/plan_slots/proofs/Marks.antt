@@ -1,9 +1,8 @@
 -- Marks: two entries with a page have the same one exactly if their marks are equal, so that a search among marks finds a page's slots.
-use Rattle.laws.proofs.Base.{_≡_, refl, sym, ap, _∙_, Bool, true, false, not, List, [], _∷_, ℕ, zero, suc, _+_, _<_, min, arith, eqb, ltb, length, getD, take, set, replicate, length-map, length-set, take-all, getD-set-same, getD-set-other, eq-eqb, ne-eqb, eqb-true, eqb-false, ltb-true, ltb-false}
+use Rattle.laws.proofs.Base.{_≡_, refl, sym, ap, _∙_, Bool, true, false, not, _&&_, List, [], _∷_, ℕ, zero, suc, _+_, _<_, min, arith, eqb, ltb, length, getD, take, set, replicate, length-map, length-set, take-all, getD-set-same, getD-set-other, eq-eqb, ne-eqb, eqb-true, eqb-false, ltb-true, ltb-false}
 use borrow.Author.Count.{below-none, below-more}
 use Rattle.laws.specs.Search.{some, firstFrom}
 use Rattle.laws.proofs.Search.{found-some}
-use Rattle.page.specs.Paper.{samePage}
 use Rattle.page.specs.Coded.{keyOf}
 use Rattle.page.proofs.Sameness.{Small, key-same}
 use Rattle.plan.specs.declared.Entry.{Entry as EntryCode}
@@ -41,29 +40,21 @@ module _ (m : ℕ) (a : Entry) (p : Marked m a) (two : a .kind ≡ 2) where
   -- an entry holds the page of another exactly if their marks are equal
   mark-holds : (n : ℕ) (b : Entry) → Marked n b → eqb m n ≡ holds (pageOf a) b
   unfolding holds
-  mark-holds n b q = go (eqb (b .kind) 2) refl (samePage (pageOf b) (pageOf a)) refl
+  mark-holds n b q = rw (sym (key-same (pageOf b) (pageOf a) (small n b q) (small m a p))) (go (eqb (b .kind) 2) (eqb other own) refl refl)
     where
       small : (k : ℕ) (e : Entry) → Marked k e → Small (pageOf e)
       small k e h = record { serial = h .serial; id = h .id }
 
-      keys : (r : Bool) → samePage (pageOf b) (pageOf a) ≡ r → eqb (keyOf (pageOf b)) (keyOf (pageOf a)) ≡ r
-      keys r e = key-same (pageOf b) (pageOf a) (small n b q) (small m a p) ∙ e
+      own : ℕ
+      own = keyOf (pageOf a)
 
-      go : (k : Bool) → eqb (b .kind) 2 ≡ k → (r : Bool) → samePage (pageOf b) (pageOf a) ≡ r → eqb m n ≡ holds (pageOf a) b
-      go true k true e =
-          let alike = eqb-true (keyOf (pageOf b)) (keyOf (pageOf a)) (keys true e) in
-          let kind = eqb-true (b .kind) 2 k in
-          let equal : m ≡ n = omega (arith, p .marks, q .marks) in
-          rw (k, e) (eq-eqb m n equal)
-      go true k false e =
-          let other = eqb-false (keyOf (pageOf b)) (keyOf (pageOf a)) (keys false e) in
-          let kind = eqb-true (b .kind) 2 k in
-          let differ : m ≡ n → ⊥ = λ w. other (omega (arith, p .marks, q .marks)) in
-          rw (k, e) (ne-eqb m n differ)
-      go false k r e =
-          let other = eqb-false (b .kind) 2 k in
-          let differ : m ≡ n → ⊥ = λ w. other (omega (arith, p .marks, q .marks, q .kind)) in
-          rw k (ne-eqb m n differ)
+      other : ℕ
+      other = keyOf (pageOf b)
+
+      go : (k r : Bool) → eqb (b .kind) 2 ≡ k → eqb other own ≡ r → eqb m n ≡ (k && r)
+      go true true e f = eq-eqb m n (omega (arith, p .marks, q .marks, eqb-true (b .kind) 2 e, eqb-true other own f))
+      go true false e f = ne-eqb m n (λ w. eqb-false other own f (omega (arith, p .marks, q .marks, eqb-true (b .kind) 2 e)))
+      go false r e f = ne-eqb m n (λ w. eqb-false (b .kind) 2 e (omega (arith, p .marks, q .marks, q .kind)))
 
   first-marked : (s n : ℕ) (ms : List ℕ) (es : List Entry) → length ms ≡ length es
       → ((i : ℕ) → i < length es → Marked (getD ms i 0) (getD es i free))

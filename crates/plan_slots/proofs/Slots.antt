@@ -53,27 +53,18 @@ module _ (p : Plan) (x : Name) where
     pub holding : holds x (getD (entriesWithin p) i free) ≡ true
 
   -- no slot holds the page, or one does and none below it
-  pub data Lowest (s : ℕ) : Type 0 where
-    absent : s ≡ 0 → ((i : ℕ) → Has i → ⊥) → Lowest s
-    lowest : (i : ℕ) → s ≡ suc i → Has i → ((j : ℕ) → j < i → Has j → ⊥) → Lowest s
-
-  pub lowest-slot : Lowest (lowestSlot p x)
+  pub lowest-slot : Found (holds x) free 1 (entriesWithin p) (lowestSlot p x)
   unfolding lowestSlot
-  lowest-slot = go (searched (holds x) free 1 (entriesWithin p))
-    where
-      go : {s : ℕ} → Found (holds x) free 1 (entriesWithin p) s → Lowest s
-      go (none-passes e each) = absent e (λ i h. false≢true (sym (each i (h .inside)) ∙ h .holding))
-      go (first-passes i e h q each) =
-          lowest i (omega arith) (record { inside = h; holding = q }) (λ j k o. false≢true (sym (each j k) ∙ o .holding))
+  lowest-slot = searched (holds x) free 1 (entriesWithin p)
 
   -- a slot that holds the page is no lower than the lowest
   pub lowest-reached : (i : ℕ) → Has i → (0 < lowestSlot p x) × (lowestSlot p x ≤ suc i)
   lowest-reached i h = go (lowestSlot p x) lowest-slot
     where
-      go : (s : ℕ) → Lowest s → (0 < s) × (s ≤ suc i)
-      go s (absent e none) = absurd (none i h)
-      go s (lowest k e own none) =
-          let least : i < k → ⊥ = λ l. none i l h in
+      go : (s : ℕ) → Found (holds x) free 1 (entriesWithin p) s → (0 < s) × (s ≤ suc i)
+      go s (none-passes e none) = absurd (false≢true (sym (none i (h .inside)) ∙ h .holding))
+      go s (first-passes k e l q none) =
+          let least : i < k → ⊥ = λ b. false≢true (sym (none i b) ∙ h .holding) in
           (omega arith, omega arith)
 
   -- a plan has a page exactly where there is a lowest slot with it
@@ -85,6 +76,6 @@ module _ (p : Plan) (x : Name) where
 pub lowest-counted : (p : Plan) (x : Name) → lowestSlot p x ≤ p .count
 lowest-counted p x = go (lowest-slot p x)
   where
-    go : Lowest p x (lowestSlot p x) → lowestSlot p x ≤ p .count
-    go (absent e none) = omega arith
-    go (lowest k e own none) = omega (arith, own .inside, length-take (p .count) (p .entries))
+    go : {s : ℕ} → Found (holds x) free 1 (entriesWithin p) s → s ≤ p .count
+    go (none-passes e none) = omega arith
+    go (first-passes k e h q none) = omega (arith, length-take (p .count) (p .entries))

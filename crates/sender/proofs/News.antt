@@ -20,10 +20,6 @@ module _ (s : ℕ → Shown) (n j : ℕ) where
   pub newBits-room : (k : ℕ) → k < 8 → newBits s n j k < 128
   newBits-room k h = let low : k ≤ 7 = omega arith in let p : 2 ^ k ≤ 2 ^ 7 = pow-le-pow-right {n = 2} (omega arith) low in omega (arith, newBits-lt k)
 
-  pub newBits-none : newBits s n j 0 ≡ 0
-  unfolding newBits
-  newBits-none = refl
-
   pub newBits-next : (k : ℕ) → newBits s n j (k + 1) ≡ 2 * newBits s n j k + newBit s n (8 * j + k)
   unfolding newBits
   newBits-next k = rw add-one
