@@ -3,7 +3,8 @@ use Rattle.laws.proofs.Base.{_≡_, refl, subst, Bool, true, false, not, List, 
 use Rattle.sizes.specs.Paper.{wholeBlocks}
 use Rattle.laws.specs.Search.{some, firstFrom}
 use Rattle.page.specs.Paper.{samePage}
-use Rattle.plan.specs.Paper.{Entry, Plan, filledPlan, bad, planNumber, holds, lowestSlot, hasPage, pageAt, lowestAt}
+use Rattle.plan.specs.Paper.{Entry, Plan, filledPlan, bad, planNumber}
+use Rattle.plan_slots.specs.Paper.{holds, lowestSlot, hasPage, pageAt, lowestAt}
 use Rattle.schedule.specs.Paper.{again, new, place, tells, read}
 use Rattle.checker.specs.Paper.{check, isTrue}
 use Rattle.board.specs.Paper.{Wanted, isWanted, reads, decide}

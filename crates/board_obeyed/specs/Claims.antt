@@ -7,7 +7,8 @@ use lib.ListN.{take}
 use lib.Dec.{eqb}
 use Rattle.laws.specs.Search.{some}
 use Rattle.page.specs.Paper.{Name, samePage}
-use Rattle.plan.specs.Paper.{Plan, entryAt, pageAt, lowestAt, low15At}
+use Rattle.plan.specs.Paper.{Plan, entryAt}
+use Rattle.plan_slots.specs.Paper.{pageAt, lowestAt, low15At}
 use Rattle.schedule.specs.Paper.{Told, first, again, optional, advised, tells}
 use Rattle.checker.specs.Paper.{check}
 use Rattle.board.specs.Paper.{Wanted, isWanted, decide}

@@ -1,7 +1,8 @@
 -- Demand 3 over the calls for C follows from demand 3, for each number comes out of what a call returns.
 use Rattle.laws.proofs.Base.{_≡_, refl, sym, ap, _∙_, Bool, true, false, not, List, _∷_, ℕ, zero, suc, _*_, _%_, arith, eqb, length}
 use Rattle.laws.proofs.Ruled.{NoneHolds, ruled-map, none-holds, ruled-none, unless0-numbered}
-use Rattle.plan.specs.Paper.{readPlan}
+use Rattle.plan_read.specs.Paper.{readPlan}
+use Rattle.plan_slots.specs.Paper.{lowestAt}
 use Rattle.sender.specs.Paper.{Writing, unwritten, write}
 use Rattle.checker.specs.Paper.{Checked, unchecked, check}
 use Rattle.block_writer.specs.Paper.{lastUsed}

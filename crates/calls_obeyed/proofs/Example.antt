@@ -4,7 +4,9 @@ use Rattle.sizes.specs.Paper.{wholeBlocks}
 use Rattle.laws.specs.Search.{some, firstFrom}
 use Rattle.laws.specs.Upto as upto
 use Rattle.page.specs.Paper.{samePage}
-use Rattle.plan.specs.Paper.{bad, planNumber, entryIn, entriesIn, readPlan, holds, lowestSlot, hasPage, lowestAt}
+use Rattle.plan.specs.Paper.{bad, planNumber}
+use Rattle.plan_read.specs.Paper.{entryIn, entriesIn, readPlan}
+use Rattle.plan_slots.specs.Paper.{holds, lowestSlot, hasPage, lowestAt}
 use Rattle.schedule.specs.Paper.{new, place, tells, read}
 use Rattle.sender.specs.Paper as sender
 use Rattle.checker.specs.Paper.{check, isTrue}

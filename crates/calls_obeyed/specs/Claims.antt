@@ -6,7 +6,9 @@ use Prim.Native.Nat.{ℕ, zero, suc, _*_, _/_, _%_, _≤_, _<_}
 use lib.Dec.{eqb}
 use lib.ListN.{length}
 use Rattle.block_writer.specs.Paper.{lastUsed}
-use Rattle.plan.specs.Paper.{Plan, readPlan, entryAt, pageAt, lowestAt}
+use Rattle.plan.specs.Paper.{Plan, entryAt}
+use Rattle.plan_read.specs.Paper.{readPlan}
+use Rattle.plan_slots.specs.Paper.{pageAt, lowestAt}
 use Rattle.board.specs.Paper.{Wanted}
 use Rattle.plan_calls.specs.Paper.{writeScheduleCall, checkScheduleCall}
 use Rattle.board_calls.specs.Paper.{decideCall, enterCall}

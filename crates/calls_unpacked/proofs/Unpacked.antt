@@ -10,9 +10,11 @@ use Rattle.calls.proofs.Packed.{apart, bit-most}
 use Rattle.block.specs.Paper.{refusal as refused, step}
 use Rattle.block_history.proofs.History.{number-small}
 use Rattle.firmware.specs.Paper.{heldIn, moved, intakeCall}
-use Rattle.plan.specs.Paper.{Plan, planNumber, Read as PlanRead, filledPlan, listed, faults as planFaults, refusal as planRefusal, readPlan}
+use Rattle.plan.specs.Paper.{Plan, planNumber, filledPlan, entriesWithin, bad}
+use Rattle.plan_read.specs.Paper.{Read as PlanRead, listed, faults as planFaults, refusal as planRefusal, readPlan}
 use Rattle.plan.proofs.GoodPlan.{plan-low}
-use Rattle.schedule.specs.Paper.{end, faults, Read, unread, good, read, Given, next, noMore, refusal, givenAt, given}
+use Rattle.schedule.specs.Paper.{end, faults, Read, unread, good, read, Given, next, noMore, refusal, givenAt, given, Shown}
+use Rattle.page.specs.Paper.{Heading}
 use Rattle.text.specs.Paper.{Writing, written, writerTests, usedOctets, pageOf, Reading, reading, readerTests, shown, trimmed, septetsReceived}
 use Rattle.sender.specs.Paper as sender
 use Rattle.checker.specs.Paper as checker

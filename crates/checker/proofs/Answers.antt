@@ -2,8 +2,10 @@
 use Rattle.laws.proofs.Base.{_≡_, List, ℕ, eq-eqb, ne-eqb}
 use Rattle.laws.specs.Upto.{lowest}
 use Rattle.schedule.specs.Paper.{end, read}
-use Rattle.plan.specs.Paper.{Planned}
+use Rattle.plan_slots.specs.Paper.{Planned}
 use Rattle.checker_plans.specs.Inner.{Plans}
+use Rattle.plan.specs.Paper.{Plan, planNumber}
+use Rattle.plan_slots.specs.Inner.{allPlanned}
 use Rattle.checker.specs.Paper.{unchecked, untrueAt}
 use Rattle.checker.specs.Inner.{untrueTo, compared, checkBeside}
 

@@ -4,7 +4,9 @@ use Rattle.laws.proofs.Lowest.{lowest-agree}
 use Rattle.laws.proofs.Tests.{true-or-false}
 use Rattle.laws.proofs.Upto.{each-at}
 use Rattle.schedule.specs.Paper.{Told, first, again, optional, advised, Shown, shown}
-use Rattle.plan.specs.Paper.{Plan, Planned, planNumber, entryAt, plannedAt, nonePlanned, saidAt, allPlanned}
+use Rattle.plan.specs.Paper.{Plan, planNumber, entryAt}
+use Rattle.plan_slots.specs.Inner.{nonePlanned, saidAt, allPlanned}
+use Rattle.plan_slots.specs.Paper.{Planned, plannedAt}
 use Rattle.plan.proofs.GoodPlan.{good-counted}
 use Rattle.checker_slots.specs.Inner.{trueBy}
 use Rattle.checker_plans.specs.Inner.{beside}

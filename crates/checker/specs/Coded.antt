@@ -7,8 +7,10 @@ use Rattle.refusals.specs.Number.{numberOf}
 use Rattle.schedule.specs.Paper.{new}
 use Rattle.schedule.specs.Inner.{toldBy}
 use Rattle.plan.specs.declared.Planned.{Planned}
-use Rattle.plan.specs.Coded.{plannedOf}
-use Rattle.plan.specs.Inner.{nothing}
+use Rattle.plan_slots.specs.Coded.{plannedOf}
+use Rattle.plan_slots.specs.Inner.{nothing}
+use Rattle.plan_slots.specs.declared.Planned.{Planned}
+use Rattle.plan.specs.Coded.{verdictOf}
 use Rattle.checker.specs.declared.Checking.{Checking}
 use Rattle.checker.specs.declared.Checking.the-variants.{True, Refused}
 use Rattle.checker_slots.specs.Inner.{trueBy}

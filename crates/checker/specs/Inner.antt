@@ -7,7 +7,8 @@ use lib.ListN.{getD}
 use Rattle.laws.specs.Ruled.{ruled, unless0}
 use Rattle.laws.specs.Upto.{lowest}
 use Rattle.schedule.specs.Paper.{shown, end, read}
-use Rattle.plan.specs.Paper.{Planned, nonePlanned}
+use Rattle.plan_slots.specs.Paper.{Planned}
+use Rattle.plan_slots.specs.Inner.{nonePlanned, allPlanned}
 use Rattle.checker_slots.specs.Inner.{trueBy}
 use Rattle.checker_plans.specs.Inner.{Plans}
 use Rattle.checker.specs.Paper.{Checked, unchecked, untrueAt}

@@ -3,8 +3,9 @@ use Rattle.laws.proofs.Base.{_≡_, refl, ap, _∙_, true, not, Bool·beq, _⊎
 use Rattle.laws.proofs.Tests.{beq-true, beq-refl, both, either}
 use Rattle.laws.proofs.Upto.{below-suc}
 use Rattle.schedule.specs.Paper.{Told, first, again, optional, advised, Shown}
-use Rattle.plan.specs.Paper.{Plan, planNumber, entryAt, lowestAt, low15At, Planned, plannedAt}
-use Rattle.plan.proofs.Lowest.{leading}
+use Rattle.plan.specs.Paper.{Plan, planNumber, entryAt}
+use Rattle.plan_slots.specs.Paper.{lowestAt, low15At, Planned, plannedAt}
+use Rattle.plan_slots.proofs.Lowest.{leading}
 use Rattle.checker_slots.specs.Inner.{leads, repeats, mayTell, newFor}
 use Rattle.checker.specs.Paper.{isTrue}
 use Rattle.checker_truth.specs.Claims.{TrueAt}

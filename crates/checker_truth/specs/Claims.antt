@@ -5,7 +5,8 @@ use mathlib.Core.List.{List}
 use mathlib.Core.Logic.{_⊎_}
 use Prim.Native.Nat.{ℕ, suc, _<_}
 use Rattle.schedule.specs.Paper.{first, again, optional, advised, tells, Shown, shown, end, read}
-use Rattle.plan.specs.Paper.{Plan, planNumber, hasPage, entryAt, pageAt, lowestAt, low15At}
+use Rattle.plan.specs.Paper.{Plan, planNumber, entryAt}
+use Rattle.plan_slots.specs.Paper.{hasPage, pageAt, lowestAt, low15At}
 use Rattle.checker.specs.Paper.{check, unchecked}
 
 -- 01 Truthful, at each slot; a reserved description reads as optional

@@ -4,17 +4,19 @@ use Rattle.laws.specs.Upto.{each}
 use Rattle.laws.proofs.Parts.{take-replicate}
 use Rattle.block.specs.Paper.{Kind, page, schedule, kindNumber, Held, Given, filled, start, proper, step}
 use Rattle.block_writer.specs.Paper.{lastUsed, blocks, BlocksLeft, written}
-use Rattle.block_history.specs.Claims.{after, piece, pieces, expected}
+use Rattle.block_history.specs.Claims.{after, piece, pieces, expected, completes}
 use Rattle.block_history.proofs.History.{standing, standing-proper, number-handed}
 use Rattle.block_history.proofs.Taken.{blocks-taken}
-use Rattle.page.specs.Paper.{Heading}
+use Rattle.page.specs.Paper.{Heading, header}
 use Rattle.text.specs.Paper as text
 use Rattle.text_back.proofs.Back.{written-length, used-bounds as text-used, text-back-blocks, heading-back}
 use Rattle.sender.specs.Paper.{usedPart, padded, planned, Writing, write}
+use Rattle.sender.proofs.Cases.{accepts}
+use Rattle.sender.proofs.Message.{used-length}
 use Rattle.checker.specs.Paper.{check}
-use Rattle.delivery.specs.Claims.{blockOf, takenAt, StartedProper, Carried, textHanded, OverTheAir, HeaderOverTheAir, OursDelivered}
-use Rattle.delivery.proofs.ReadsBack.{reads-back, used-length}
-use Rattle.delivery.proofs.Accepted.{written as ours-written, used-bounds, ours-accepted}
+use Rattle.delivery.specs.Claims.{blockOf, takenAt, StartedProper, Carried, textHanded, Heard, OverTheAir, HeaderOverTheAir, OursDelivered}
+use Rattle.delivery.proofs.ReadsBack.{reads-back}
+use Rattle.delivery.proofs.Accepted.{fits, used-bounds, ours-accepted}
 
 pub started-proper : StartedProper
 started-proper ps = standing-proper (standing ps)
@@ -25,15 +27,18 @@ pieces-each k used m zero = refl
 pieces-each k used m (suc n) = rw (pieces-each k used m n)
 
 module _ (m : List ℕ) (used : ℕ) (whole : length m ≡ 88) (most : used ≤ 88) where
-  -- what is handed out is a page or message, and agrees with the one that was written as far as its blocks go
-  handed-length : length (filled (take (22 * lastUsed used) m)) ≡ 88
-  handed-length =
-      let n : length (take (22 * lastUsed used) m) ≡ 22 * lastUsed used = length-take-le (22 * lastUsed used) m (omega arith) in
-      rw length-append (rw length-replicate (omega arith))
+  abbrev cut : List ℕ
+  cut = take (22 * lastUsed used) m
 
-  handed-agrees : take (22 * lastUsed used) (filled (take (22 * lastUsed used) m)) ≡ take (22 * lastUsed used) m
-  handed-agrees =
-      take-at (take (22 * lastUsed used) m) _ (22 * lastUsed used) (length-take-le (22 * lastUsed used) m (omega arith))
+  cut-length : length cut ≡ 22 * lastUsed used
+  cut-length = length-take-le (22 * lastUsed used) m (omega arith)
+
+  -- what is handed out is a page or message, and agrees with the one that was written as far as its blocks go
+  handed-length : length (filled cut) ≡ 88
+  handed-length = rw (length-append, length-replicate) (omega (arith, cut-length))
+
+  handed-agrees : take (22 * lastUsed used) (filled cut) ≡ cut
+  handed-agrees = take-at cut _ (22 * lastUsed used) cut-length
 
 module _ (k : Kind) (m : List ℕ) (used : ℕ) (o : List ℕ) (h : Held) (whole : length m ≡ 88) (some : 1 ≤ used) (most : used ≤ 88) (room : length o ≡ 92) (good : proper h ≡ true) where
   blocks-written : written m k used o ≡ record { number = 0; output = blocks k used m 4 }
@@ -69,38 +74,42 @@ module _ (k : Kind) (m : List ℕ) (used : ℕ) (o : List ℕ) (h : Held) (whole
 
 -- a page with text, taken in order
 module _ (heading : Heading) (t p o : List ℕ) (h : Held) (z : text.written heading t p .number ≡ 0) (room : length o ≡ 92) (good : proper h ≡ true) where
-  text-carried : Carried page (text.written heading t p .page) (text.written heading t p .used) o h
-  text-carried =
-      let bounds = text-used heading t p z in
-      carries page (text.written heading t p .page) (text.written heading t p .used) o h (written-length heading t p z) (omega arith) (bounds .1) room good
+  abbrev w : text.Writing
+  w = text.written heading t p
 
-  text-agrees : take (22 * lastUsed (text.written heading t p .used)) (textHanded heading t p o h .octets)
-      ≡ take (22 * lastUsed (text.written heading t p .used)) (text.written heading t p .page)
-  text-agrees =
-      let w = text.written heading t p in
-      ap (λ (g : Given). take (22 * lastUsed (w .used)) (g .octets)) (text-carried .handed)
-      ∙ handed-agrees (w .page) (w .used) (written-length heading t p z) (text-used heading t p z .1)
+  whole : length (w .page) ≡ 88
+  whole = written-length heading t p z
+
+  bounds : (6 ≤ w .used) × (w .used ≤ 88)
+  bounds = text-used heading t p z
+
+  text-carried : Carried page (w .page) (w .used) o h
+  text-carried = carries page (w .page) (w .used) o h whole (omega (arith, bounds .0)) (bounds .1) room good
+
+  text-agrees : take (22 * lastUsed (w .used)) (textHanded heading t p o h .octets) ≡ take (22 * lastUsed (w .used)) (w .page)
+  text-agrees = ap (λ (g : Given). take (22 * lastUsed (w .used)) (g .octets)) (text-carried .handed) ∙ handed-agrees (w .page) (w .used) whole (bounds .1)
+
+  heard : (u : List ℕ) → length u ≡ 93 → Heard heading t p o u h
+  heard u size =
+      let q = textHanded heading t p o h .octets in
+      let long : length q ≡ 88 = ap (λ (g : Given). length (g .octets)) (text-carried .handed) ∙ handed-length (w .page) (w .used) whole (bounds .1) in
+      record {
+        carried = text-carried;
+        reads = ap (λ (g : Given). text.reading q (g .received) u) (text-carried .handed) ∙ text-back-blocks heading t p q u z long size text-agrees;
+      }
+
+  headed : (textHanded heading t p o h .number ≡ completes page) × (header (take 6 (textHanded heading t p o h .octets)) ≡ heading)
+  headed =
+      let least = bounds .0 in (
+        ap (λ (g : Given). g .number) (text-carried .handed),
+        heading-back heading t p (textHanded heading t p o h .octets) (22 * lastUsed (w .used)) z (omega arith) text-agrees,
+      )
 
 pub over-the-air : OverTheAir
-over-the-air heading t p o u h z room size good =
-    let w = text.written heading t p in
-    let c = text-carried heading t p o h z room good in
-    let q = textHanded heading t p o h .octets in
-    let whole : length q ≡ 88 = ap (λ (g : Given). length (g .octets)) (c .handed) ∙ handed-length (w .page) (w .used) (written-length heading t p z) (text-used heading t p z .1) in
-    record {
-      carried = c;
-      reads =
-          ap (λ (g : Given). text.reading q (g .received) u) (c .handed)
-          ∙ text-back-blocks heading t p q u z whole size (text-agrees heading t p o h z room good);
-    }
+over-the-air heading t p o u h z room size good = heard heading t p o h z room good u size
 
 pub header-over-the-air : HeaderOverTheAir
-header-over-the-air heading t p o h z room good =
-    let w = text.written heading t p in
-    let used = text-used heading t p z in (
-      ap (λ (g : Given). g .number) (text-carried heading t p o h z room good .handed),
-      heading-back heading t p (textHanded heading t p o h .octets) (22 * lastUsed (w .used)) z (omega arith) (text-agrees heading t p o h z room good),
-    )
+header-over-the-air heading t p o h z room good = headed heading t p o h z room good
 
 -- 2B that is cut off a padded message is put back
 filled-padded : (x : List ℕ) (n : ℕ) → length x ≤ n → n ≤ 88 → filled (take n (padded x)) ≡ padded x
@@ -121,13 +130,13 @@ filled-padded x n l h =
 pub ours-delivered : OursDelivered
 ours-delivered c p b m o h z room good =
     let w = write c p b m in
-    let v = ours-written c p b m z in
+    let v = accepts c p b m z in
     let bounds = used-bounds c p b m z in
     let k = 22 * lastUsed (w .used) in
     let x = usedPart b (planned c p) (c .count) in
-    let output : w .output ≡ padded x = ap (λ (y : Writing). y .output) (v .result) in
-    let used : w .used ≡ length x = ap (λ (y : Writing). y .used) (v .result) ∙ sym (used-length b (planned c p) (c .count) (v .fits)) in
-    let whole : length (w .output) ≡ 88 = ap length output ∙ reads-back b (planned c p) (c .count) (v .fits) .whole in
+    let output : w .output ≡ padded x = ap (λ (y : Writing). y .output) (v .writes) in
+    let used : w .used ≡ length x = ap (λ (y : Writing). y .used) (v .writes) ∙ sym (used-length b (planned c p) (c .count)) in
+    let whole : length (w .output) ≡ 88 = ap length output ∙ reads-back b (planned c p) (c .count) (fits c p b m v) .whole in
     let sent : Carried schedule (w .output) (w .used) o h = carries schedule (w .output) (w .used) o h whole (bounds .0) (bounds .1) room good in
     let kept : filled (take k (w .output)) ≡ w .output =
     ap (λ (y : List ℕ). filled (take k y)) output ∙ filled-padded x k (omega arith) (omega arith) ∙ sym output in

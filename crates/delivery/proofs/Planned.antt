@@ -1,8 +1,10 @@
 -- What is planned for the slots of a good plan: it fits its description, is true, and names no false repeat.
 use Rattle.laws.proofs.Base.{_≡_, refl, ap, _∙_, Bool, true, false, cond, not, Bool·beq, ℕ, suc, _-_, _<_, mod-lt, arith, eqb, eqb-true, eqb-false, eq-eqb, ne-eqb, lt-leb}
-use Rattle.plan.specs.Paper.{Plan, planNumber, hasPage, entryAt, pageAt, lowestAt, low15At}
+use Rattle.plan.specs.Paper.{Plan, planNumber, entryAt}
+use Rattle.plan_slots.specs.Paper.{hasPage, pageAt, lowestAt, low15At}
 use Rattle.plan.proofs.GoodPlan.{good-counted, kind-few}
-use Rattle.plan.proofs.Lowest.{Leading, leading}
+use Rattle.plan_slots.specs.Claims.{Leading}
+use Rattle.plan_slots.proofs.Lowest.{leading}
 use Rattle.schedule.specs.Paper.{Told, first, again, optional, advised, isFirst, falseIn}
 use Rattle.sender.specs.Paper.{plannedTold, newAt, planned}
 use Rattle.checker.specs.Paper.{isTrue}

@@ -2,10 +2,13 @@
 use Rattle.laws.proofs.Base.{_≡_, refl, sym, ap, _∙_, Bool, true, false, cond, _&&_, Bool·beq, List, [], _∷_, _++_, append-assoc, ℕ, zero, suc, _+_, _*_, _-_, _/_, _%_, _^_, _≤_, _<_, zero-div, pow-zero, pow-succ', div-one, div-div-eq-div-mul, add-suc, add-zero, arith, length, getD, take, drop, replicate, length-append, length-replicate, List·getD-eq-default, take-at, take-suc, split-at, getD-append-seam, getD-append-add, take-all, eqb, ltb, ltb-true, ltb-false, lt-ltb, le-ltb, le-leb, lt-leb}
 use Rattle.laws.specs.Radix.{Below}
 use Rattle.laws.proofs.Radix.{below-nil, below-cons, below-append, below-replicate}
-use Rattle.laws.proofs.Upto.{picked-agree, each-length, each-at}
+use Rattle.laws.proofs.Upto.{picked-agree, each-at}
 use Rattle.schedule.specs.Paper.{Told, first, again, optional, advised, Shown, octetAt, bitmap, end, new, width, told, place, order, rank, tells, grouped}
 use Rattle.schedule_order.proofs.Ranks.{length-order, order-rank, order-below, rank-below}
 use Rattle.sender.specs.Paper.{octetsOf, octetsOfAll, groupedIn, group, descriptions, newBit, newBits, bitmapOf, usedPart, padded, messageOf}
+use Rattle.sender.proofs.Groups.{octetsOfAll-append}
+use Rattle.sender.proofs.Message.{bitmap-length, used-length}
+use Rattle.sender.proofs.News.{newBit-few, newBits-lt}
 use Rattle.delivery.specs.Claims.{Tellable, Fits, ReadsBack}
 
 -- the description that stands after some octets
@@ -32,11 +35,14 @@ module _ (front rest : List ℕ) where
   told-at optional h = rw (at-front 64 rest)
   told-at advised h = rw (at-front 65 rest)
 
+one-below : (x : ℕ) → x < 256 → Below 256 (x ∷ [])
+one-below x l = below-cons 256 x [] l (below-nil 256 (omega arith))
+
 octets-below : (t : Told) → Tellable t → Below 256 (octetsOf t)
-octets-below (first x) h = below-cons 256 (128 + x / 256) (x % 256 ∷ []) (omega arith) (below-cons 256 (x % 256) [] (omega arith) (below-nil 256 (omega arith)))
-octets-below (again k) h = below-cons 256 k [] (omega arith) (below-nil 256 (omega arith))
-octets-below optional h = below-cons 256 64 [] (omega arith) (below-nil 256 (omega arith))
-octets-below advised h = below-cons 256 65 [] (omega arith) (below-nil 256 (omega arith))
+octets-below (first x) h = below-cons 256 (128 + x / 256) (x % 256 ∷ []) (omega arith) (one-below (x % 256) (omega arith))
+octets-below (again k) h = one-below k (omega arith)
+octets-below optional h = one-below 64 (omega arith)
+octets-below advised h = one-below 65 (omega arith)
 
 module _ (s : ℕ → Shown) where
   all-below : (is : List ℕ) → ((k : ℕ) → k < length is → Tellable (s (getD is k 0) .told)) → Below 256 (octetsOfAll s is)
@@ -45,11 +51,6 @@ module _ (s : ℕ → Shown) where
   all-below (i ∷ is) h =
       below-append 256 (octetsOf (s i .told)) (octetsOfAll s is) (octets-below (s i .told) (h 0 (omega arith)))
       (all-below is (λ k l. h (suc k) (omega arith)))
-
-  octets-append : (is js : List ℕ) → octetsOfAll s (is ++ js) ≡ octetsOfAll s is ++ octetsOfAll s js
-  unfolding octetsOfAll
-  octets-append [] js = refl
-  octets-append (i ∷ is) js = rw (octets-append is js) (sym (append-assoc (octetsOf (s i .told)) (octetsOfAll s is) (octetsOfAll s js)))
 
   -- the descriptions of some slots, after eight octets and before others
   module _ (front rest slots : List ℕ) where
@@ -67,7 +68,7 @@ module _ (s : ℕ → Shown) where
     unfolding octetsOfAll
     split k l =
         ap (λ (is : List ℕ). front ++ (octetsOfAll s is ++ rest)) (split-at slots k 0 l)
-        ∙ rw (octets-append (take k slots) (getD slots k 0 ∷ drop (suc k) slots)) (simp append-assoc)
+        ∙ rw (octetsOfAll-append s (take k slots) (getD slots k 0 ∷ drop (suc k) slots)) (simp append-assoc)
 
     module _ (eight : length front ≡ 8) (each-tellable : (k : ℕ) → k < length slots → Tellable (s (getD slots k 0) .told)) where
       placed : (k : ℕ) → k ≤ length slots → place message k ≡ length (before k)
@@ -77,7 +78,7 @@ module _ (s : ℕ → Shown) where
           let t = s (getD slots k 0) .told in
           let here : octetAt message (place message k) ≡ octetAt (before k ++ (octetsOf t ++ after k)) (length (before k)) =
           ap (λ (a : ℕ). octetAt message a) (placed k (omega arith)) ∙ ap (λ (m : List ℕ). octetAt m (length (before k))) (split k l) in
-          rw (here, width-at (before k) (after k) t (each-tellable k l), placed k (omega arith), take-suc slots k 0 l, octets-append (take k slots) (getD slots k 0 ∷ []))
+          rw (here, width-at (before k) (after k) t (each-tellable k l), placed k (omega arith), take-suc slots k 0 l, octetsOfAll-append s (take k slots) (getD slots k 0 ∷ []))
           (simp length-append (omega arith))
 
       told-placed : (k : ℕ) → k < length slots → told message (place message k) ≡ s (getD slots k 0) .told
@@ -89,40 +90,32 @@ module _ (s : ℕ → Shown) where
 
 -- the new bits as they are written
 module _ (s : ℕ → Shown) (n : ℕ) where
-  newBit-bit : (i : ℕ) → (newBit s n i ≤ 1) × (eqb (newBit s n i) 1 ≡ (ltb i n && s i .new))
-  newBit-bit i = go (ltb i n && s i .new)
+  newBit-one : (i : ℕ) → eqb (newBit s n i) 1 ≡ (ltb i n && s i .new)
+  newBit-one i = go (ltb i n && s i .new)
     where
-      go : (b : Bool) → (cond b 1 0 ≤ 1) × (eqb (cond b 1 0) 1 ≡ b)
-      go true = (omega arith, refl)
-      go false = (omega arith, refl)
-
-  newBits-small : (j k : ℕ) → newBits s n j k < 2 ^ k
-  unfolding newBits
-  newBits-small j zero = omega arith
-  newBits-small j (suc k) =
-      let small = newBit-bit (8 * j + k) .0 in
-      let half = newBits-small j k in
-      omega arith
+      go : (b : Bool) → eqb (cond b 1 0) 1 ≡ b
+      go true = refl
+      go false = refl
 
   bitmap-below : Below 256 (bitmapOf s n)
   bitmap-below i = go (ltb i 6) refl
     where
       go : (c : Bool) → ltb i 6 ≡ c → octetAt (bitmapOf s n) i < 256
-      go true e = rw (each-at (λ (j : ℕ). newBits s n j 8) 6 i 0 (ltb-true i 6 e)) (newBits-small i 8)
+      go true e = rw (each-at (λ (j : ℕ). newBits s n j 8) 6 i 0 (ltb-true i 6 e)) (newBits-lt s n i 8)
       go false e =
-          let far : length (bitmapOf s n) ≤ i = omega (arith, ltb-false i 6 e, each-length (λ (j : ℕ). newBits s n j 8) 6) in
+          let far : length (bitmapOf s n) ≤ i = omega (arith, ltb-false i 6 e, bitmap-length 0 s n) in
           rw (List·getD-eq-default (bitmapOf s n) 0 far) (omega arith)
 
   -- bit r of an octet is that of the slot after which r others of the octet stand
   newBits-bit : (j k r : ℕ) → newBits s n j (suc k + r) / 2 ^ r % 2 ≡ newBit s n (8 * j + k)
   unfolding newBits
   newBits-bit j k zero =
-      let small = newBit-bit (8 * j + k) .0 in
+      let small = newBit-few s n j (8 * j + k) in
       rw (add-zero, pow-zero, div-one) (omega arith)
   newBits-bit j k (suc r) =
       let x = newBits s n j (suc k + r) in
       let bit = newBit s n (8 * j + (suc k + r)) in
-      let small = newBit-bit (8 * j + (suc k + r)) .0 in
+      let small = newBit-few s n j (8 * j + (suc k + r)) in
       let half : (2 * x + bit) / 2 ≡ x = omega arith in
       rw (add-suc, pow-succ', ← div-div-eq-div-mul (2 * x + bit) 2 (2 ^ r), half) (newBits-bit j k r)
 
@@ -143,12 +136,9 @@ module _ (b : ℕ) (s : ℕ → Shown) (n : ℕ) (f : Fits b s n) where
   unfolding padded usedPart descriptions m front slots pad
   shape = ap (λ (l : List ℕ). b ∷ n ∷ l) (append-assoc (bitmapOf s n) (octetsOfAll s slots) pad)
 
-  bits-length : length (bitmapOf s n) ≡ 6
-  bits-length = each-length (λ (j : ℕ). newBits s n j 8) 6
-
   bitmap-back : bitmap m ≡ bitmapOf s n
   unfolding front
-  bitmap-back = rw shape (take-at (bitmapOf s n) (octetsOfAll s slots ++ pad) 6 bits-length)
+  bitmap-back = rw shape (take-at (bitmapOf s n) (octetsOfAll s slots ++ pad) 6 (bitmap-length b s n))
 
   end-back : end m ≡ n
   unfolding front
@@ -163,7 +153,7 @@ module _ (b : ℕ) (s : ℕ → Shown) (n : ℕ) (f : Fits b s n) where
       let here : 8 * j + k ≡ i = omega arith in
       let bits : newBits s n j 8 / 2 ^ (7 - k) % 2 ≡ newBit s n i =
       ap (λ (x : ℕ). newBits s n j x / 2 ^ (7 - k) % 2) eight ∙ newBits-bit s n j k (7 - k) ∙ ap (newBit s n) here in
-      rw (bitmap-back, each-at (λ (x : ℕ). newBits s n x 8) 6 j 0 (omega arith), bits) (newBit-bit s n i .1)
+      rw (bitmap-back, each-at (λ (x : ℕ). newBits s n x 8) 6 j 0 (omega arith), bits) (newBit-one s n i)
 
   marks-back : (i : ℕ) → i < n → new m i ≡ s i .new
   marks-back i l = new-back i (omega (arith, f .few)) ∙ rw (lt-ltb i n l)
@@ -175,7 +165,7 @@ module _ (b : ℕ) (s : ℕ → Shown) (n : ℕ) (f : Fits b s n) where
       go : (c : Bool) → ltb i 48 ≡ c → new m i ≡ false
       go true e = new-back i (ltb-true i 48 e) ∙ rw (le-ltb i n l)
       go false e =
-          let far : length (bitmapOf s n) ≤ i / 8 = omega (arith, ltb-false i 48 e, bits-length) in
+          let far : length (bitmapOf s n) ≤ i / 8 = omega (arith, ltb-false i 48 e, bitmap-length b s n) in
           rw (bitmap-back, List·getD-eq-default (bitmapOf s n) 0 far, zero-div (2 ^ (7 - i % 8)))
 
   order-back : order m ≡ slots
@@ -195,7 +185,7 @@ module _ (b : ℕ) (s : ℕ → Shown) (n : ℕ) (f : Fits b s n) where
 
   front-eight : length front ≡ 8
   unfolding front
-  front-eight = omega (arith, bits-length)
+  front-eight = omega (arith, bitmap-length b s n)
 
   octets-back : Below 256 m
   unfolding front pad
@@ -223,15 +213,11 @@ module _ (b : ℕ) (s : ℕ → Shown) (n : ℕ) (f : Fits b s n) where
       ∙ placed s front pad slots front-eight slots-tellable n (omega (arith, slots-length))
       ∙ rw (take-all n slots (omega (arith, slots-length)), length-append front (octetsOfAll s slots), front-eight)
 
-  pub used-length : length (usedPart b s n) ≡ 8 + length (descriptions s n)
-  unfolding usedPart
-  used-length = omega (arith, length-append (bitmapOf s n) (descriptions s n), bits-length)
-
   whole-back : length m ≡ 88
   unfolding m padded
   whole-back =
       length-append (usedPart b s n) (replicate (88 - length (usedPart b s n)) 43)
-      ∙ rw length-replicate (omega (arith, used-length, f .short))
+      ∙ rw length-replicate (omega (arith, used-length b s n, f .short))
 
 pub reads-back : ReadsBack
 unfolding m front

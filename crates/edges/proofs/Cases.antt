@@ -9,7 +9,8 @@ use Rattle.page.specs.Paper.{headerOctets, samePage}
 use Rattle.text.specs.Paper.{septets, packed, pageOf, badParameter, foreign, endsInCr, written}
 use Rattle.block_writer.specs.Paper.{block, blocks}
 use Rattle.block_writer.specs.Paper as cut
-use Rattle.plan.specs.Paper.{bad, planNumber, holds, lowestSlot, hasPage}
+use Rattle.plan.specs.Paper.{bad, planNumber}
+use Rattle.plan_slots.specs.Paper.{holds, lowestSlot, hasPage}
 use Rattle.schedule.specs.Paper.{new, place, order, tells, read}
 use Rattle.sender.specs.Paper.{plannedTold, newAt, octetsOfAll, descriptions, newBits, usedPart, padded, write}
 use Rattle.board.specs.Paper.{isWanted, reads, decide}

@@ -1,5 +1,5 @@
 -- Answers that meet a contract of `plan` are equal.
-use Rattle.laws.proofs.Base.{_≡_, refl, sym, ap, _∙_, cond, List, map, ℕ, eqb, ne-eqb}
+use Rattle.laws.proofs.Base.{_≡_, refl, sym, ap, _∙_, cond, ℕ, eqb, ne-eqb}
 use Rattle.laws.proofs.Map.{map-injective}
 use Rattle.refusals.specs.Number.{numberOf}
 use Rattle.refusals.proofs.Inverse.{refusalOf, refusalOf-numberOf, numberOf-positive}
@@ -7,16 +7,14 @@ use Rattle.plan.specs.declared.Entry.{Entry as EntryCode}
 use Rattle.plan.specs.declared.Plan.{Plan as PlanCode}
 use Rattle.plan.specs.declared.Verdict.{Verdict}
 use Rattle.plan.specs.declared.Verdict.the-variants.{Good, Refused}
-use Rattle.plan.specs.declared.Reading.{Reading}
-use Rattle.plan.specs.declared.Planned.{Planned as PlannedCode}
-use Rattle.plan.specs.Paper.{Entry, Plan, Read, Planned, empty, planNumber, readPlan, allPlanned}
-use Rattle.plan.specs.Coded.{entryOf, planOf, verdictOf, readingOf, plannedOf}
+use Rattle.plan.specs.Paper.{Entry, Plan, empty, planNumber}
+use Rattle.plan.specs.Coded.{entryOf, planOf, verdictOf}
 
 -- the code's entry, plan and verdict by the paper's
 abbrev entryFrom : Entry → EntryCode
 entryFrom e = record { kind = e .kind; serial = record { 0 = e .serial }; id = record { 0 = e .id }; parameter = e .parameter }
 
-plan-injective : (r s : PlanCode) → planOf r ≡ planOf s → r ≡ s
+pub plan-injective : (r s : PlanCode) → planOf r ≡ planOf s → r ≡ s
 plan-injective r s e =
     let entries = map-injective entryOf entryFrom (λ x. refl) (r .entries) (s .entries) (ap (λ (p : Plan). p .entries) e) in
     λ i. record { count = e i .count; entries = entries i }
@@ -36,20 +34,3 @@ determined-empty-plan r s a b = plan-injective r s (a ∙ sym b)
 
 pub determined-plan-answer : (plan : PlanCode) (r s : Verdict) → verdictOf r ≡ planNumber (planOf plan) → verdictOf s ≡ planNumber (planOf plan) → r ≡ s
 determined-plan-answer plan r s a b = verdict-injective r s (a ∙ sym b)
-
-pub determined-read-plan : (file : List ℕ) (r s : Reading) → readingOf r ≡ readPlan file → readingOf s ≡ readPlan file → r ≡ s
-determined-read-plan file r s a b =
-    let e = a ∙ sym b in
-    let verdict = verdict-injective (r .verdict) (s .verdict) (ap (λ (x : Read). x .number) e) in
-    let plan = plan-injective (r .plan) (s .plan) (ap (λ (x : Read). x .plan) e) in
-    λ i. record { verdict = verdict i; plan = plan i }
-
-abbrev plannedFrom : Planned → PlannedCode
-plannedFrom v = record { kind = v .kind; low = v .low; lowest = v .lowest; fresh = v .fresh }
-
-pub said-injective : (r s : List PlannedCode) → map plannedOf r ≡ map plannedOf s → r ≡ s
-said-injective r s e = map-injective plannedOf plannedFrom (λ x. refl) r s e
-
-pub determined-all-planned : (current previous : PlanCode) (r s : List PlannedCode)
-    → map plannedOf r ≡ allPlanned (planOf current) (planOf previous) → map plannedOf s ≡ allPlanned (planOf current) (planOf previous) → r ≡ s
-determined-all-planned current previous r s a b = said-injective r s (a ∙ sym b)

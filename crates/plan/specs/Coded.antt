@@ -2,13 +2,11 @@
 use Prim.Native.Nat.{ℕ}
 use mathlib.Core.List.{List, map}
 use Rattle.refusals.specs.Number.{numberOf}
-use Rattle.plan.specs.Paper.{Entry, Plan, Read, Planned}
+use Rattle.plan.specs.Paper.{Entry, Plan}
 use Rattle.plan.specs.declared.Entry.{Entry as EntryCode}
 use Rattle.plan.specs.declared.Plan.{Plan as PlanCode}
 use Rattle.plan.specs.declared.Verdict.{Verdict}
 use Rattle.plan.specs.declared.Verdict.the-variants.{Good, Refused}
-use Rattle.plan.specs.declared.Reading.{Reading}
-use Rattle.plan.specs.declared.Planned.{Planned as PlannedCode}
 
 -- an entry as its numbers
 abbrev pub entryOf : EntryCode → Entry
@@ -26,11 +24,3 @@ planOf p = record { count = p .count; entries = entriesOf (p .entries) }
 abbrev pub verdictOf : Verdict → ℕ
 verdictOf Good = 0
 verdictOf (Refused r) = numberOf r
-
--- what reading gave: a number and a plan
-abbrev pub readingOf : Reading → Read
-readingOf r = record { number = verdictOf (r .verdict); plan = planOf (r .plan) }
-
--- what is said of a slot
-abbrev pub plannedOf : PlannedCode → Planned
-plannedOf v = record { kind = v .kind; low = v .low; lowest = v .lowest; fresh = v .fresh }

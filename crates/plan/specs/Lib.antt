@@ -1,4 +1,3 @@
 -- What `plan` defines.
-pub mod Coded
 pub mod Paper
-pub mod Inner
+pub mod Coded

@@ -1,13 +1,11 @@
--- Plans and plan files as document 01 has them, in numbers and lists.
-use Prim.Native.Nat.{ℕ, zero, suc, _+_, _*_, _-_, _/_, _%_}
-use mathlib.Core.Bool.{Bool, false, cond, not, _&&_, _||_}
+-- Plans by value as document 01 has them, in numbers and lists.
+use Prim.Native.Nat.{ℕ, _-_}
+use mathlib.Core.Bool.{Bool, not, _&&_, _||_}
 use mathlib.Core.List.{List, [], _∷_, _++_}
 use lib.Dec.{eqb, ltb}
-use lib.ListN.{length, take, drop, replicate, getD}
+use lib.ListN.{length, take, replicate, getD}
 use Rattle.laws.specs.Ruled.{ruled}
-use Rattle.laws.specs.Search.{some, firstFrom}
-use Rattle.laws.specs.Upto.{each}
-use Rattle.page.specs.Paper.{Name, octet, samePage}
+use Rattle.laws.specs.Search.{some}
 
 -- 01 The plan: a slot's entry: a kind (0 optional, 1 advised, 2 page), serial number, message identifier, page parameter
 pub record Entry : Type 0 where
@@ -37,6 +35,10 @@ empty = record { count = 0; entries = replicate 48 free }
 abbrev pub entriesWithin : Plan → List Entry
 entriesWithin p = take (p .count) (p .entries)
 
+-- 01 The plan: the entry of a slot, slots counted from 0 here as in the schedule
+abbrev pub entryAt : Plan → ℕ → Entry
+entryAt p i = getD (p .entries) i free
+
 -- 01 The plan: all of serial number, message identifier and page parameter 0
 abbrev pub blank : Entry → Bool
 blank e = eqb (e .serial) 0 && (eqb (e .id) 0 && eqb (e .parameter) 0)
@@ -48,118 +50,3 @@ bad e = ltb 2 (e .kind) || (ltb (e .kind) 2 && not (blank e))
 -- 01 The plan: what writer and checker say of a plan by value: a count over 48 gives 32, a bad entry within the count 33
 unfoldable pub planNumber : Plan → ℕ
 planNumber p = ruled (λ n. n) ((ltb 48 (p .count), 32) ∷ (some bad (entriesWithin p), 33) ∷ []) 0
-
--- 01 Page and text: 16 bits, high octet first, at octet n
-abbrev pub sixteen : List ℕ → ℕ → ℕ
-sixteen o n = octet o n * 256 + octet o (n + 1)
-
--- 01 The plan: CBP in ASCII
-abbrev pub marked : List ℕ → Bool
-marked f = eqb (octet f 1) 67 && (eqb (octet f 2) 66 && eqb (octet f 3) 80)
-
--- 01 The plan: what six octets say of a slot: kind, serial number, message identifier, page parameter
-unfoldable pub entryIn : List ℕ → Entry
-entryIn o = record { kind = octet o 1; serial = sixteen o 2; id = sixteen o 4; parameter = octet o 6 }
-
--- 01 The plan: n entries, six octets each
-unfoldable pub entriesIn : ℕ → List ℕ → List Entry
-entriesIn zero o = []
-entriesIn (suc n) o = entryIn o ∷ entriesIn n (drop 6 o)
-
--- 01 The plan: the mark, the version and the count are six octets; the entries follow
-abbrev pub listed : List ℕ → List Entry
-listed f = entriesIn (octet f 6) (drop 6 f)
-
--- 01 Order: what reading a plan file gives: its number, and a plan
-pub record Read : Type 0 where
-  pub number : ℕ
-  pub plan : Plan
-
--- 01 Order: with a refusal the plan is empty
-abbrev pub refusal : ℕ → Read
-refusal n = record { number = n; plan = empty }
-
--- 01 Order, a plan: 32 if short, 30, 31, 32, 33
-abbrev pub faults : List ℕ → List (Bool × ℕ)
-faults f =
-    (ltb (length f) 6, 32)
-    ∷ (not (marked f), 30)
-    ∷ (not (eqb (sixteen f 4) 1), 31)
-    ∷ (ltb 48 (octet f 6) || not (eqb (length f) (6 + 6 * octet f 6)), 32)
-    ∷ (some bad (listed f), 33)
-    ∷ []
-
--- 01 The plan, Order: reading a plan file
-unfoldable pub readPlan : List ℕ → Read
-readPlan f = ruled refusal (faults f) (record { number = 0; plan = filledPlan (listed f) })
-
--- 01 The plan: the six octets of an entry
-abbrev pub octetsOf : Entry → List ℕ
-octetsOf e = e .kind ∷ e .serial / 256 ∷ e .serial % 256 ∷ e .id / 256 ∷ e .id % 256 ∷ e .parameter ∷ []
-
--- 01 The plan: the octets of entries, one after the other
-unfoldable pub octetsOfAll : List Entry → List ℕ
-octetsOfAll [] = []
-octetsOfAll (e ∷ es) = octetsOf e ++ octetsOfAll es
-
--- 01 The plan: the file of a plan of some entries: CBP, version 1, the count, the entries
-abbrev pub fileOf : List Entry → List ℕ
-fileOf es = 67 ∷ 66 ∷ 80 ∷ 0 ∷ 1 ∷ length es ∷ octetsOfAll es
-
--- 01 Page and text: the page of an entry, by what tells it from others
-abbrev pub pageOf : Entry → Name
-pageOf e = record { serial = e .serial; id = e .id; parameter = e .parameter }
-
--- 01 The plan: a slot is planned with a page: kind 2, and the same page
-unfoldable pub holds : Name → Entry → Bool
-holds x e = eqb (e .kind) 2 && samePage (pageOf e) x
-
--- 01 The plan: the lowest slot with a page, slots counted from 1; 0 for none
-unfoldable pub lowestSlot : Plan → Name → ℕ
-lowestSlot p x = firstFrom (holds x) 1 (entriesWithin p)
-
--- 01 The plan: a plan has or lacks a page
-unfoldable pub hasPage : Plan → Name → Bool
-hasPage p x = some (holds x) (entriesWithin p)
-
--- 01 The plan: the entry of a slot, slots counted from 0 here as in the schedule
-abbrev pub entryAt : Plan → ℕ → Entry
-entryAt p i = getD (p .entries) i free
-
--- 01 The plan: the page of a slot planned with one
-abbrev pub pageAt : Plan → ℕ → Name
-pageAt p i = pageOf (entryAt p i)
-
--- 01 Truthful: the lowest slot with the page of a slot, by its number
-abbrev pub lowestAt : Plan → ℕ → ℕ
-lowestAt p i = lowestSlot p (pageAt p i)
-
--- 01 Schedule message, Descriptions: the low 15 bits of the identifier planned for a slot
-abbrev pub low15At : Plan → ℕ → ℕ
-low15At p i = entryAt p i .id % 32768
-
--- 01 Truthful: what the plans say of a slot: its kind; of its page the low 15 bits of the identifier, the lowest slot with it, and whether the previous plan lacks it
-pub record Planned : Type 0 where
-  pub kind : ℕ
-  pub low : ℕ
-  pub lowest : ℕ
-  pub fresh : Bool
-
--- 01 Truthful: what the current plan c and the previous plan p say of slot i
-abbrev pub plannedAt : Plan → Plan → ℕ → Planned
-plannedAt c p i = record { kind = entryAt c i .kind; low = low15At c i; lowest = lowestAt c i; fresh = not (hasPage p (pageAt c i)) }
-
--- 01 The plan: of a slot planned with no page only the kind is said
-abbrev pub nonePlanned : ℕ → Planned
-nonePlanned k = record { kind = k; low = 0; lowest = 0; fresh = false }
-
--- 01 The plan: what is said of a slot within the count; entries past it mean nothing, and are said as unused ones are
-unfoldable pub saidAt : Plan → Plan → ℕ → Planned
-saidAt c p i =
-    cond (ltb i (c .count))
-    (cond (eqb (entryAt c i .kind) 2) (plannedAt c p i) (nonePlanned (entryAt c i .kind)))
-    (nonePlanned 0)
-
--- 01 The plan: what is said of each of the forty-eight slots
-unfoldable pub allPlanned : Plan → Plan → List Planned
-allPlanned c p = each (saidAt c p) 48

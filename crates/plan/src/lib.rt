@@ -1,25 +1,14 @@
-// Plan files read, plans held by value, and the slots of a page in them.
+// Plans held by value, and whether they are good.
 ghost use mathlib.Core.Path.{_≡_};
-ghost use mathlib.Core.Bool.{_&&_};
-ghost use mathlib.Core.List.{_++_, map};
-ghost use Prim.Native.Nat.{_+_, _*_, _-_, _≤_};
-ghost use lib.Dec.{eqb};
-ghost use lib.ListN.{length, take, drop, replicate};
-ghost use Rattle.refusals.specs.Number.{numberOf};
-ghost use Rattle.laws.specs.Search.{some, firstFrom};
-ghost use Rattle.plan.specs.Paper.{free, empty, refusal, bad, planNumber, entryIn, entriesIn, readPlan, nonePlanned, allPlanned};
-ghost use Rattle.plan.specs.Coded.{entryOf, entriesOf, planOf, verdictOf, readingOf, plannedOf};
-ghost use Rattle.plan.specs.Inner.{counted, saidBy, Marked, Marks};
+ghost use Prim.Native.Nat.{_≤_};
+ghost use lib.ListN.{take};
+ghost use Rattle.laws.specs.Search.{some};
+ghost use Rattle.plan.specs.Paper.{free, empty, bad, planNumber};
+ghost use Rattle.plan.specs.Coded.{entryOf, entriesOf, planOf, verdictOf};
 use page::MessageId;
-use page::PageName;
 use page::Serial;
 use refusals::Refusal;
 use sizes::SLOTS;
-
-// 01 The plan: the octets of a file before its entries, and of an entry.
-const FRONT: usize = 6;
-
-const ENTRY: usize = 6;
 
 // A slot as planned: kind 0 for optional, 1 for advised, 2 for a page.
 pub struct Entry {
@@ -41,23 +30,6 @@ pub enum Verdict {
     Refused(Refusal),
 }
 
-// What the plans say of a slot; where it is planned with no page, all but the kind is 0 or false.
-pub struct Planned {
-    pub kind: u8,
-    // the low 15 bits of the page's identifier
-    pub low: u16,
-    // the lowest slot with the page, by its number
-    pub lowest: usize,
-    // whether the previous plan lacks the page
-    pub fresh: bool,
-}
-
-// What reading a plan file gives; with a refusal the plan is empty.
-pub struct Reading {
-    pub verdict: Verdict,
-    pub plan: Plan,
-}
-
 fn free_entry() -> Entry
     ensures { λ r. ⌜ entryOf r ≡ free ⌝ }
 {
@@ -77,16 +49,6 @@ pub fn empty_plan() -> Plan
     Plan {
         count: 0,
         entries: [unused; 48],
-    }
-}
-
-// The answer to a refused file.
-fn refused(why: Refusal) -> Reading
-    ensures { λ r. ⌜ readingOf r ≡ refusal (numberOf why) ⌝ }
-{
-    Reading {
-        verdict: Verdict::Refused(why),
-        plan: empty_plan(),
     }
 }
 
@@ -137,176 +99,4 @@ pub fn plan_answer(plan: Plan) -> Verdict
         return Verdict::Refused(Refusal::PlanEntry);
     }
     Verdict::Good
-}
-
-// CBP in ASCII.
-fn is_mark(a: u8, b: u8, c: u8) -> bool
-    ensures { λ r. ⌜ r ≡ (eqb a 67 && (eqb b 66 && eqb c 80)) ⌝ }
-{
-    if a != b'C' {
-        return false;
-    }
-    if b != b'B' {
-        return false;
-    }
-    c == b'P'
-}
-
-// The entry whose six octets start at a place of the file.
-fn entry_at(file: &[u8], at: usize) -> Entry
-    requires { ⌜ at + 6 ≤ length (now file) ⌝ }
-    ensures { λ r. ⌜ entryOf r ≡ entryIn (drop at (now (file .entry))) ⌝ }
-{
-    Entry {
-        kind: file[at],
-        serial: Serial(page::joined(file[at + 1], file[at + 2])),
-        id: MessageId(page::joined(file[at + 3], file[at + 4])),
-        parameter: file[at + 5],
-    }
-}
-
-// The entries of a file, with optional ones after them.
-fn entries_of(file: &[u8], count: usize) -> [Entry; 48]
-    requires { ⌜ (count ≤ 48) × (6 + 6 * count ≤ length (now file)) ⌝ }
-    ensures { λ r. ⌜ entriesOf r ≡ entriesIn count (drop 6 (now (file .entry))) ++ replicate (48 - count) free ⌝ }
-{
-    let unused = free_entry();
-    let mut entries = [unused; 48];
-    let mut i = 0;
-    while i < count {
-        entries[i] = entry_at(file, FRONT + ENTRY * i);
-        i += 1;
-    }
-    entries
-}
-
-// Reads a plan file.
-pub fn read_plan(file: &[u8]) -> Reading
-    ensures { λ r. ⌜ readingOf r ≡ readPlan (now (file .entry)) ⌝ }
-{
-    if file.len() < FRONT {
-        return refused(Refusal::PlanLength);
-    }
-    if !is_mark(file[0], file[1], file[2]) {
-        return refused(Refusal::PlanMark);
-    }
-    if page::joined(file[3], file[4]) != 1 {
-        return refused(Refusal::PlanVersion);
-    }
-    let count = file[5] as usize;
-    if count > SLOTS {
-        return refused(Refusal::PlanLength);
-    }
-    if file.len() != FRONT + ENTRY * count {
-        return refused(Refusal::PlanLength);
-    }
-    let entries = entries_of(file, count);
-    if any_bad(entries, count) {
-        return refused(Refusal::PlanEntry);
-    }
-    Reading {
-        verdict: Verdict::Good,
-        plan: Plan { count, entries },
-    }
-}
-
-// An entry as one number, so that a search through a plan compares once a slot.
-fn mark(entry: Entry) -> u64
-    ensures { λ r. ⌜ Marked r (entryOf entry) ⌝ }
-{
-    let serial = entry.serial;
-    let id = entry.id;
-    let name = PageName {
-        serial,
-        id,
-        parameter: entry.parameter,
-    };
-    page::key(name) * 0x10000 + entry.kind as u64
-}
-
-// The entries of a plan as numbers.
-fn marks_of(entries: [Entry; 48]) -> [u64; 48]
-    ensures { λ r. ⌜ Marks r (entriesOf entries) 48 ⌝ }
-{
-    let mut marks = [0u64; 48];
-    let mut i = 0;
-    while i < SLOTS {
-        let entry = entries[i];
-        marks[i] = mark(entry);
-        i += 1;
-    }
-    marks
-}
-
-// The place, counted from 1, of the first of some marks that is as given; 0 for none.
-fn first_slot(marks: &[u64], mark: u64) -> usize
-    ensures { λ r. ⌜ r ≡ firstFrom (eqb mark) 1 (now (marks .entry)) ⌝ }
-{
-    let mut slot = 1;
-    while slot <= marks.len() {
-        if marks[slot - 1] == mark {
-            return slot;
-        }
-        slot += 1;
-    }
-    0
-}
-
-// What is said of a slot planned with no page.
-fn none_planned(kind: u8) -> Planned
-    ensures { λ r. ⌜ plannedOf r ≡ nonePlanned kind ⌝ }
-{
-    Planned {
-        kind,
-        low: 0,
-        lowest: 0,
-        fresh: false,
-    }
-}
-
-// What is said of a slot by its entry and that entry's mark, among the marks of the plan and of the plan before it.
-fn planned_by(entry: Entry, mark: u64, current: &[u64], previous: &[u64]) -> Planned
-    ensures { λ r. ⌜ plannedOf r ≡ saidBy (entryOf entry) (firstFrom (eqb mark) 1 (now (current .entry))) (some (eqb mark) (now (previous .entry))) ⌝ }
-{
-    if entry.kind != 2 {
-        return none_planned(entry.kind);
-    }
-    Planned {
-        kind: entry.kind,
-        low: entry.id.0 % 0x8000,
-        lowest: first_slot(current, mark),
-        fresh: first_slot(previous, mark) == 0,
-    }
-}
-
-// The slots of a count that a plan has entries for.
-fn slots_of(count: usize) -> usize
-    ensures { λ r. ⌜ (r ≡ counted count) × (r ≤ 48) ⌝ }
-{
-    if count > SLOTS {
-        return SLOTS;
-    }
-    count
-}
-
-// What a plan and the plan before it say of each slot; of those past the count, what is said of an optional one.
-pub fn all_planned(current: Plan, previous: Plan) -> [Planned; 48]
-    ensures { λ r. ⌜ map plannedOf r ≡ allPlanned (planOf current) (planOf previous) ⌝ }
-{
-    let entries = current.entries;
-    let older = previous.entries;
-    let marks = marks_of(entries);
-    let marks_before = marks_of(older);
-    let count = slots_of(current.count);
-    let before = slots_of(previous.count);
-    let unused = none_planned(0);
-    let mut planned = [unused; 48];
-    let mut i = 0;
-    while i < count {
-        let entry = entries[i];
-        let own = marks[i];
-        planned[i] = planned_by(entry, own, &marks[..count], &marks_before[..before]);
-        i += 1;
-    }
-    planned
 }

@@ -6,10 +6,12 @@ use Rattle.refusals.specs.Number.{numberOf}
 use Rattle.refusals.proofs.Inverse.{numberOf-positive}
 use Rattle.plan.specs.declared.Verdict.the-variants.{Good, Refused}
 use Rattle.plan.specs.declared.Reading.{Reading}
-use Rattle.plan.specs.Paper.{Read, filledPlan, listed, refusal, faults, readPlan}
-use Rattle.plan.specs.Coded.{verdictOf, readingOf}
+use Rattle.plan_read.specs.Paper.{Read, listed, refusal, faults, readPlan}
+use Rattle.plan.specs.Paper.{filledPlan, Plan, planNumber}
+use Rattle.plan.specs.Coded.{verdictOf}
+use Rattle.plan_read.specs.Coded.{readingOf}
 use Rattle.plan.proofs.GoodPlan.{good-counted}
-use Rattle.plan.proofs.ReadGood.{read-is-good}
+use Rattle.plan_read.proofs.ReadGood.{read-is-good}
 use Rattle.plan_calls.specs.Paper.{planCall}
 
 -- a refused file counts no slot

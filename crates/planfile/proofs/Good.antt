@@ -2,11 +2,13 @@
 use Rattle.laws.proofs.Base.{_≡_, sym, ap, _∙_, true, false, List, [], ℕ, eq-eqb, ne-eqb}
 use Rattle.refusals.proofs.Inverse.{numberOf-positive}
 use Rattle.refusals.specs.declared.Refusal.{Refusal}
-use Rattle.plan.specs.declared.Reading.{Reading}
+use Rattle.plan_read.specs.declared.Reading.{Reading}
 use Rattle.plan.specs.declared.Verdict.the-variants as verdicts
-use Rattle.plan.specs.Paper.{Read, planNumber, readPlan}
-use Rattle.plan.specs.Coded.{planOf, verdictOf, readingOf}
-use Rattle.plan.proofs.ReadGood.{read-is-good}
+use Rattle.plan_read.specs.Paper.{Read, readPlan}
+use Rattle.plan.specs.Paper.{planNumber}
+use Rattle.plan.specs.Coded.{planOf, verdictOf}
+use Rattle.plan_read.specs.Coded.{readingOf}
+use Rattle.plan_read.proofs.ReadGood.{read-is-good}
 use Rattle.planfile.specs.Inner.{Taken, taken, untaken}
 
 module _ (t : Taken) where

@@ -3,7 +3,8 @@ use mathlib.Core.Bool.{Bool, false}
 use mathlib.Core.List.{List}
 use Prim.Native.Nat.{ℕ}
 use lib.Dec.{eqb}
-use Rattle.plan.specs.Paper.{Plan, empty, readPlan}
+use Rattle.plan.specs.Paper.{Plan, empty}
+use Rattle.plan_read.specs.Paper.{readPlan}
 use Rattle.plan.specs.Coded.{planOf}
 use Rattle.planfile.specs.declared.Taken.{Taken as TakenCode}
 

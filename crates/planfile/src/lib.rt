@@ -27,7 +27,7 @@ fn none_taken() -> Taken
 fn take_octets(program: &[u8], about: &[u8], file: &[u8]) -> Taken
     ensures { λ r. ⌜ takenOf r ≡ taken (now (file .entry)) ⌝ }
 {
-    let reading = plan::read_plan(file);
+    let reading = plan_read::read_plan(file);
     let verdict = reading.verdict;
     let plan = reading.plan;
     match verdict {

@@ -12,7 +12,7 @@ octetsOf-few optional = omega arith
 octetsOf-few advised = omega arith
 
 module _ (s : ℕ → Shown) where
-  octetsOfAll-append : (xs ys : List ℕ) → octetsOfAll s (xs ++ ys) ≡ octetsOfAll s xs ++ octetsOfAll s ys
+  pub octetsOfAll-append : (xs ys : List ℕ) → octetsOfAll s (xs ++ ys) ≡ octetsOfAll s xs ++ octetsOfAll s ys
   unfolding octetsOfAll
   octetsOfAll-append [] ys = refl
   octetsOfAll-append (x ∷ xs) ys =

@@ -1,16 +1,19 @@
 -- What is told of a slot, case by case.
-use Rattle.laws.proofs.Base.{_≡_, refl, ap, _∙_, Bool, true, false, cond, ℕ, suc, _+_, _≤_, _<_, mod-lt, arith, List, map, length, getD, set, getD-set-same, getD-set-other, eqb, eq-eqb, ne-eqb, eqb-true, eqb-false, lt-ltb}
+use Rattle.laws.proofs.Base.{_≡_, refl, ap, _∙_, Bool, true, false, cond, ℕ, suc, _+_, _≤_, _<_, mod-lt, arith, List, map, length, getD, set, getD-set-same, getD-set-other, eqb, eq-eqb, ne-eqb, lt-ltb}
+use borrow.Author.Count.{below-more}
 use Rattle.schedule.specs.declared.Slot.{Slot}
 use Rattle.schedule.specs.Coded.{shownOf}
 use Rattle.schedule.specs.Inner.{zeroed}
 use Rattle.schedule.specs.Paper.{Told, first, again, optional, advised, Shown}
-use Rattle.plan.specs.declared.Planned.{Planned as PlannedCode}
-use Rattle.plan.specs.Paper.{Plan, Planned, entryAt, lowestAt, low15At, plannedAt, nonePlanned, saidAt, allPlanned}
-use Rattle.plan.specs.Coded.{plannedOf}
-use Rattle.plan.specs.Inner.{nothing}
-use Rattle.plan.proofs.Said.{says-at, said-counted}
+use Rattle.plan_slots.specs.declared.Planned.{Planned as PlannedCode}
+use Rattle.plan.specs.Paper.{Plan, entryAt}
+use Rattle.plan_slots.specs.Inner.{nonePlanned, saidAt, allPlanned, nothing}
+use Rattle.plan_slots.specs.Paper.{Planned, lowestAt, low15At, plannedAt}
+use Rattle.plan_slots.specs.Coded.{plannedOf}
+use Rattle.plan_slots.proofs.Said.{says-at, said-counted}
 use Rattle.sender.specs.Paper.{plannedTold, newAt, planned}
-use Rattle.sender.specs.Coded.{shownIn, shownBy, Low, AllLow}
+use Rattle.sender.specs.Coded.{shownIn}
+use Rattle.sender.specs.Inner.{shownBy, Low, AllLow}
 
 abbrev shown : Bool → Told → Shown
 shown n t = record { new = n; told = t }
@@ -35,15 +38,11 @@ module _ (v : Planned) (i : ℕ) where
 -- what is told by what the plans say is what is planned
 told-said : (c p : Plan) (i : ℕ) → i < c .count → shownBy (saidAt c p i) i ≡ planned c p i
 unfolding shownBy saidAt plannedTold newAt
-told-said c p i l = go (eqb (entryAt c i .kind) 2) refl
+told-said c p i l = rw (lt-ltb i (c .count) l) (go (eqb (entryAt c i .kind) 2) refl)
   where
-    go : (b : Bool) → eqb (entryAt c i .kind) 2 ≡ b → shownBy (saidAt c p i) i ≡ planned c p i
-    go true k =
-        let page : saidAt c p i ≡ plannedAt c p i = rw (lt-ltb i (c .count) l, k) in
-        ap (λ (v : Planned). shownBy v i) page ∙ rw k
-    go false k =
-        let none : saidAt c p i ≡ nonePlanned (entryAt c i .kind) = rw (lt-ltb i (c .count) l, k) in
-        ap (λ (v : Planned). shownBy v i) none ∙ rw k
+    go : (b : Bool) → eqb (entryAt c i .kind) 2 ≡ b → shownBy (cond (eqb (entryAt c i .kind) 2) (plannedAt c p i) (nonePlanned (entryAt c i .kind))) i ≡ planned c p i
+    go true k = rw (k, k)
+    go false k = rw (k, k)
 
 module _ (c p : Plan) (xs : List PlannedCode) (q : map plannedOf xs ≡ allPlanned c p) (few : c .count ≤ 48) (i : ℕ) (l : i < c .count) where
   -- a slot that an array of all that the plans say names is within the count
@@ -59,13 +58,10 @@ module _ (c p : Plan) (xs : List PlannedCode) (q : map plannedOf xs ≡ allPlann
 -- a turn of the loop that fills an array with what is told
 pub told-more : (f : ℕ → Shown) (slots : List Slot) (i : ℕ) (x : Slot) → i < length slots
     → ((k : ℕ) → k < i → shownIn slots k ≡ f k) → shownOf x ≡ f i → (k : ℕ) → k < i + 1 → shownIn (set slots i x) k ≡ f k
-told-more f slots i x room h own k l = go (eqb k i) refl
-  where
-    go : (b : Bool) → eqb k i ≡ b → shownIn (set slots i x) k ≡ f k
-    go true q = rw (eqb-true k i q, getD-set-same slots i x zeroed room) own
-    go false q =
-        let other = eqb-false k i q in
-        rw (getD-set-other slots i k x zeroed other) (h k (omega arith))
+told-more f slots i x room h own =
+    below-more _ i
+    (λ k l. let other : k ≡ i → ⊥ = λ e. omega arith in rw (getD-set-other slots i k x zeroed other) (h k l))
+    (rw (getD-set-same slots i x zeroed room) own)
 
 -- what is told as planned has 15 bits where it is a first transmission
 pub planned-low : (c p : Plan) (n : ℕ) → AllLow (planned c p) n

@@ -1,3 +1,4 @@
 -- What `sender` defines.
 pub mod Paper
 pub mod Coded
+pub mod Inner

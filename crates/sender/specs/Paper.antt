@@ -7,7 +7,8 @@ use lib.Dec.{eqb, leb, ltb}
 use Rattle.laws.specs.Ruled.{ruled, unless0}
 use Rattle.laws.specs.Upto.{picked, each}
 use Rattle.schedule.specs.Paper.{Told, first, again, optional, advised, Shown}
-use Rattle.plan.specs.Paper.{Plan, planNumber, hasPage, entryAt, pageAt, lowestAt, low15At}
+use Rattle.plan.specs.Paper.{Plan, planNumber, entryAt}
+use Rattle.plan_slots.specs.Paper.{hasPage, pageAt, lowestAt, low15At}
 
 -- 01 The plan, our writer: first, repeat, 40 and 41 as planned: a page's lowest slot is a first transmission, a later one a repeat that names it
 unfoldable pub plannedTold : Plan → ℕ → Told
@@ -26,10 +27,10 @@ planned c p i = record { new = newAt c p i; told = plannedTold c i }
 
 -- 01 Schedule message, 000 3.5.5: the octets of a description: two with bit 8 set and 15 bits, high part first, for a first transmission; else one
 abbrev pub octetsOf : Told → List ℕ
-octetsOf (first x) = (128 + x / 256) ∷ (x % 256) ∷ []
+octetsOf (first x) = (0x80 + x / 256) ∷ (x % 256) ∷ []
 octetsOf (again n) = n ∷ []
-octetsOf optional = 64 ∷ []
-octetsOf advised = 65 ∷ []
+octetsOf optional = 0x40 ∷ []
+octetsOf advised = 0x41 ∷ []
 
 -- 01 Schedule message: the octets of the descriptions of some slots, one after the other
 unfoldable pub octetsOfAll : (ℕ → Shown) → List ℕ → List ℕ
@@ -67,7 +68,7 @@ usedPart b s n = (b ∷ n ∷ []) ++ (bitmapOf s n ++ descriptions s n)
 
 -- 01 Schedule message: after that 2B, up to 88 octets
 unfoldable pub padded : List ℕ → List ℕ
-padded o = o ++ replicate (88 - length o) 43
+padded o = o ++ replicate (88 - length o) 0x2b
 
 -- 01 Schedule message: the message that tells n slots
 abbrev pub messageOf : ℕ → (ℕ → Shown) → ℕ → List ℕ

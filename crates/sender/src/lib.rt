@@ -6,12 +6,14 @@ ghost use Prim.Native.Nat.{ℕ, _+_, _≤_, _<_};
 ghost use lib.ListN.{length, replicate};
 ghost use lib.Seq.{sets};
 ghost use Rattle.schedule.specs.Coded.{toldOf, shownOf};
-ghost use Rattle.plan.specs.Coded.{planOf, plannedOf};
+ghost use Rattle.plan.specs.Coded.{planOf, verdictOf};
+ghost use Rattle.plan_slots.specs.Coded.{plannedOf};
 ghost use Rattle.sender.specs.Paper.{planned, octetsOf, octetsOfAll, group, descriptions, newBits, bitmapOf, messageOf, write};
-ghost use Rattle.sender.specs.Coded.{writingOf, shownIn, shownBy, Low, AllLow};
+ghost use Rattle.sender.specs.Coded.{writingOf, shownIn};
+ghost use Rattle.sender.specs.Inner.{shownBy, Low, AllLow, plansNumber};
 use plan::Plan;
-use plan::Planned;
 use plan::Verdict;
+use plan_slots::Planned;
 use refusals::Refusal;
 use schedule::Description;
 use schedule::Slot;
@@ -65,7 +67,7 @@ fn telling(current: Plan, previous: Plan) -> [Slot; 48]
         new: false,
         description: Description::Optional,
     }; 48];
-    let all = plan::all_planned(current, previous);
+    let all = plan_slots::all_planned(current, previous);
     let count = current.count;
     let mut i = 0;
     while i < count {
@@ -219,6 +221,30 @@ fn compose(slots: [Slot; 48], count: usize, begin: usize) -> [u8; 88]
     all.octets
 }
 
+// What is said of the plans and of Begin before a message is made.
+fn plans_answer(current: Plan, previous: Plan, begin: usize) -> Verdict
+    ensures { λ r. ⌜ verdictOf r ≡ plansNumber (planOf current) (planOf previous) begin ⌝ }
+{
+    let answer = plan::plan_answer(current);
+    if let Verdict::Refused(refusal) = answer {
+        return Verdict::Refused(refusal);
+    }
+    let answer = plan::plan_answer(previous);
+    if let Verdict::Refused(refusal) = answer {
+        return Verdict::Refused(refusal);
+    }
+    if current.count == 0 {
+        return Verdict::Refused(Refusal::PlanEmpty);
+    }
+    if begin == 0 {
+        return Verdict::Refused(Refusal::BeginOrEnd);
+    }
+    if begin > current.count {
+        return Verdict::Refused(Refusal::BeginOrEnd);
+    }
+    Verdict::Good
+}
+
 // Writes the schedule message of a plan, or refuses it and leaves the output as it is.
 pub fn write_schedule(current: Plan, previous: Plan, begin: usize, out: &mut [u8]) -> Writing
     ensures { λ r. ⌜ writingOf r (now (out .exit)) ≡ write (planOf current) (planOf previous) begin (now (out .entry)) ⌝ }
@@ -226,24 +252,11 @@ pub fn write_schedule(current: Plan, previous: Plan, begin: usize, out: &mut [u8
     if out.len() != MESSAGE {
         return Writing::Refused(Refusal::OutputLength);
     }
-    let answer = plan::plan_answer(current);
-    if let Verdict::Refused(refusal) = answer {
-        return Writing::Refused(refusal);
-    }
-    let answer = plan::plan_answer(previous);
+    let answer = plans_answer(current, previous, begin);
     if let Verdict::Refused(refusal) = answer {
         return Writing::Refused(refusal);
     }
     let count = current.count;
-    if count == 0 {
-        return Writing::Refused(Refusal::PlanEmpty);
-    }
-    if begin == 0 {
-        return Writing::Refused(Refusal::BeginOrEnd);
-    }
-    if begin > count {
-        return Writing::Refused(Refusal::BeginOrEnd);
-    }
     let slots = telling(current, previous);
     let width = width_of_all(slots, count);
     if width > MESSAGE - HEADER {

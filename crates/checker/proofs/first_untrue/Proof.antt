@@ -2,8 +2,8 @@
 use Rattle.laws.proofs.Base.{_≡_, sym, ap, _∙_, false, not, ℕ, _+_, _-_, _≤_, _<_, add-one, arith, getD, needs}
 use borrow.Author.Count.{below-none, below-more}
 use Rattle.laws.proofs.Lowest.{lowest-at, lowest-none}
-use Rattle.plan.specs.Coded.{plannedOf}
-use Rattle.plan.specs.Inner.{nothing}
+use Rattle.plan_slots.specs.Coded.{plannedOf}
+use Rattle.plan_slots.specs.Inner.{nothing}
 use Rattle.checker_slots.specs.Inner.{trueBy}
 use Rattle.checker.specs.Coded.{untrueBy}
 use Rattle.checker.proofs.first_untrue.Statement.{statement}

@@ -1,8 +1,8 @@
 -- `sender::new_octet` meets its contract. The invariant: the bits so far.
-use Rattle.laws.proofs.Base.{_≡_, sym, _+_, _*_, _≤_, _-_, arith, needs}
+use Rattle.laws.proofs.Base.{_≡_, refl, sym, _+_, _*_, _≤_, _-_, arith, needs}
 use Rattle.sender.specs.Paper.{newBit, newBits}
 use Rattle.sender.specs.Coded.{shownIn}
-use Rattle.sender.proofs.News.{newBit-few, newBits-room, newBits-none, newBits-next}
+use Rattle.sender.proofs.News.{newBit-few, newBits-room, newBits-next}
 use Rattle.sender.proofs.new_octet.Statement.{statement}
 use Rattle.sender.proofs.new_octet.Tie as tie
 
@@ -13,7 +13,8 @@ abbrev μ-loop : tie.MeasureT-loop
 μ-loop count j slots bits₀ k₀ bits k = 8 - k
 
 loop-holds : tie.Need-loop-holds Inv-loop μ-loop
-loop-holds c = (omega arith, sym (newBits-none (shownIn (c .args .t1)) _ _))
+unfolding newBits
+loop-holds c = (omega arith, refl)
 
 mul-bits : tie.Need-mul-bits Inv-loop μ-loop
 mul-bits c =

@@ -13,20 +13,14 @@ add-filled c =
 room-for-two : (c : tie.After-known-told) → c .before .before .before .args .at + 2 ≤ 88
 room-for-two c = rw (ap toldOf (c .before .description .given .1)) at (c .before .before .before .pre .1)
 
-array-write-filled : tie.Need-array-write-filled
-array-write-filled c = omega (arith, room-for-two c)
-
-array-write-filled-2 : tie.Need-array-write-filled-2
-array-write-filled-2 c = omega (arith, room-for-two c)
-
 put-octet-requires : tie.Need-put-octet-requires
-put-octet-requires c κs = let room : c .before .before .before .args .at + 1 ≤ 88 = rw (ap toldOf (c .before .description2 .given .1)) at (c .before .before .before .pre .1) in omega arith
+put-octet-requires c κs = let room = rw (ap toldOf (c .before .description2 .given .1)) at (c .before .before .before .pre .1) in omega arith
 
 put-octet-requires-2 : tie.Need-put-octet-requires-2
-put-octet-requires-2 c κs = let room : c .before .before .args .at + 1 ≤ 88 = rw (ap toldOf (c .enum-told .given .1)) at (c .before .before .pre .1) in omega arith
+put-octet-requires-2 c κs = let room = rw (ap toldOf (c .enum-told .given .1)) at (c .before .before .pre .1) in omega arith
 
 put-octet-requires-3 : tie.Need-put-octet-requires-3
-put-octet-requires-3 c κs = let room : c .before .before .args .at + 1 ≤ 88 = rw (ap toldOf (c .enum-told2 .given .1)) at (c .before .before .pre .1) in omega arith
+put-octet-requires-3 c κs = let room = rw (ap toldOf (c .enum-told2 .given .1)) at (c .before .before .pre .1) in omega arith
 
 returns : tie.Need-returns
 returns c = rw (ap toldOf (c .before .description .given .1)) (rw add-one, refl)
@@ -44,7 +38,7 @@ pub put-spec : {M : Type 1} → statement M
 put-spec =
     tie.close
     (tie.spec
-    (λ c. search needs) (λ c. search needs) add-filled array-write-filled (λ c. search needs)
-    (λ c. search needs) array-write-filled-2 (λ c. search needs) (λ c. search needs)
+    (λ c. search needs) (λ c. search needs) add-filled (λ c. omega (arith, room-for-two c)) (λ c. search needs)
+    (λ c. search needs) (λ c. omega (arith, room-for-two c)) (λ c. search needs) (λ c. search needs)
     put-octet-requires (λ c. search needs) put-octet-requires-2 (λ c. search needs)
     put-octet-requires-3 returns returns-2 returns-3 returns-4)

@@ -1,6 +1,6 @@
 -- `sender::tell` meets its contract: each return is a case of what is told.
 use Rattle.laws.proofs.Base.{sym, _∙_, add-one, arith, needs}
-use Rattle.plan.specs.Coded.{plannedOf}
+use Rattle.plan_slots.specs.Coded.{plannedOf}
 use Rattle.sender.proofs.Tells.{tells-advised, tells-optional, tells-first, tells-again}
 use Rattle.sender.proofs.tell.Statement.{statement}
 use Rattle.sender.proofs.tell.Tie as tie

@@ -1,9 +1,11 @@
 -- `sender::telling` meets its contract. The invariant: the slots passed are told by what the plans say of them.
 use Rattle.laws.proofs.Base.{_≡_, refl, _∙_, ℕ, _≤_, _<_, _-_, arith, needs, length, getD, length-set}
 use borrow.Author.Count.{below-none}
-use Rattle.plan.specs.Coded.{planOf, plannedOf}
-use Rattle.plan.specs.Inner.{nothing}
-use Rattle.sender.specs.Coded.{shownIn, shownBy}
+use Rattle.plan.specs.Coded.{planOf}
+use Rattle.plan_slots.specs.Coded.{plannedOf}
+use Rattle.plan_slots.specs.Inner.{nothing}
+use Rattle.sender.specs.Coded.{shownIn}
+use Rattle.sender.specs.Inner.{shownBy}
 use Rattle.sender.proofs.Tells.{all-counted, all-told, told-more}
 use Rattle.sender.proofs.telling.Statement.{statement}
 use Rattle.sender.proofs.telling.Tie as tie

@@ -1,0 +1,13 @@
+-- Answers that meet the contract of `plan_read` are equal.
+use Rattle.laws.proofs.Base.{_≡_, sym, ap, _∙_, List, ℕ}
+use Rattle.plan.proofs.Determined.{plan-injective, verdict-injective}
+use Rattle.plan_read.specs.Paper.{Read, readPlan}
+use Rattle.plan_read.specs.Coded.{readingOf}
+use Rattle.plan_read.specs.declared.Reading.{Reading}
+
+pub determined-read-plan : (file : List ℕ) (r s : Reading) → readingOf r ≡ readPlan file → readingOf s ≡ readPlan file → r ≡ s
+determined-read-plan file r s a b =
+    let e = a ∙ sym b in
+    let verdict = verdict-injective (r .verdict) (s .verdict) (ap (λ (x : Read). x .number) e) in
+    let plan = plan-injective (r .plan) (s .plan) (ap (λ (x : Read). x .plan) e) in
+    λ i. record { verdict = verdict i; plan = plan i }

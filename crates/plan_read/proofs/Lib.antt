@@ -1,0 +1,6 @@
+-- What `plan_read` proves.
+pub mod Answers
+pub mod Determined
+pub mod Entries
+pub mod FileBack
+pub mod ReadGood

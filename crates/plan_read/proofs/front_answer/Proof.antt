@@ -1,0 +1,62 @@
+-- `plan_read::front_answer` meets its contract: each return is the first test that holds.
+use Rattle.laws.proofs.Base.{_≡_, sym, _∙_, true, List, ℕ, arith, needs, not-true, not-false}
+use Rattle.plan_read.specs.Paper.{sixteen, marked}
+use Rattle.plan_read.proofs.Answers.{front-short, front-mark, front-version, front-count, front-length, front-good}
+use Rattle.plan_read.proofs.front_answer.Statement.{statement}
+use Rattle.plan_read.proofs.front_answer.Tie as tie
+
+abbrev file : tie.Else1 → List ℕ
+file l = l .before .before .args .file .now
+
+returns : tie.Need-returns
+returns c = sym (front-short (c .before .before .args .file .now) (c .if1 .taken))
+
+returns-2 : tie.Need-returns-2
+returns-2 c =
+    let l = c .before .before in
+    sym (front-mark (file l) (l .if1 .left) (sym (c .before .is-marked .ensures) ∙ not-true _ (c .if2 .taken)))
+
+-- the mark that was seen
+mark : (m : tie.Else2) → marked (file (m .before .before)) ≡ true
+mark m = sym (m .before .is-marked .ensures) ∙ not-false _ (m .if2 .left)
+
+returns-3 : tie.Need-returns-3
+returns-3 c =
+    let m = c .before .before in
+    let l = m .before .before in
+    sym (front-version (file l) (l .if1 .left) (mark m) (λ e. c .if3 .taken (c .before .sixteen-at .ensures ∙ e)))
+
+-- the version that was seen
+version : (v : tie.Else3) → sixteen (file (v .before .before .before .before)) 4 ≡ 1
+version v = sym (v .before .sixteen-at .ensures) ∙ v .if3 .left
+
+cast-count : tie.Need-cast-count
+cast-count c = omega (arith, c .shared-slice-known2 .given 5 .fits)
+
+returns-4 : tie.Need-returns-4
+returns-4 c =
+    let v = c .before .before in
+    let m = v .before .before in
+    let l = m .before .before in
+    sym (front-count (file l) (l .if1 .left) (mark m) (version v) (c .if4 .taken))
+
+returns-5 : tie.Need-returns-5
+returns-5 c =
+    let v = c .before .before .before in
+    let m = v .before .before in
+    let l = m .before .before in
+    sym (front-length (file l) (l .if1 .left) (mark m) (version v) (c .before .if4 .left) (c .if5 .taken))
+
+returns-6 : tie.Need-returns-6
+returns-6 c =
+    let v = c .before .before .before in
+    let m = v .before .before in
+    let l = m .before .before in
+    sym (front-good (file l) (l .if1 .left) (mark m) (version v) (c .before .if4 .left) (c .if5 .left))
+
+pub front-answer-spec : {M : Type 1} → statement M
+front-answer-spec =
+    tie.close
+    (tie.spec
+    returns (λ c κs. search needs) returns-2 (λ c κs. search needs) returns-3 (λ c. search needs)
+    cast-count returns-4 (λ c. search needs) (λ c. search needs) returns-5 returns-6)

@@ -1,0 +1,5 @@
+-- What `plan_read` defines.
+pub mod Paper
+pub mod Coded
+pub mod Inner
+pub mod Claims
