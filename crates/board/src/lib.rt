@@ -192,7 +192,7 @@ pub fn decide_on(
     if !known {
         return Decision::Read;
     }
-    let found = schedule::read_places(message, received);
+    let found = schedule_places::read_places(message, received);
     let answer = found.answer;
     if !tells_of(answer, slot) {
         return Decision::Read;
@@ -221,7 +221,7 @@ pub fn entered_under_on(known: bool, message: &[u8], received: usize, slot: usiz
     if !known {
         return slot;
     }
-    let found = schedule::read_places(message, received);
+    let found = schedule_places::read_places(message, received);
     let answer = found.answer;
     if !tells_of(answer, slot) {
         return slot;

@@ -7,10 +7,11 @@ use Rattle.refusals.specs.Number.{numberOf}
 use Rattle.schedule.specs.declared.Slot.{Slot}
 use Rattle.schedule.specs.declared.Reading.{Reading}
 use Rattle.schedule.specs.declared.Reading.the-variants as readings
-use Rattle.schedule.specs.declared.Given.{Given as GivenCode}
-use Rattle.schedule.specs.declared.Given.the-variants as givens
+use Rattle.schedule_given.specs.declared.Given.{Given as GivenCode}
+use Rattle.schedule_given.specs.declared.Given.the-variants as givens
 use Rattle.schedule.specs.Paper.{end, faults, Read, read, Given, next, noMore, refusal, givenAt, given}
-use Rattle.schedule.specs.Coded.{toldOf, readOf, givenOf}
+use Rattle.schedule.specs.Coded.{toldOf, readOf}
+use Rattle.schedule_given.specs.Coded.{givenOf}
 use Rattle.schedule_order.proofs.Ranks.{order-below}
 pub use Rattle.schedule_calls.proofs.Packed.{bit-byte, bit-small, ends-small}
 use Rattle.capi.specs.Paper.{codeOf, packedRead, scheduleCall, packedGiven, descriptionCall}

@@ -19,9 +19,9 @@ use page::Serial;
 use plan::Plan;
 use plan::Verdict;
 use refusals::Refusal;
-use schedule::Given;
 use schedule::Reading;
 use schedule_calls::code;
+use schedule_given::Given;
 use sender::Writing;
 use sizes::MESSAGE;
 use text::Got;
@@ -73,7 +73,7 @@ pub extern "C" fn cb_read_text(page: &[u8], received: usize, text: &mut [u16]) -
 pub extern "C" fn cb_read_schedule(message: &[u8], received: usize) -> u32
     ensures { λ r. ⌜ r ≡ scheduleCall (now (message .entry)) received ⌝ }
 {
-    let answer = schedule::read_schedule(message, received);
+    let answer = schedule_places::read_schedule(message, received);
     match answer {
         Reading::Read(begin, end) => 0x100 * begin as u32 + 0x10000 * end as u32,
         Reading::Refused(refusal) => refusals::number(refusal) as u32,
@@ -85,7 +85,7 @@ pub extern "C" fn cb_read_schedule(message: &[u8], received: usize) -> u32
 pub extern "C" fn cb_description(message: &[u8], received: usize, place: usize) -> u64
     ensures { λ r. ⌜ r ≡ descriptionCall (now (message .entry)) received place ⌝ }
 {
-    let answer = schedule::description_at(message, received, place);
+    let answer = schedule_given::description_at(message, received, place);
     match answer {
         Given::Next(number, slot) => {
             let description = slot.description;

@@ -132,7 +132,7 @@ fn first_untrue(all: [Planned; 48], message: &[u8], places: [usize; 48], count: 
 fn compare(count: usize, said: [Planned; 48], message: &[u8], received: usize) -> Checking
     ensures { λ r. ⌜ checkedOf r ≡ compared count (map plannedOf said) (now (message .entry)) received ⌝ }
 {
-    let found = schedule::read_places(message, received);
+    let found = schedule_places::read_places(message, received);
     let answer = found.answer;
     match answer {
         Reading::Refused(why) => Checking::Refused(why, 0),

@@ -6,7 +6,7 @@ use Rattle.laws.proofs.Outcome.{Outcome, refuses, passes, outcome, Because, rul
 use Rattle.laws.proofs.Ruled.{Among}
 use Rattle.laws.proofs.Tests.{both}
 use Rattle.schedule.specs.Paper.{shown, begin, end, Read, unread, good, inBounds, read, faults as readFaults}
-use Rattle.schedule.proofs.Givens.{faults-some}
+use Rattle.schedule.proofs.Answers.{faults-some}
 use Rattle.plan.specs.Paper.{Plan, planNumber}
 use Rattle.checker.specs.Paper.{Checked, unchecked, untrueAt, untrue, isTrue, verdict, faults, check}
 use Rattle.checker_truth.specs.Claims.{Truthful, Names, end-differs, slot-untrue, AcceptedExactly, NeverObeyed}

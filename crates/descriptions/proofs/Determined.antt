@@ -3,8 +3,9 @@ use Rattle.laws.proofs.Base.{_≡_, refl, sym, ap, _∙_, cond, List, ℕ, eqb,
 use Rattle.laws.proofs.Map.{map-injective}
 use Rattle.refusals.specs.Number.{numberOf}
 use Rattle.refusals.proofs.Inverse.{refusalOf, refusalOf-numberOf, numberOf-positive}
-use Rattle.schedule.specs.declared.Given.{Given as GivenCode}
-use Rattle.schedule.proofs.Determined.{slotFrom, slotFrom-shownOf, determined-description-at}
+use Rattle.schedule_given.specs.declared.Given.{Given as GivenCode}
+use Rattle.schedule.proofs.Determined.{slotFrom, slotFrom-shownOf}
+use Rattle.schedule_given.proofs.Determined.{determined-description-at}
 use Rattle.descriptions.specs.declared.Numbered.{Numbered as NumberedCode}
 use Rattle.descriptions.specs.declared.Counted.{Counted}
 use Rattle.descriptions.specs.declared.Counted.the-variants.{Count, Refused}

@@ -7,7 +7,8 @@ use Prim.Native.Nat.{ℕ, suc, _+_, _*_, _-_, _≤_, _<_}
 use lib.ListN.{length, take, set, replicate}
 use lib.Dec.{eqb}
 use Rattle.sizes.specs.Paper.{wholeBlocks}
-use Rattle.schedule.specs.Paper.{octetAt, type, begin, end, new, width, again, place, rank, tells, isFirst, Shown, shown, Read, read, placed, next, given}
+use Rattle.schedule.specs.Paper.{octetAt, type, begin, end, new, width, again, place, rank, tells, isFirst, Shown, shown, Read, read, next, given}
+use Rattle.schedule_places.specs.Inner.{placed}
 
 -- 01 Schedule message: slot i is given exactly once, with what is shown of it, at its rank
 pub record Once (m : List ℕ) (received i : ℕ) : Type 0 where

@@ -11,8 +11,8 @@ use board::Schedule;
 use board::Wanted;
 use descriptions::Stepped;
 use page::MessageId;
-use schedule::Given;
 use schedule::Slot;
+use schedule_given::Given;
 use sizes::MESSAGE;
 
 // The most identifiers that are wanted.

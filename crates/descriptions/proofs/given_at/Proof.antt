@@ -44,7 +44,7 @@ use denote.Triple.Table.{entered, cited}
 use denote.Triple.Walked.{says, Stays, stay-none, stay-none-slice, walkOf, goes-none, goes-none-slice, Walks, ends-at, walked, walk-meets}
 use denote.Exit.{yes}
 use denote.Triple.Clauses.{ensured, lasts}
-use Rattle.schedule.specs.declared.Given.{Given as Answer}
+use Rattle.schedule_given.specs.declared.Given.{Given as Answer}
 use Rattle.descriptions.specs.Paper.{stepped, Stepped as Step}
 use Rattle.descriptions.specs.Coded.{steppedOf, Called, calledOf, called}
 use Rattle.descriptions.specs.declared.Descriptions.{Descriptions}
@@ -53,8 +53,8 @@ use Rattle.descriptions.proofs.Descriptions as T
 use Rattle.descriptions.proofs.Descriptions.Laws as T′
 use Rattle.descriptions.proofs.Stepped as U
 use Rattle.descriptions.proofs.Stepped.Laws as U′
-use Rattle.schedule.proofs.Given as S
-use Rattle.schedule.proofs.Given.Laws as S′
+use Rattle.schedule_given.proofs.Given as S
+use Rattle.schedule_given.proofs.Given.Laws as S′
 use Rattle.descriptions.proofs.next as next
 use Rattle.descriptions.proofs.next.Symbol as next-def
 use Rattle.descriptions.proofs.next.Symbol.{name as #descriptions·next}

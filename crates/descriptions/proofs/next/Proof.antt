@@ -51,8 +51,8 @@ use Rattle.descriptions.proofs.Descriptions as T
 use Rattle.descriptions.proofs.Descriptions.Laws as T′
 use Rattle.descriptions.proofs.Stepped as U
 use Rattle.descriptions.proofs.Stepped.Laws as U′
-use Rattle.schedule.proofs.Given as S
-use Rattle.schedule.proofs.Given.Laws as S′
+use Rattle.schedule_given.proofs.Given as S
+use Rattle.schedule_given.proofs.Given.Laws as S′
 use Rattle.descriptions.proofs.step_at as step
 use Rattle.descriptions.proofs.step_at.Symbol as step-def
 use Rattle.descriptions.proofs.step_at.Symbol.{name as #descriptions·step-at}

@@ -1,0 +1,5 @@
+-- What `schedule_places` proves.
+pub mod Finds
+pub mod Placing
+pub mod Known
+pub mod Determined
