@@ -1,29 +1,30 @@
 -- What the reader's number says of every answer that hangs on its tests.
-use Rattle.laws.proofs.Base.{_≡_, refl, sym, ap, _∙_, Bool, true, not, _&&_, List, [], _∷_, inl, inr, ℕ, _≤_, length, eqb, eqb-true, eqb-false, not-true, not-false}
+use Rattle.laws.proofs.Base.{_≡_, refl, sym, ap, _∙_, Bool, true, not, _&&_, List, [], _∷_, ⊎-elim, ℕ, _≤_, length, eqb, eqb-true, eqb-false, not-true, not-false}
 use Rattle.laws.specs.Ruled.{ruled}
 use Rattle.laws.proofs.Outcome.{Outcome, refuses, passes, outcome}
 use Rattle.laws.proofs.Ruled.{Among}
 use Rattle.laws.proofs.Tests.{both}
 use Rattle.schedule.specs.Paper.{end, inBounds, headFaults, faults, Read, unread, good, read, Given, refusal, givenAt, given}
-use Rattle.schedule.proofs.Header.{within-end}
+use Rattle.schedule.proofs.Header.{within}
 
--- none of the tests has the number 0
-abbrev numbered : List (Bool × ℕ) → Bool
-numbered [] = true
-numbered (t ∷ ts) = not (eqb (t .1) 0) && numbered ts
+-- none of the tests has the number n, by a look at each
+abbrev without : ℕ → List (Bool × ℕ) → Bool
+without n [] = true
+without n (t ∷ ts) = not (eqb n (t .1)) && without n ts
 
-among-some : (ts : List (Bool × ℕ)) (n : ℕ) → numbered ts ≡ true → Among n ts → n ≡ 0 → ⊥
-among-some [] n g a z = a
-among-some (t ∷ ts) n g (inl e) z = eqb-false (t .1) 0 (not-true (eqb (t .1) 0) (both (not (eqb (t .1) 0)) (numbered ts) g .0)) (sym e ∙ z)
-among-some (t ∷ ts) n g (inr a) z = among-some ts n (both (not (eqb (t .1) 0)) (numbered ts) g .1) a z
+pub not-among : (n : ℕ) (ts : List (Bool × ℕ)) → without n ts ≡ true → Among n ts → ⊥
+not-among n [] g a = a
+not-among n (t ∷ ts) g a =
+    let w = both (not (eqb n (t .1))) (without n ts) g in
+    ⊎-elim (eqb-false n (t .1) (not-true (eqb n (t .1)) (w .0))) (not-among n ts (w .1)) a
 
 module _ (m : List ℕ) (received : ℕ) where
   -- no refusal has the number 0
   pub head-some : (n : ℕ) → Among n (headFaults m received) → n ≡ 0 → ⊥
-  head-some n = among-some (headFaults m received) n refl
+  head-some n a z = not-among 0 (headFaults m received) refl (rw z at a)
 
   pub faults-some : (n : ℕ) → Among n (faults m received) → n ≡ 0 → ⊥
-  faults-some n = among-some (faults m received) n refl
+  faults-some n a z = not-among 0 (faults m received) refl (rw z at a)
 
   -- a message that is read
   pub record Sound : Type 1 where
@@ -45,7 +46,7 @@ module _ (m : List ℕ) (received : ℕ) where
           sound
           (record {
             long = eqb-true (length m) 88 (not-false (eqb (length m) 88) (h .0));
-            last = within-end m (not-false (inBounds m) (h .1 .1 .1 .0));
+            last = within m (not-false (inBounds m) (h .1 .1 .1 .0)) .2;
             answers = f;
           })
 

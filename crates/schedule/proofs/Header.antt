@@ -6,10 +6,12 @@ use Rattle.laws.proofs.Tests.{both}
 use Rattle.schedule.specs.Paper.{octetAt, type, begin, end, bounded, inBounds, newPast, Read, unread}
 use Rattle.schedule.specs.Inner.{headRead}
 
-pub within-end : (m : List ℕ) → inBounds m ≡ true → end m ≤ 48
-within-end m w =
-    let upper = both (leb 1 (begin m)) (leb (begin m) (end m) && leb (end m) 48) w .1 in
-    leb-true (end m) 48 (both (leb (begin m) (end m)) (leb (end m) 48) upper .1)
+-- a Begin and an End that are in bounds, rule by rule
+pub within : (m : List ℕ) → inBounds m ≡ true → (1 ≤ begin m) × (begin m ≤ end m) × (end m ≤ 48)
+within m w =
+    let rule = both (leb 1 (begin m)) (leb (begin m) (end m) && leb (end m) 48) w in
+    let upper = both (leb (begin m) (end m)) (leb (end m) 48) (rule .1) in
+    (leb-true 1 (begin m) (rule .0), leb-true (begin m) (end m) (upper .0), leb-true (end m) 48 (upper .1))
 
 -- where the type is 00, Begin is the first octet
 module _ (m : List ℕ) (low : octetAt m 0 < 64) where

@@ -1,7 +1,7 @@
 -- The cases of the reader with all places: refused by the header, by 23 or by 24, or the places of all descriptions.
-use Rattle.laws.proofs.Base.{_≡_, refl, sym, ap, _∙_, Bool, true, false, List, ℕ, _+_, _≤_, _<_, arith, length, getD, replicate, getD-replicate, ext-getD, ltb, lt-ltb, le-ltb, ltb-true, not-false}
+use Rattle.laws.proofs.Base.{_≡_, refl, sym, ap, _∙_, Bool, true, false, List, ℕ, _≤_, _<_, arith, getD, replicate, getD-replicate, ext-getD, ltb, lt-ltb, le-ltb, not-false}
 use Rattle.laws.specs.Ruled.{ruled}
-use Rattle.laws.specs.Upto.{some, count, each}
+use Rattle.laws.specs.Upto.{some, each}
 use Rattle.laws.proofs.Outcome.{Outcome, refuses, passes, outcome, ruled-append}
 use Rattle.laws.proofs.Upto.{some-agree, each-length, each-at}
 use Rattle.refusals.specs.Number.{numberOf}
@@ -9,7 +9,7 @@ use Rattle.refusals.proofs.Inverse.{numberOf-positive}
 use Rattle.refusals.specs.declared.Refusal.{Refusal}
 use Rattle.schedule.specs.Paper.{end, place, grouped, told, tells, inBounds, headFaults, bodyFaults, faults, falseRepeat, Read, unread, good}
 use Rattle.schedule.specs.Inner.{headRead, toldBy}
-use Rattle.schedule.proofs.Header.{within-end}
+use Rattle.schedule.proofs.Header.{within}
 use Rattle.schedule.proofs.News.{grouped-flip}
 use Rattle.schedule.proofs.Order.{groups-whole}
 use Rattle.schedule.proofs.Answers.{head-some}
@@ -35,7 +35,7 @@ module _ (m : List ℕ) (received : ℕ) where
           let ends : e ≡ end m = ap (λ (r : Read). r .end) (q ∙ reads) in
           record {
             ends = ends;
-            last = rw ends (within-end m (not-false (inBounds m) (h .1 .1 .1 .0)));
+            last = rw ends (within m (not-false (inBounds m) (h .1 .1 .1 .0)) .2);
             reads = reads;
             places =
                 ruled-append unplaced (headFaults m received) (bodyFaults m received) (whole m)

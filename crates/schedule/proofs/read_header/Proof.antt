@@ -2,7 +2,7 @@
 use Rattle.laws.proofs.Base.{_≡_, true, sym, _∙_, arith, not-true, not-false, needs}
 use Rattle.sizes.specs.Paper.{wholeBlocks}
 use Rattle.schedule.specs.Paper.{inBounds}
-use Rattle.schedule.proofs.Header.{within-end, within-low, head-length, head-received, head-type, head-range, head-new, head-good}
+use Rattle.schedule.proofs.Header.{within, within-low, head-length, head-received, head-type, head-range, head-new, head-good}
 use Rattle.schedule.proofs.read_header.Statement.{statement}
 use Rattle.schedule.proofs.read_header.Tie as tie
 
@@ -39,7 +39,7 @@ returns-4 c =
 has-new-past-requires : tie.Need-has-new-past-requires
 has-new-past-requires c κs =
     let m = c .before .before .before .before .before .before .before .before .before .args .message .now in
-    (search needs, search needs, within-end m (sym (bounds (c .before)) ∙ not-false _ (c .if4 .left)))
+    (search needs, search needs, within m (sym (bounds (c .before)) ∙ not-false _ (c .if4 .left)) .2)
 
 returns-5 : tie.Need-returns-5
 returns-5 c =

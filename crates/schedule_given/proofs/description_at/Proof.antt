@@ -13,10 +13,10 @@ good : (c : tie.After-answer2) → let a = c .before .before .before .before .ar
 good c = given-good _ _ _ _ _ _ (ap readOf (c .answer2 .given .1))
 
 returns : tie.Need-returns
-returns c = given-none _ _ _ _ _ _ (good (c .before .before)) (c .if1 .taken)
+returns c = given-none _ _ _ _ _ _ (good (c .before .before)) (omega (arith, c .if1 .taken))
 
 slot-at-requires : tie.Need-slot-at-requires
-slot-at-requires c κs = let g = good (c .before .before) in (g .long, g .ends, g .last, c .if1 .left)
+slot-at-requires c κs = let g = good (c .before .before) in (g .long, g .ends, g .last, omega (arith, c .if1 .left))
 
 -- the slot is one of the 48
 low : (c : tie.After-places) → c .before .slot-at .result < 48

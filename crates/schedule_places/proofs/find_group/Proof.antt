@@ -1,5 +1,5 @@
 -- `schedule_places::find_group` meets its contract. The invariant: the slots passed are found, and the place is that after their descriptions.
-use Rattle.laws.proofs.Base.{_≡_, _≤_, _-_, _<_, ⊎-elim, arith, needs}
+use Rattle.laws.proofs.Base.{_≡_, _≤_, _-_, ⊎-elim, arith, needs}
 use Rattle.schedule.proofs.News.{grouped-told}
 use Rattle.schedule_places.specs.Inner.{Finds}
 use Rattle.schedule_places.proofs.Finds.{finds-none, finds-low, finds-skip, finds-take}

@@ -34,7 +34,7 @@ returns c =
 returns-2 : tie.Need-returns-2 Inv-loop μ-loop
 returns-2 c =
     let l = c .before .before .before .before .before .loop in
-    sym (some-at _ _ (l .i) (omega arith) (false-late (tells (c .before .before)) (l .i) _ (repeats (c .before .before)) (c .if3 .taken)))
+    sym (some-at _ _ (l .i) (omega arith) (false-late (tells (c .before .before)) (l .i) _ (repeats (c .before .before)) (omega (arith, c .if3 .taken))))
 
 returns-3 : tie.Need-returns-3 Inv-loop μ-loop
 returns-3 c =
@@ -44,7 +44,7 @@ returns-3 c =
     let named = getD (a .t2) (r .before .octet-at .result - 1) 0 in
     sym
     (some-at _ _ (l .i) (omega arith)
-    (false-other (tells r) (l .i) _ (repeats r) (told-short (a .message .now) named _ (c .before .octet-at2 .ensures) (c .if4 .taken))))
+    (false-other (tells r) (l .i) _ (repeats r) (told-short (a .message .now) named _ (c .before .octet-at2 .ensures) (omega (arith, c .if4 .taken)))))
 
 loop-again : tie.Need-loop-again Inv-loop μ-loop
 loop-again c =
@@ -58,8 +58,8 @@ loop-again c =
       below-more _ _ (l .inv .1)
           (⊎-elim
           (λ w.
-          true-repeat t (l .i) _ (told-repeat m at _ (octet .ensures) (w .0 .taken)) (w .1 .left) (w .2 .left)
-          (told-first m (getD (a .t2) (octet .result - 1) 0) _ (w .3 .ensures) (w .4 .left)))
+          true-repeat t (l .i) _ (told-repeat m at _ (octet .ensures) (w .0 .taken)) (w .1 .left) (omega (arith, w .2 .left))
+          (told-first m (getD (a .t2) (octet .result - 1) 0) _ (w .3 .ensures) (omega (arith, w .4 .left))))
           (λ w. no-repeat m at _ (octet .ensures) t (l .i) refl (w .left))
           (c .if1 .came)),
     )
