@@ -40,7 +40,8 @@ determined-next d r s e f a b = (
   ap (λ (c : Called). c .left) (a ∙ sym b),
 )
 
-pub determined-given-at : (m : List ℕ) (received place : ℕ) (r s : SteppedCode) → steppedOf r ≡ stepped m received place → steppedOf s ≡ stepped m received place → r ≡ s
+pub determined-given-at : (m : List ℕ) (received place : ℕ) (r s : SteppedCode)
+    → steppedOf r ≡ stepped m received place → steppedOf s ≡ stepped m received place → r ≡ s
 determined-given-at m received place r s a b =
     let given = determined-description-at m received place (r .given) (s .given) (ap (λ (t : Stepped). t .given) a) (ap (λ (t : Stepped). t .given) b) in
     let left = ap (λ (t : Stepped). t .place) (a ∙ sym b) in

@@ -40,7 +40,9 @@ readingFrom-readOf (readings.Refused r) = rw (ne-eqb (numberOf r) 0 (numberOf-po
 pub determined-told-at : (m : List ℕ) (at : ℕ) (r s : Description) → toldOf r ≡ told m at → toldOf s ≡ told m at → r ≡ s
 determined-told-at m at r s a b = sym (toldFrom-toldOf r) ∙ ap toldFrom (a ∙ sym b) ∙ toldFrom-toldOf s
 
-pub determined-shown : (m : List ℕ) (i at : ℕ) (r s : Slot) → shownOf r ≡ record { new = new m i; told = told m at } → shownOf s ≡ record { new = new m i; told = told m at } → r ≡ s
+pub determined-shown : (m : List ℕ) (i at : ℕ) (r s : Slot)
+    → shownOf r ≡ record { new = new m i; told = told m at }
+    → shownOf s ≡ record { new = new m i; told = told m at } → r ≡ s
 determined-shown m i at r s a b = sym (slotFrom-shownOf r) ∙ ap slotFrom (a ∙ sym b) ∙ slotFrom-shownOf s
 
 pub determined-octet-at : (m : List ℕ) (at r s : ℕ) → r ≡ octetAt m at → s ≡ octetAt m at → r ≡ s

@@ -18,5 +18,6 @@ givenFrom-givenOf (givens.Next n s) = ap (givens.Next n) (slotFrom-shownOf s)
 givenFrom-givenOf givens.NoMore = refl
 givenFrom-givenOf (givens.Refused r) = ap givens.Refused (refusalOf-numberOf r)
 
-pub determined-description-at : (m : List ℕ) (received place : ℕ) (r s : GivenCode) → givenOf r ≡ given m received place → givenOf s ≡ given m received place → r ≡ s
+pub determined-description-at : (m : List ℕ) (received place : ℕ) (r s : GivenCode)
+    → givenOf r ≡ given m received place → givenOf s ≡ given m received place → r ≡ s
 determined-description-at m received place r s a b = sym (givenFrom-givenOf r) ∙ ap givenFrom (a ∙ sym b) ∙ givenFrom-givenOf s

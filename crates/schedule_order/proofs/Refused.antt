@@ -27,7 +27,9 @@ module _ (m : List ℕ) where
         repeats = e;
         why =
             ⊎-elim (λ a. inl (eqb-true n 0 a))
-            (λ w. inr (⊎-elim (λ a. inl (omega (arith, leb-true (suc i) n a))) (λ a. inr (not-true (isFirst (tells m (n - 1))) a)) (either (leb (suc i) n) (not (isFirst (tells m (n - 1)))) w)))
+            (λ w. inr
+            (⊎-elim (λ a. inl (omega (arith, leb-true (suc i) n a))) (λ a. inr (not-true (isFirst (tells m (n - 1))) a))
+            (either (leb (suc i) n) (not (isFirst (tells m (n - 1)))) w)))
             (either (eqb n 0) (leb (suc i) n || not (isFirst (tells m (n - 1)))) h);
       }
   false-because i l optional e h = absurd (false≢true h)

@@ -97,7 +97,8 @@ module _ (m : List ℕ) (received : ℕ) where
   spare : (s : ℕ) → 1 < length m → Alike m (withSpare m s) received
   spare s l =
       let here : octetAt (withSpare m s) 1 ≡ 64 * s + end m = getD-set-same m 1 (64 * s + end m) 0 l in
-      let slots = same-slots m (withSpare m s) (sym (length-set m 1 (64 * s + end m))) (ap (λ (x : ℕ). x / 64) (other 0 (omega arith))) (omega arith) (λ i l _. other i (omega arith)) in
+      let slots = same-slots m (withSpare m s) (sym (length-set m 1 (64 * s + end m)))
+      (ap (λ (x : ℕ). x / 64) (other 0 (omega arith))) (omega arith) (λ i l _. other i (omega arith)) in
       ignored m (withSpare m s) slots received .same (ap (λ (x : ℕ). x % 64) (other 0 (omega arith)))
     where
       other : (i : ℕ) → (i ≡ 1 → ⊥) → octetAt m i ≡ octetAt (withSpare m s) i

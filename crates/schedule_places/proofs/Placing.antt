@@ -49,7 +49,8 @@ module _ (m : List ℕ) (received : ℕ) where
       go : Outcome (headFaults m received) → unplaced (numberOf r) ≡ ruled unplaced (faults m received) (whole m)
       go (refuses n a h) =
           ap unplaced (ap (λ (x : Read). x .number) (q ∙ h Read unread (good m)))
-          ∙ sym (ruled-append unplaced (headFaults m received) (bodyFaults m received) (whole m) ∙ h Placed unplaced (ruled unplaced (bodyFaults m received) (whole m)))
+          ∙ sym (ruled-append unplaced (headFaults m received) (bodyFaults m received) (whole m)
+          ∙ h Placed unplaced (ruled unplaced (bodyFaults m received) (whole m)))
       go (passes h f) = absurd (numberOf-positive r (ap (λ (x : Read). x .number) (q ∙ f Read unread (good m))))
 
   -- both groups found, the place after them k
@@ -75,7 +76,9 @@ module _ (m : List ℕ) (received : ℕ) where
     agrees =
         rw (h .ends)
         (some-agree (falseRepeat (toldBy m s)) (falseRepeat (tells m)) (end m)
-        (λ i l. falseRepeat-agree (toldBy m s) (tells m) (end m) i (λ j w. ap (told m) (all-placed j (omega (arith, h .last, h .ends)) ∙ rw (lt-ltb j (end m) w))) l))
+        (λ i l.
+        falseRepeat-agree (toldBy m s) (tells m) (end m) i
+        (λ j w. ap (told m) (all-placed j (omega (arith, h .last, h .ends)) ∙ rw (lt-ltb j (end m) w))) l))
 
     pub placed-short : received < k → unplaced 23 ≡ placed m received
     placed-short l = sym (h .places ∙ rw (lt-ltb received (place m (end m)) (rw after-all at l)))

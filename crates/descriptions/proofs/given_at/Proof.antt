@@ -164,13 +164,17 @@ module _ {M : Type 1} (𝓤 : URA M) (H : Heap 𝓤) (A : Atoms 𝓤) (W : Given
           qed W (Alive ∷ ‵ (owns (ShrSlice (named 0) κ u8 ∷ usize ∷ usize ∷ []) (s, (n, (k, tt))) passed) ∷ []) ∵
           enter ! C Λ code.function (v ∷ vint w64 n ∷ vint w64 k ∷ []) _ $
           alloc1 ! (λ l₀. alloc1 ! (λ l₁. alloc1 ! (λ l₂. alloc1 ! (λ l₃. alloc1 ! (λ l₄. alloc1 ! (λ l₅. alloc1 ! (λ l₆. alloc1 ! (λ l₇. alloc0 ! $ params1 ! $
-          pass1 ! (init ! 12 refl (shr-slice-lawful 𝓤 H A W (named 0) κ u8 .typed s (v ∷ []) p .0)) $ pass1 ! (init ! 10 refl (tt, record { fits = few })) $ pass1 ! (init ! 8 refl (tt, record { fits = fits })) $ pass0 ! $
+          pass1 ! (init ! 12 refl (shr-slice-lawful 𝓤 H A W (named 0) κ u8 .typed s (v ∷ []) p .0)) $
+          pass1 ! (init ! 10 refl (tt, record { fits = few })) $ pass1 ! (init ! 8 refl (tt, record { fits = fits })) $ pass0 ! $
           assigns !
-          (agg ! (and-then ! (load ! (from ! (stop !)) (look ! 12 refl)) (and-then ! (load ! (from ! (stop !)) (look ! 10 refl)) (and-then ! (load ! (from ! (stop !)) (look ! 8 refl)) (no-more !)))))
-          (from ! (stop !)) (init ! 6 refl (tt, (shr-slice-lawful 𝓤 H A W (named 0) κ u8 .typed s (v ∷ []) p .0 .1, (record { fits = few }, (record { fits = fits }, tt))))) $
+          (agg ! (and-then ! (load ! (from ! (stop !)) (look ! 12 refl)) (and-then ! (load ! (from ! (stop !)) (look ! 10 refl))
+          (and-then ! (load ! (from ! (stop !)) (look ! 8 refl)) (no-more !)))))
+          (from ! (stop !))
+          (init ! 6 refl (tt, (shr-slice-lawful 𝓤 H A W (named 0) κ u8 .typed s (v ∷ []) p .0 .1, (record { fits = few }, (record { fits = fits }, tt))))) $
           assigns ! (addr ! (from ! (stop !))) (from ! (stop !)) (init ! 2 refl (tt, tt)) $
           -- what s owns is had twice, once for the exit and once in what the struct owns
-          move ! (17 ∷ []) $ fsplit ! $ move ! (1 ∷ []) $ drop ! $ use1 W (‵ Lent ⊛ ‵ Lent) (shr-slice-copy 𝓤 H A W (named 0) κ u8 .twice s (v ∷ [])) $ split ! $
+          move ! (17 ∷ []) $ fsplit ! $ move ! (1 ∷ []) $ drop ! $
+          use1 W (‵ Lent ⊛ ‵ Lent) (shr-slice-copy 𝓤 H A W (named 0) κ u8 .twice s (v ∷ [])) $ split ! $
           nothing ! $ number ! k fits $ fjoin ! $ number ! n few $ fjoin ! $ move ! (1 ∷ 0 ∷ []) $ fjoin ! $
           use1 W (‵ (Own κ d)) (own-shut 𝓤 H A W (D κ) (L κ) (s, (n, (k, tt)))) $
           -- [what the struct owns; what s owns; room for _7; …; _6; …; room for _5; …; _4; …; _3; …; _2; …; _1; …; room for _0; …; the token]
@@ -188,7 +192,8 @@ module _ {M : Type 1} (𝓤 : URA M) (H : Heap 𝓤) (A : Atoms 𝓤) (W : Given
           ⊛ raw (ensured 𝓤 H A next.ended (next.clauses 𝓤 H A at-mem run) (ν ∷ κ, (κ, tt)) (lent l₄ δ, tt) tt r)))) (id⊢ 𝓤 _) $ await ! tt $ pick ! (λ r.
           -- what `next` ensures, at the struct that it left
           split ! $ move ! (1 ∷ []) $
-          use1 W (some (λ (zs : Descriptions × Unit {0}). ‵ (lasts next.ended (ν ∷ κ, (κ, tt)) (lent l₄ δ, tt) zs) ⊛ raw (fact 𝓤 (calledOf r (zs .0) ≡ called d)))) (id⊢ 𝓤 _) $
+          use1 W
+          (some (λ (zs : Descriptions × Unit {0}). ‵ (lasts next.ended (ν ∷ κ, (κ, tt)) (lent l₄ δ, tt) zs) ⊛ raw (fact 𝓤 (calledOf r (zs .0) ≡ called d)))) (id⊢ 𝓤 _) $
           pick ! (λ zs. split ! $ move ! (1 ∷ []) $ heard ! (calledOf r (zs .0) ≡ called d) (λ e. fsplit ! $ move ! (2 ∷ []) $ split ! $ move ! (1 ∷ []) $
           -- [the result; the tokens; the last struct; …; the lender's part; the way back; …; what s owns; room for _7; …; _6; …; room for _5; …; …; _3; …; _2; …; _1; …; room for _0; …]
           peeks ! S.the-row (Is S.the-row) (shows 𝓤 H A S.the-row) r (w ∷ []) (λ is.
@@ -205,11 +210,14 @@ module _ {M : Type 1} (𝓤 : URA M) (H : Heap 𝓤) (A : Atoms 𝓤) (W : Given
           move ! (1 ∷ []) $ peeks ! (R κ) (Is (R κ)) (shows 𝓤 H A (R κ)) (zs .0) (T′.lowered (zs .0) ∷ []) (λ g.
           drop ! $
           -- [_4; the token; what was given; …; …; what s owns; room for _7; …; _6; …; _5; …; …; _3; …; _2; …; _1; …; room for _0; …]
-          assigns ! (of-opd ! (load ! (from ! (fld ! refl (stop !))) (look-in ! 0 (sub ! 2 refl (whole !))))) (from ! (stop !)) (init ! 6 refl (tt, record { fits = room (zs .0) g })) $
+          assigns ! (of-opd ! (load ! (from ! (fld ! refl (stop !))) (look-in ! 0 (sub ! 2 refl (whole !))))) (from ! (stop !))
+          (init ! 6 refl (tt, record { fits = room (zs .0) g })) $
           move ! (2 ∷ []) $ nothing ! $ number ! (zs .0 .place) (room (zs .0) g) $ fjoin ! $ move ! (1 ∷ 0 ∷ []) $ fjoin ! $
-          use1 W (‵ (U.the-row .own (made r (zs .0)) (LL.vals U.the-type U′.the-laws (made r (zs .0))))) (own-shut 𝓤 H A W U.the-type U′.the-laws (r, (zs .0 .place, tt))) $
+          use1 W (‵ (U.the-row .own (made r (zs .0)) (LL.vals U.the-type U′.the-laws (made r (zs .0)))))
+          (own-shut 𝓤 H A W U.the-type U′.the-laws (r, (zs .0 .place, tt))) $
           peeks ! U.the-row (Is U.the-row) (shows 𝓤 H A U.the-row) (made r (zs .0)) (LL.vals U.the-type U′.the-laws (made r (zs .0))) (λ is′.
-          assigns ! (agg ! (and-then ! (load ! (from ! (stop !)) (look ! 10 refl)) (and-then ! (load ! (from ! (stop !)) (look ! 6 refl)) (no-more !)))) (from ! (stop !))
+          assigns ! (agg ! (and-then ! (load ! (from ! (stop !)) (look ! 10 refl)) (and-then ! (load ! (from ! (stop !)) (look ! 6 refl)) (no-more !))))
+          (from ! (stop !))
           (init ! 19 refl (LL.lawful U.the-type U′.the-laws 𝓤 H A W .typed (made r (zs .0)) _ is′ .0)) $
           returns ! (look ! 19 refl) $ forget ! 1 refl $ forget ! 6 refl $ forget ! 8 refl $ forget ! 10 refl $
           forget ! 13 refl $ forget ! 15 refl $ forget ! 17 refl $ forget ! 19 refl $

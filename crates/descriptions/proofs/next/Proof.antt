@@ -116,7 +116,8 @@ module _ {M : Type 1} (𝓤 : URA M) (H : Heap 𝓤) (A : Atoms 𝓤) (W : Given
     apart : d .received < 2 ^ 64 → d .place < 2 ^ 64 → ent 𝓤 (⋆ 𝓤 H A (‵ (Own κ′ d) ∷ Alive ∷ [])) (sep 𝓤 (At .pre to) (sem 𝓤 H A (Own κ′ d)))
     apart few low-place =
         qed W (‵ (Own κ′ d) ∷ Alive ∷ []) ∵
-        use1 W (‵ (Own κ′ d) ⊛ ‵ (Own κ′ d)) (LL.copy (D κ′) (T′.the-copy (record { mir = named 1; lft = κ′ })) 𝓤 H A W .twice d (T′.lowered d ∷ [])) $ split ! $
+        use1 W (‵ (Own κ′ d) ⊛ ‵ (Own κ′ d))
+        (LL.copy (D κ′) (T′.the-copy (record { mir = named 1; lft = κ′ })) 𝓤 H A W .twice d (T′.lowered d ∷ [])) $ split ! $
         use1 W (given (T′.lowered d ∷ [] ≡ T′.lowered d ∷ []) (‵ (all-own (D κ′ .parts) (L κ′) vd))) (own-open 𝓤 H A W (D κ′) (L κ′) vd (T′.lowered d)) $
         learn ! (λ _.
         use1 W (‵ (ownAt (D κ′ .parts) (L κ′) 0 (d .message)) ⊛ ‵ (rest (D κ′ .parts) (L κ′) 0 vd)) (own-out 𝓤 H A W (D κ′ .parts) (L κ′) 0 vd) $ split ! $
@@ -141,7 +142,8 @@ module _ {M : Type 1} (𝓤 : URA M) (H : Heap 𝓤) (A : Atoms 𝓤) (W : Given
     -- what is had at exit
     abbrev Ended : Stepped → Val → List (Item 𝓤)
     Ended r v =
-        ‵ (S.the-row .own (r .given) (v ∷ [])) ∷ ‵ (fobs γ (R κ′ .coded .code (left (r .place)))) ∷ ‵ (fbor κ (Body (mem (R κ′)) b o γ)) ∷ ‵ (flft κ q) ∷ Alive ∷ []
+        ‵ (S.the-row .own (r .given) (v ∷ [])) ∷ ‵ (fobs γ (R κ′ .coded .code (left (r .place))))
+        ∷ ‵ (fbor κ (Body (mem (R κ′)) b o γ)) ∷ ‵ (flft κ q) ∷ Alive ∷ []
 
     exits : (r : Stepped) (v : Val) → steppedOf r ≡ found → ent 𝓤 (⋆ 𝓤 H A (Ended r v)) (Post v)
     exits r v e =
@@ -168,12 +170,16 @@ module _ {M : Type 1} (𝓤 : URA M) (H : Heap 𝓤) (A : Atoms 𝓤) (W : Given
           move ! (1 ∷ []) $ peeks ! (R κ′) (Is (R κ′)) (shows 𝓤 H A (R κ′)) d (T′.lowered d ∷ []) (λ g.
           move ! (1 ∷ 0 ∷ []) $
           -- [the struct's cell; what it owns; the open borrow; obs; auth; the token of 'a; …; _5; …; _4; …; _3; …; room for _2; …; _1; …; room for _0; …]
-          assigns ! (of-opd ! (load ! (from ! (hop ! (look ! 15 refl) (fld ! refl (stop !)))) (look-in ! 0 (sub ! 0 refl (whole !))))) (from ! (stop !)) (init ! 11 refl (tt, typed g .1 .0)) $
-          assigns ! (of-opd ! (load ! (from ! (hop ! (look ! 15 refl) (fld ! refl (stop !)))) (look-in ! 0 (sub ! 1 refl (whole !))))) (from ! (stop !)) (init ! 9 refl (tt, typed g .1 .1 .0)) $
-          assigns ! (of-opd ! (load ! (from ! (hop ! (look ! 15 refl) (fld ! refl (stop !)))) (look-in ! 0 (sub ! 2 refl (whole !))))) (from ! (stop !)) (init ! 7 refl (tt, typed g .1 .1 .1 .0)) $
+          assigns ! (of-opd ! (load ! (from ! (hop ! (look ! 15 refl) (fld ! refl (stop !)))) (look-in ! 0 (sub ! 0 refl (whole !)))))
+          (from ! (stop !)) (init ! 11 refl (tt, typed g .1 .0)) $
+          assigns ! (of-opd ! (load ! (from ! (hop ! (look ! 15 refl) (fld ! refl (stop !)))) (look-in ! 0 (sub ! 1 refl (whole !)))))
+          (from ! (stop !)) (init ! 9 refl (tt, typed g .1 .1 .0)) $
+          assigns ! (of-opd ! (load ! (from ! (hop ! (look ! 15 refl) (fld ! refl (stop !)))) (look-in ! 0 (sub ! 2 refl (whole !)))))
+          (from ! (stop !)) (init ! 7 refl (tt, typed g .1 .1 .1 .0)) $
           move ! (1 ∷ 5 ∷ []) $ use2 W (raw (At .pre to) ⊛ ‵ (Own κ′ d)) (apart (typed g .1 .1 .0 .fits) (typed g .1 .1 .1 .0 .fits)) $ split ! $
           calls-at ! fm At known to
-          (and-then ! (load ! (from ! (stop !)) (look ! 11 refl)) (and-then ! (load ! (from ! (stop !)) (look ! 9 refl)) (and-then ! (load ! (from ! (stop !)) (look ! 7 refl)) (no-more !)))) (λ w.
+          (and-then ! (load ! (from ! (stop !)) (look ! 11 refl)) (and-then ! (load ! (from ! (stop !)) (look ! 9 refl))
+          (and-then ! (load ! (from ! (stop !)) (look ! 7 refl)) (no-more !)))) (λ w.
           use1 W (later (some (λ (r : Stepped). (Alive ⊛ ‵ (U.the-row .own r (w ∷ []))) ⊛ raw (Said r)))) (id⊢ 𝓤 _) $ await ! tt $ pick ! (λ r.
           split ! $ move ! (1 ∷ []) $ use1 W (raw (fact 𝓤 (steppedOf r ≡ found))) (said r) $ heard ! (steppedOf r ≡ found) (λ e. split ! $ move ! (1 ∷ []) $
           -- [the step; the token of 'a; what the struct owns; its cell; the open borrow; obs; auth; …; _5; …; _4; …; _3; …; room for _2; …; _1; …; room for _0; …]
@@ -186,13 +192,15 @@ module _ {M : Type 1} (𝓤 : URA M) (H : Heap 𝓤) (A : Atoms 𝓤) (W : Given
           (own-out 𝓤 H A W (U.the-type .parts) U′.the-laws 0 (r .given, (r .place, tt))) $ split ! $ move ! (1 ∷ []) $ drop ! $
           peeks ! S.the-row (Is S.the-row) (shows 𝓤 H A S.the-row) (r .given) (EL.vals S.the-type S′.the-laws (r .given)) (λ is′.
           -- the new place is stored, and what was given is returned
-          assigns ! (of-opd ! (load ! (from ! (fld ! refl (stop !))) (look-in ! 14 (sub ! 1 refl (whole !))))) (from ! (hop ! (look ! 16 refl) (fld ! refl (stop !))))
+          assigns ! (of-opd ! (load ! (from ! (fld ! refl (stop !))) (look-in ! 14 (sub ! 1 refl (whole !)))))
+          (from ! (hop ! (look ! 16 refl) (fld ! refl (stop !))))
           (store-in ! 3 (sub ! 2 refl (whole !)) (tt, record { fits = fits r w is })) $
           assigns ! (of-opd ! (load ! (from ! (fld ! refl (stop !))) (look-in ! 14 (sub ! 0 refl (whole !))))) (from ! (stop !))
           (init ! 18 refl (EL.lawful S.the-type S′.the-laws 𝓤 H A W tt .typed (r .given) _ is′ .0)) $
           -- the borrow is closed at the new struct
           move ! (2 ∷ []) $ use1 W (‵ (Own κ′ (left (r .place)))) (again (r .place) (fits r w is)) $
-          move ! (3 ∷ []) $ use1 W (‵ (cellAt fullShare (R κ′ .mir) (low (r .place) ∷ []) b o)) (W .laws .at-raw fullShare (T′.mir erased) b o (low (r .place))) $
+          move ! (3 ∷ []) $ use1 W (‵ (cellAt fullShare (R κ′ .mir) (low (r .place) ∷ []) b o))
+          (W .laws .at-raw fullShare (T′.mir erased) b o (low (r .place))) $
           move ! (0 ∷ 1 ∷ 4 ∷ 5 ∷ 6 ∷ []) $ closes ! tt (R κ′) (left (r .place)) (low (r .place) ∷ []) b o $
           -- [obs; the borrow; the token of 's; what was given; the token of 'a; …; _5; …; _4; …; _3; …; _2; …; _1; …; _0; …]
           returns ! (look ! 16 refl) $ forget ! 6 refl $ forget ! 8 refl $ forget ! 10 refl $ forget ! 12 refl $ forget ! 14 refl $ forget ! 16 refl $

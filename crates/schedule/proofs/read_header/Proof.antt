@@ -11,7 +11,8 @@ sent : (c : tie.Else2) → wholeBlocks (c .before .before .before .before .args 
 sent c = sym (c .before .whole-blocks .ensures) ∙ not-false _ (c .if2 .left)
 
 -- what was asked of Begin and End
-bounds : (c : tie.After-is-in-bounds) → c .is-in-bounds .result ≡ inBounds (c .before .before .before .before .before .before .before .before .args .message .now)
+bounds : (c : tie.After-is-in-bounds)
+    → c .is-in-bounds .result ≡ inBounds (c .before .before .before .before .before .before .before .before .args .message .now)
 bounds c = c .is-in-bounds .ensures ∙ within-low (c .before .before .before .before .before .before .before .before .args .message .now) (c .before .if3 .left)
 
 returns : tie.Need-returns
@@ -46,14 +47,16 @@ returns-5 c =
     let b = c .before .before in
     let t = b .before .before in
     let s = t .before .before .before in
-    head-new _ _ (s .before .before .if1 .left) (sent s) (t .if3 .left) (sym (bounds (b .before)) ∙ not-false _ (b .if4 .left)) (sym (c .before .has-new-past .ensures) ∙ c .if5 .taken)
+    head-new _ _ (s .before .before .if1 .left) (sent s) (t .if3 .left)
+    (sym (bounds (b .before)) ∙ not-false _ (b .if4 .left)) (sym (c .before .has-new-past .ensures) ∙ c .if5 .taken)
 
 returns-6 : tie.Need-returns-6
 returns-6 c =
     let b = c .before .before in
     let t = b .before .before in
     let s = t .before .before .before in
-    head-good _ _ (s .before .before .if1 .left) (sent s) (t .if3 .left) (sym (bounds (b .before)) ∙ not-false _ (b .if4 .left)) (sym (c .before .has-new-past .ensures) ∙ c .if5 .left)
+    head-good _ _ (s .before .before .if1 .left) (sent s) (t .if3 .left)
+    (sym (bounds (b .before)) ∙ not-false _ (b .if4 .left)) (sym (c .before .has-new-past .ensures) ∙ c .if5 .left)
 
 pub read-header-spec : {M : Type 1} → statement M
 read-header-spec =

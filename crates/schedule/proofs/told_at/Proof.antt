@@ -18,7 +18,8 @@ add-octet-at c =
 returns-2 : tie.Need-returns-2
 returns-2 c =
     let a = c .before .before .before .before .args in
-    ap (long (c .before .before .octet-at .result)) (c .octet-at2 .ensures) ∙ told-is-long (a .message .now) (a .at) _ (c .before .before .octet-at .ensures) (c .before .if1 .left)
+    ap (long (c .before .before .octet-at .result)) (c .octet-at2 .ensures)
+    ∙ told-is-long (a .message .now) (a .at) _ (c .before .before .octet-at .ensures) (c .before .if1 .left)
 
 pub told-at-spec : {M : Type 1} → statement M
 told-at-spec =

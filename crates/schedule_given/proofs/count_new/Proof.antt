@@ -23,7 +23,8 @@ loop-again : tie.Need-loop-again Inv-loop μ-loop
 loop-again c =
     let m = c .before .before .before .before .before .args .message .now in
     let l = c .before .before .before .loop in
-    let told : (v : Bool) → c .before .is-new .result ≡ v → grouped m true (l .i) ≡ Bool·beq v true = λ v e. grouped-told m (l .i) true _ _ (c .before .is-new .ensures) (ap (λ (x : Bool). Bool·beq x true) e) in (
+    let told : (v : Bool) → c .before .is-new .result ≡ v → grouped m true (l .i) ≡ Bool·beq v true =
+    λ v e. grouped-told m (l .i) true _ _ (c .before .is-new .ensures) (ap (λ (x : Bool). Bool·beq x true) e) in (
       omega arith,
       ⊎-elim
           (λ w. omega (arith, w .1, count-yes (grouped m true) (l .i) (told _ (w .0 .taken))))

@@ -14,8 +14,12 @@ returns c =
 
 pick-requires-2 : tie.Need-pick-requires-2
 pick-requires-2 c κs =
-    let m = c .before .before .before .args .message .now in
-    (search needs, search needs, search needs, rw (c .before .before .before .pre .1) (omega (arith, groups-whole m, rw (c .before .before .before .pre .1) at (c .before .count-new .ensures))))
+    let m = c .before .before .before .args .message .now in (
+      search needs,
+      search needs,
+      search needs,
+      rw (c .before .before .before .pre .1) (omega (arith, groups-whole m, rw (c .before .before .before .pre .1) at (c .before .count-new .ensures))),
+    )
 
 returns-2 : tie.Need-returns-2
 returns-2 c =

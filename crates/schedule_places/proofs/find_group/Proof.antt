@@ -29,8 +29,12 @@ loop-again c =
     let m = a .message .now in (
       omega arith,
       ⊎-elim
-          (λ w. rw (w .2, w .3) (finds-take m (a .new) (a .places) (l .i) (l .at) (l .found) (l .inv .1) _ (grouped-told m (l .i) (a .new) _ _ (bit .ensures) (w .0 .taken)) (omega arith) (w .1 .ensures)))
-          (λ w. rw (w .1, w .2) (finds-skip m (a .new) (a .places) (l .i) (l .at) (l .found) (l .inv .1) (grouped-told m (l .i) (a .new) _ _ (bit .ensures) (w .0 .left))))
+          (λ w. rw (w .2, w .3)
+          (finds-take m (a .new) (a .places) (l .i) (l .at) (l .found) (l .inv .1) _
+          (grouped-told m (l .i) (a .new) _ _ (bit .ensures) (w .0 .taken)) (omega arith) (w .1 .ensures)))
+          (λ w. rw (w .1, w .2)
+          (finds-skip m (a .new) (a .places) (l .i) (l .at) (l .found) (l .inv .1)
+          (grouped-told m (l .i) (a .new) _ _ (bit .ensures) (w .0 .left))))
           (c .if1 .came),
     )
 
