@@ -1,18 +1,11 @@
 -- Laws of the places where descriptions start, and of what stands there.
-use Rattle.laws.proofs.Base.{_≡_, refl, _∙_, Bool, true, false, cond, List, ℕ, zero, suc, _+_, _*_, _≤_, _<_, eq-or-lt-of-le, le-of-suc-le-suc, not-suc-le-zero, add-one, arith, ⊎-elim, length, List·getD-eq-default, leb, leb-true, leb-false, le-leb, lt-leb}
+use Rattle.laws.proofs.Base.{_≡_, refl, _∙_, Bool, true, false, cond, List, ℕ, zero, suc, _+_, _≤_, _<_, eq-or-lt-of-le, le-of-suc-le-suc, not-suc-le-zero, add-one, arith, ⊎-elim, length, List·getD-eq-default, leb, leb-true, leb-false, le-leb, lt-leb}
 use Rattle.schedule.specs.Paper.{octetAt, width, short, long, told, place}
 
 pub width-some : (x : ℕ) → 1 ≤ width x
 width-some x = go (leb 128 x)
   where
     go : (b : Bool) → 1 ≤ cond b 2 1
-    go true = omega arith
-    go false = omega arith
-
-pub width-most : (x : ℕ) → width x ≤ 2
-width-most x = go (leb 128 x)
-  where
-    go : (b : Bool) → cond b 2 1 ≤ 2
     go true = omega arith
     go false = omega arith
 
@@ -35,12 +28,6 @@ module _ (m : List ℕ) where
   pub place-next : (k : ℕ) → place m (k + 1) ≡ place m k + width (octetAt m (place m k))
   unfolding place
   place-next k = rw add-one
-
-  -- no description has more than two octets
-  pub place-most : (k : ℕ) → place m k ≤ 8 + 2 * k
-  unfolding place
-  place-most zero = omega arith
-  place-most (suc k) = let most = place-most k in omega (arith, width-most (octetAt m (place m k)))
 
   place-up : (k l : ℕ) → k < l → place m (suc k) ≤ place m l
   unfolding place

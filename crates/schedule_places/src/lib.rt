@@ -1,13 +1,15 @@
 // Where the description of each slot of a schedule message starts.
 ghost use mathlib.Core.Path.{_≡_};
 ghost use Prim.Native.Nat.{_≤_};
+ghost use lib.ListN.{length};
 ghost use Rattle.laws.specs.Upto.{some};
-ghost use Rattle.schedule.specs.Paper.{octetAt, width, end as endOf, place as placeOf, base, falseRepeat, read};
-ghost use Rattle.schedule.specs.Coded.{readOf};
+ghost use Rattle.schedule.specs.Paper.{place as placeOf, base, isFirst, falseRepeat, read};
+ghost use Rattle.schedule.specs.Coded.{toldOf, readOf};
 ghost use Rattle.schedule.specs.Inner.{toldBy};
 ghost use Rattle.schedule_places.specs.Coded.{placedOf};
-ghost use Rattle.schedule_places.specs.Inner.{placed, unplacedBy, Finds};
+ghost use Rattle.schedule_places.specs.Inner.{placed, unplacedBy, Readable, Group, steppedOf, step, Firsts};
 use refusals::Refusal;
+use schedule::Description;
 use schedule::Reading;
 
 // 000 3.5: the octets before the first description.
@@ -26,7 +28,7 @@ pub fn read_schedule(message: &[u8], received: usize) -> Reading
     read_places(message, received).answer
 }
 
-// Reads a message as far as where each description starts. A description that passes the received octets is told by the place after the last.
+// Reads a message as far as where each description starts.
 pub fn read_places(message: &[u8], received: usize) -> Placed
     ensures { λ r. ⌜ placedOf r ≡ placed (now (message .entry)) received ⌝ }
 {
@@ -34,14 +36,21 @@ pub fn read_places(message: &[u8], received: usize) -> Placed
     let Reading::Read(_, end) = header else {
         return refused(header);
     };
-    let news = find_group(message, end, true, [0; 48], HEADER);
-    let found = news.places;
-    let others = find_group(message, end, false, found, news.next);
-    if others.next > received {
+    let news = find_group(message, received, end, true, [0; 48], [false; 48], HEADER);
+    let reach = news.reach;
+    let Reach::To(next) = reach else {
         return refused(Reading::Refused(Refusal::DescriptionPastReceived));
-    }
+    };
+    let found = news.places;
+    let marked = news.firsts;
+    let others = find_group(message, received, end, false, found, marked, next);
+    let reach = others.reach;
+    let Reach::To(_) = reach else {
+        return refused(Reading::Refused(Refusal::DescriptionPastReceived));
+    };
     let places = others.places;
-    if has_false_repeat(message, places, end) {
+    let firsts = others.firsts;
+    if has_false_repeat(message, places, firsts, end) {
         return refused(Reading::Refused(Refusal::RepeatOfNoFirst));
     }
     Placed {
@@ -60,51 +69,100 @@ fn refused(answer: Reading) -> Placed
     }
 }
 
-// Where the descriptions of a group of slots start, among those of others, and the place after them.
-struct Group {
+// The place after a group of descriptions, or the refusal.
+enum Reach {
+    To(usize),
+    Refused(Refusal),
+}
+
+// A group's descriptions among others: the place after them, where that of each slot starts, and which are first transmissions.
+struct Part {
+    reach: Reach,
     places: [usize; 48],
-    next: usize,
+    firsts: [bool; 48],
 }
 
 // Finds the descriptions of the slots up to End whose new bit is as given, which start at a place.
-fn find_group(message: &[u8], end: usize, new: bool, places: [usize; 48], from: usize) -> Group
-    requires { ⌜ (end ≡ endOf (now message)) × (end ≤ 48) × (from ≡ placeOf (now message) (base (now message) new)) ⌝ }
-    ensures { λ r. ⌜ Finds (now (message .entry)) new end places (r .places) (r .next) ⌝ }
+fn find_group(
+    message: &[u8],
+    received: usize,
+    end: usize,
+    new: bool,
+    places: [usize; 48],
+    firsts: [bool; 48],
+    from: usize,
+) -> Part
+    requires { ⌜ Readable (now message) received end × (from ≡ placeOf (now message) (base (now message) new)) × (from ≤ received) ⌝ }
+    ensures { λ r. ⌜ Group (now (message .entry)) received new places firsts (r .places) (r .firsts) (r .reach) ⌝ }
 {
     let mut found = places;
+    let mut marked = firsts;
     let mut at = from;
     let mut i = 0;
     while i < end {
         if schedule::is_new(message, i) == new {
+            let Step::Took(description, next) = step_at(message, received, at) else {
+                return Part {
+                    reach: Reach::Refused(Refusal::DescriptionPastReceived),
+                    places: found,
+                    firsts: marked,
+                };
+            };
             found[i] = at;
-            at += width_at(message, at);
+            marked[i] = is_first(description);
+            at = next;
         }
         i += 1;
     }
-    Group {
+    Part {
+        reach: Reach::To(at),
         places: found,
-        next: at,
+        firsts: marked,
     }
 }
 
-// How many octets the description has that starts at a place.
-fn width_at(message: &[u8], at: usize) -> usize
-    ensures { λ r. ⌜ r ≡ width (octetAt (now (message .entry)) at) ⌝ }
+// A description with the place after it, or one that passes the received octets.
+enum Step {
+    Took(Description, usize),
+    Past,
+}
+
+fn step_at(message: &[u8], received: usize, at: usize) -> Step
+    requires { ⌜ (length (now message) ≡ 88) × (received ≤ 88) ⌝ }
+    ensures { λ r. ⌜ steppedOf r ≡ step (now (message .entry)) received at ⌝ }
 {
-    if schedule::octet_at(message, at) < 0x80 {
-        return 1;
+    if at >= received {
+        return Step::Past;
     }
-    2
+    if message[at] < 0x80 {
+        return Step::Took(schedule::told_at(message, at), at + 1);
+    }
+    if at + 1 >= received {
+        return Step::Past;
+    }
+    Step::Took(schedule::told_at(message, at), at + 2)
+}
+
+fn is_first(description: Description) -> bool
+    ensures { λ r. ⌜ r ≡ isFirst (toldOf description) ⌝ }
+{
+    match description {
+        Description::First(_) => true,
+        Description::Repeat(_) => false,
+        Description::Optional => false,
+        Description::Advised => false,
+    }
 }
 
 // Whether a slot up to End repeats what is no first transmission in a slot below it.
-fn has_false_repeat(message: &[u8], places: [usize; 48], end: usize) -> bool
-    requires { ⌜ end ≤ 48 ⌝ }
+fn has_false_repeat(message: &[u8], places: [usize; 48], firsts: [bool; 48], end: usize) -> bool
+    requires { ⌜ (end ≤ 48) × Firsts (now message) places firsts end ⌝ }
     ensures { λ r. ⌜ r ≡ some (falseRepeat (toldBy (now (message .entry)) places)) end ⌝ }
 {
     let mut i = 0;
     while i < end {
-        let n = schedule::octet_at(message, places[i]) as usize;
+        let at = places[i];
+        let n = schedule::octet_at(message, at) as usize;
         if n < 0x40 {
             if n == 0 {
                 return true;
@@ -112,7 +170,7 @@ fn has_false_repeat(message: &[u8], places: [usize; 48], end: usize) -> bool
             if n > i {
                 return true;
             }
-            if schedule::octet_at(message, places[n - 1]) < 0x80 {
+            if !firsts[n - 1] {
                 return true;
             }
         }

@@ -1,18 +1,18 @@
 -- `schedule_places::has_false_repeat` meets its contract. The invariant: no slot passed so far has a false repeat.
-use Rattle.laws.proofs.Base.{⊎-elim, false, _≡_, sym, refl, ℕ, _≤_, _<_, _-_, arith, getD, needs}
+use Rattle.laws.proofs.Base.{⊎-elim, false, _≡_, sym, refl, _∙_, ℕ, _≤_, _<_, _-_, arith, getD, not-true, not-false, needs}
 use borrow.Author.Count.{below-none, below-more}
 use Rattle.laws.proofs.Upto.{some-none, some-at}
 use Rattle.schedule.specs.Paper.{Told, again, falseRepeat}
 use Rattle.schedule.specs.Inner.{toldBy}
-use Rattle.schedule.proofs.Repeats.{false-zero, false-late, false-other, true-repeat, told-repeat, told-first, told-short, no-repeat}
+use Rattle.schedule.proofs.Repeats.{false-zero, false-late, false-other, true-repeat, told-repeat, no-repeat}
 use Rattle.schedule_places.proofs.has_false_repeat.Statement.{statement}
 use Rattle.schedule_places.proofs.has_false_repeat.Tie as tie
 
 abbrev Inv-loop : tie.InvT-loop
-Inv-loop message end places i₀ i = (i ≤ end) × ((k : ℕ) → k < i → falseRepeat (toldBy message places) k ≡ false)
+Inv-loop message end places firsts i₀ i = (i ≤ end) × ((k : ℕ) → k < i → falseRepeat (toldBy message places) k ≡ false)
 
 abbrev μ-loop : tie.MeasureT-loop
-μ-loop message end places i₀ i = end - i
+μ-loop message end places firsts i₀ i = end - i
 
 loop-holds : tie.Need-loop-holds Inv-loop μ-loop
 loop-holds c = (omega arith, below-none _)
@@ -38,28 +38,27 @@ returns-2 c =
 
 returns-3 : tie.Need-returns-3 Inv-loop μ-loop
 returns-3 c =
-    let r = c .before .before .before .before in
-    let a = r .before .before .before .before .before .args in
+    let r = c .before .before .before in
     let l = r .before .before .before .loop in
-    let named = getD (a .t2) (r .before .octet-at .result - 1) 0 in
     sym
     (some-at _ _ (l .i) (omega arith)
-    (false-other (tells r) (l .i) _ (repeats r) (told-short (a .message .now) named _ (c .before .octet-at2 .ensures) (omega (arith, c .if4 .taken)))))
+    (false-other (tells r) (l .i) _ (repeats r)
+    (sym (r .before .before .before .before .before .pre .1 (r .before .octet-at .result - 1) (omega arith)) ∙ not-true _ (c .if4 .taken))))
 
 loop-again : tie.Need-loop-again Inv-loop μ-loop
 loop-again c =
-    let a = c .before .before .before .before .before .args in
-    let m = a .message .now in
-    let t = toldBy m (a .t2) in
+    let s = c .before .before .before .before .before in
+    let m = s .args .message .now in
+    let t = toldBy m (s .args .t2) in
     let l = c .before .before .before .loop in
-    let at = getD (a .t2) (l .i) 0 in
+    let at = getD (s .args .t2) (l .i) 0 in
     let octet = c .before .octet-at in (
       omega arith,
       below-more _ _ (l .inv .1)
           (⊎-elim
           (λ w.
           true-repeat t (l .i) _ (told-repeat m at _ (octet .ensures) (w .0 .taken)) (w .1 .left) (omega (arith, w .2 .left))
-          (told-first m (getD (a .t2) (octet .result - 1) 0) _ (w .3 .ensures) (omega (arith, w .4 .left))))
+          (sym (s .pre .1 (octet .result - 1) (omega arith)) ∙ not-false _ (w .3 .left)))
           (λ w. no-repeat m at _ (octet .ensures) t (l .i) refl (w .left))
           (c .if1 .came)),
     )
@@ -74,5 +73,5 @@ has-false-repeat-spec =
     tie.close
     (tie.spec
     Inv-loop μ-loop loop-holds (λ c. search needs) (λ c. search needs) (λ c κs. search needs)
-    (λ c. search needs) returns returns-2 (λ c. search needs) (λ c. search needs) (λ c. search needs)
-    (λ c κs. search needs) returns-3 (λ c. search needs) (λ c. search needs) loop-again returns-4)
+    (λ c. search needs) returns returns-2 (λ c. search needs) (λ c. search needs) returns-3
+    (λ c. search needs) (λ c. search needs) loop-again returns-4)
