@@ -129,7 +129,7 @@ pub fn decide_on(
     if !known {
         return Decision::Read;
     }
-    let found = schedule::read_places(message, received);
+    let found = schedule_places::read_places(message, received);
     let answer = found.answer;
     if !board_held::tells_of(answer, slot) {
         return Decision::Read;

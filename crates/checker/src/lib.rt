@@ -50,7 +50,7 @@ fn first_untrue(
 fn compare(count: usize, said: [Planned; SLOTS], message: &[u8], received: usize) -> Checking
     ensures { λ r. ⌜ checkedOf r ≡ compared count (map plannedOf said) (now (message .entry)) received ⌝ }
 {
-    let found = schedule::read_places(message, received);
+    let found = schedule_places::read_places(message, received);
     let answer = found.answer;
     match answer {
         Reading::Refused(why) => Checking::Refused(why, 0),

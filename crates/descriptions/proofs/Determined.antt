@@ -3,8 +3,9 @@ use Rattle.laws.proofs.Base.{_≡_, refl, sym, ap, _∙_, cond, List, ℕ, eqb,
 use Rattle.laws.proofs.Map.{map-injective}
 use Rattle.refusals.specs.Number.{numberOf}
 use Rattle.refusals.proofs.Inverse.{refusalOf, refusalOf-numberOf, numberOf-positive}
-use Rattle.schedule.specs.declared.Given.{Given as GivenCode}
-use Rattle.schedule.proofs.Determined.{slotFrom, slotFrom-shownOf, determined-description-at}
+use Rattle.schedule_given.specs.declared.Given.{Given as GivenCode}
+use Rattle.schedule.proofs.Determined.{slotFrom, slotFrom-shownOf}
+use Rattle.schedule_given.proofs.Determined.{determined-description-at}
 use Rattle.descriptions.specs.declared.Numbered.{Numbered as NumberedCode}
 use Rattle.descriptions.specs.declared.Counted.{Counted}
 use Rattle.descriptions.specs.declared.Counted.the-variants.{Count, Refused}
@@ -39,7 +40,8 @@ determined-next d r s e f a b = (
   ap (λ (c : Called). c .left) (a ∙ sym b),
 )
 
-pub determined-given-at : (m : List ℕ) (received place : ℕ) (r s : SteppedCode) → steppedOf r ≡ stepped m received place → steppedOf s ≡ stepped m received place → r ≡ s
+pub determined-given-at : (m : List ℕ) (received place : ℕ) (r s : SteppedCode)
+    → steppedOf r ≡ stepped m received place → steppedOf s ≡ stepped m received place → r ≡ s
 determined-given-at m received place r s a b =
     let given = determined-description-at m received place (r .given) (s .given) (ap (λ (t : Stepped). t .given) a) (ap (λ (t : Stepped). t .given) b) in
     let left = ap (λ (t : Stepped). t .place) (a ∙ sym b) in

@@ -1,4 +1,5 @@
 -- What `descriptions` proves.
+pub mod Held
 pub mod Determined
 pub mod Stepping
 pub mod Giving

@@ -2,13 +2,13 @@
 use Rattle.laws.proofs.Base.{_≡_, refl, ap, _∙_, Bool, true, false, List, ℕ, zero, suc, _+_, min, arith, ltb, ltb-true, ltb-false}
 use Rattle.schedule.specs.Paper.{end, givenAt, given}
 use Rattle.descriptions.specs.Paper.{passed, reached, Ordered, ordered}
+use Rattle.descriptions.specs.Claims.{ReachedLeast}
 use Rattle.descriptions.proofs.Stepping.{Told, refused, whole, told}
 
 module _ (m : List ℕ) (received : ℕ) where
-  -- opening and calls reach each place up to the number of slots given and stay there: a place past it they don't reach
-  pub reached-least : (k : ℕ) → reached m received k ≡ min k (ordered m received .count)
-  reached-least zero = omega arith
-  reached-least (suc k) = go (told m received) (reached-least k)
+  least : (k : ℕ) → reached m received k ≡ min k (ordered m received .count)
+  least zero = omega arith
+  least (suc k) = go (told m received) (least k)
     where
       slots : (p : ℕ) → p ≡ min k (end m) → (b : Bool) → ltb p (end m) ≡ b → p + passed (givenAt m p) ≡ min (suc k) (end m)
       slots p q true e = let low = ltb-true p (end m) e in rw e (omega arith)
@@ -22,3 +22,6 @@ module _ (m : List ℕ) (received : ℕ) where
       go (whole w h o) q =
           let all : ordered m received .count ≡ end m = ap (λ (x : Ordered). x .count) o in
           rw (h (reached m received k), all) (slots (reached m received k) (q ∙ ap (min k) all) (ltb (reached m received k) (end m)) refl)
+
+pub reached-least : ReachedLeast
+reached-least = least

@@ -1,10 +1,10 @@
 -- A call of the reader of descriptions: what it gives, and the place that it leaves.
-use Rattle.laws.proofs.Base.{_≡_, refl, sym, ap, _∙_, Bool, true, false, List, ℕ, _+_, _≤_, _<_, _^_, arith, ltb, ltb-true, not-false}
-use Rattle.laws.proofs.Outcome.{Outcome, refuses, passes, outcome}
-use Rattle.schedule.specs.declared.Given.{Given as GivenCode}
-use Rattle.schedule.specs.Paper.{end, inBounds, faults, Given, refusal, givenAt, given}
-use Rattle.schedule.specs.Coded.{givenOf}
-use Rattle.schedule.proofs.Header.{within-end}
+use Rattle.laws.proofs.Base.{_≡_, refl, sym, ap, _∙_, Bool, true, false, List, ℕ, _+_, _≤_, _<_, _^_, arith, ltb, ltb-true}
+use Rattle.schedule_given.specs.declared.Given.{Given as GivenCode}
+use Rattle.schedule.specs.Paper.{end, Given, refusal, givenAt, given}
+use Rattle.schedule_given.specs.Coded.{givenOf}
+use Rattle.schedule.proofs.Answers.{Answered, answered}
+use Rattle.schedule.proofs.Answers as answers
 use Rattle.descriptions.specs.declared.Stepped.{Stepped as SteppedCode}
 use Rattle.descriptions.specs.Paper.{Stepped, passed, stepped, Ordered, unordered, inOrder, ordered}
 use Rattle.descriptions.specs.Coded.{steppedOf}
@@ -17,15 +17,11 @@ module _ (m : List ℕ) (received : ℕ) where
 
   pub told : Told
   unfolding given ordered
-  told = go (outcome (faults m received))
+  told = go (answered m received)
     where
-      go : Outcome (faults m received) → Told
-      go (refuses n a h) = refused n (λ i. h Given refusal (givenAt m i)) (h Ordered unordered (inOrder m))
-      go (passes h f) =
-          whole
-          (within-end m (not-false (inBounds m) (h .1 .1 .1 .0)))
-          (λ i. f Given refusal (givenAt m i))
-          (f Ordered unordered (inOrder m))
+      go : Answered m received → Told
+      go (answers.refused n s h) = refused n (λ i. h Given refusal (givenAt m i)) (h Ordered unordered (inOrder m))
+      go (answers.sound w) = whole (w .last) (λ i. w .answers Given refusal (givenAt m i)) (w .answers Ordered unordered (inOrder m))
 
   -- a call at place k that gives g and passes n
   module _ (k : ℕ) (g : Given) (n : ℕ) (gives : g ≡ given m received k) (passes : n ≡ passed g) where

@@ -3,9 +3,10 @@ use mathlib.Core.List.{map}
 use Prim.Native.Nat.{ℕ}
 use denote.Ref.{now}
 use Rattle.refusals.specs.Number.{numberOf}
-use Rattle.schedule.specs.declared.Given.{Given as GivenCode}
+use Rattle.schedule_given.specs.declared.Given.{Given as GivenCode}
 use Rattle.schedule.specs.Paper.{Given}
-use Rattle.schedule.specs.Coded.{shownOf, givenOf}
+use Rattle.schedule.specs.Coded.{shownOf}
+use Rattle.schedule_given.specs.Coded.{givenOf}
 use Rattle.descriptions.specs.declared.Numbered.{Numbered as NumberedCode}
 use Rattle.descriptions.specs.declared.Counted.{Counted}
 use Rattle.descriptions.specs.declared.Counted.the-variants.{Count, Refused}

@@ -1,3 +1,4 @@
 -- What `descriptions` defines.
 pub mod Paper
 pub mod Coded
+pub mod Claims

@@ -1,12 +1,12 @@
 // The descriptions of a lent schedule message, given one after the other.
 ghost use mathlib.Core.Path.{_≡_};
-ghost use Rattle.schedule.specs.Coded.{givenOf};
+ghost use Rattle.schedule_given.specs.Coded.{givenOf};
 ghost use Rattle.descriptions.specs.Paper.{passed, stepped, ordered};
 ghost use Rattle.descriptions.specs.Coded.{steppedOf, calledOf, called, orderedOf};
 use refusals::Refusal;
 use schedule::Description;
-use schedule::Given;
 use schedule::Slot;
+use schedule_given::Given;
 use sizes::SLOTS;
 
 // A slot by its number.
@@ -66,7 +66,7 @@ fn passed(given: Given) -> usize
 fn step_at(message: &[u8], received: usize, place: usize) -> Stepped
     ensures { λ s. ⌜ steppedOf s ≡ stepped (now (message .entry)) received place ⌝ }
 {
-    let given = schedule::description_at(message, received, place);
+    let given = schedule_given::description_at(message, received, place);
     Stepped {
         given,
         place: place + passed(given),
@@ -102,7 +102,7 @@ pub fn given_at(message: &[u8], received: usize, place: usize) -> Stepped
     }
 }
 
-// All that is given from opening on. Each step reads the message anew: where the order doesn't matter, `schedule::read_places` is the fast way.
+// All that is given from opening on. Each step reads the message anew: where the order doesn't matter, `schedule_places::read_places` is the fast way.
 pub fn all_given(message: &[u8], received: usize) -> Ordered
     ensures { λ r. ⌜ orderedOf r ≡ ordered (now (message .entry)) received ⌝ }
 {

@@ -1,34 +1,25 @@
 -- The cases of the header: which of its tests answers.
-use Rattle.laws.proofs.Base.{_≡_, true, false, _&&_, and-false, List, ℕ, _≤_, _<_, arith, length, leb, eq-eqb, ne-eqb, le-leb, lt-leb, leb-true}
+use Rattle.laws.proofs.Base.{_≡_, ap, true, false, _&&_, List, ℕ, _≤_, _<_, arith, length, leb, eq-eqb, ne-eqb, leb-true}
 use Rattle.sizes.specs.Paper.{wholeBlocks}
 use Rattle.laws.specs.Upto.{some}
 use Rattle.laws.proofs.Tests.{both}
-use Rattle.schedule.specs.Paper.{octetAt, type, begin, end, inBounds, newPast, Read, unread}
+use Rattle.schedule.specs.Paper.{octetAt, type, begin, end, bounded, inBounds, newPast, Read, unread}
 use Rattle.schedule.specs.Inner.{headRead}
 
-pub within-end : (m : List ℕ) → inBounds m ≡ true → end m ≤ 48
-within-end m w =
-    let upper = both (leb 1 (begin m)) (leb (begin m) (end m) && leb (end m) 48) w .1 in
-    leb-true (end m) 48 (both (leb (begin m) (end m)) (leb (end m) 48) upper .1)
+-- a Begin and an End that are in bounds, rule by rule
+pub within : (m : List ℕ) → inBounds m ≡ true → (1 ≤ begin m) × (begin m ≤ end m) × (end m ≤ 48)
+within m w =
+    let rule = both (leb 1 (begin m)) (leb (begin m) (end m) && leb (end m) 48) w in
+    let upper = both (leb (begin m) (end m)) (leb (end m) 48) (rule .1) in
+    (leb-true 1 (begin m) (rule .0), leb-true (begin m) (end m) (upper .0), leb-true (end m) 48 (upper .1))
 
--- the rule of Begin and End by the first octet, where the type is 00
+-- where the type is 00, Begin is the first octet
 module _ (m : List ℕ) (low : octetAt m 0 < 64) where
-  pub within-zero : octetAt m 0 ≡ 0 → inBounds m ≡ false
-  within-zero h = rw h
+  begin-low : octetAt m 0 ≡ begin m
+  begin-low = omega arith
 
-  pub within-over : end m < octetAt m 0 → inBounds m ≡ false
-  within-over h =
-      let over : end m < begin m = omega arith in
-      rw (lt-leb (begin m) (end m) over, and-false)
-
-  pub within-last : 48 < end m → inBounds m ≡ false
-  within-last h = rw (lt-leb (end m) 48 h, and-false, and-false)
-
-  pub within-good : (octetAt m 0 ≡ 0 → ⊥) → octetAt m 0 ≤ end m → end m ≤ 48 → inBounds m ≡ true
-  within-good a b c =
-      let some : 1 ≤ begin m = omega arith in
-      let up : begin m ≤ end m = omega arith in
-      rw (le-leb 1 (begin m) some, le-leb (begin m) (end m) up, le-leb (end m) 48 c)
+  pub within-low : bounded (octetAt m 0) (end m) ≡ inBounds m
+  within-low = ap (λ (b : ℕ). bounded b (end m)) begin-low
 
 module _ (m : List ℕ) (received : ℕ) where
   pub head-length : (length m ≡ 88 → ⊥) → unread 16 ≡ headRead m received
@@ -64,6 +55,5 @@ module _ (m : List ℕ) (received : ℕ) where
               → _≡_ {A = Read} (record { number = 0; begin = octetAt m 0; end = end m }) (headRead m received)
           unfolding headRead
           head-good h =
-              let same : octetAt m 0 ≡ begin m = omega arith in
               rw (eq-eqb (length m) 88 whole, sent, eq-eqb (type m) 0 type-good, ok, h)
-              (λ i. record { number = 0; begin = same i; end = end m })
+              (λ i. record { number = 0; begin = begin-low m low i; end = end m })

@@ -1,18 +1,10 @@
 -- Laws of the new bits.
-use Rattle.laws.proofs.Base.{_≡_, refl, sym, ap, _∙_, Bool, true, false, not, Bool·beq, false≢true, true≢false, List, ℕ, _+_, _-_, _/_, _%_, _^_, _≤_, _<_, zero-div, min-le-left, arith, length, take, drop, length-take, List·getD-eq-default, getD-take, getD-drop, eqb, le-leb, lt-leb}
+use Rattle.laws.proofs.Base.{_≡_, refl, sym, ap, _∙_, Bool, true, false, not, Bool·beq, false≢true, List, ℕ, _+_, _-_, _/_, _%_, _^_, _≤_, _<_, zero-div, min-le-left, arith, length, take, drop, length-take, List·getD-eq-default, getD-take, getD-drop, eqb, le-leb, lt-leb}
 use Rattle.schedule.specs.Paper.{octetAt, end, new, newPast, grouped}
 
-beq-same : (a b : Bool) → a ≡ b → Bool·beq a b ≡ true
-beq-same true true e = refl
-beq-same true false e = absurd (true≢false e)
-beq-same false true e = absurd (false≢true e)
-beq-same false false e = refl
-
-beq-other : (a b : Bool) → (a ≡ b → ⊥) → Bool·beq a b ≡ false
-beq-other true true e = absurd (e refl)
-beq-other true false e = refl
-beq-other false true e = refl
-beq-other false false e = absurd (e refl)
+beq-self : (a : Bool) → Bool·beq a a ≡ true
+beq-self true = refl
+beq-self false = refl
 
 beq-true : (a b : Bool) → Bool·beq a b ≡ true → a ≡ b
 beq-true true true e = refl
@@ -45,7 +37,7 @@ module _ (m : List ℕ) (i : ℕ) where
   grouped-flip = beq-flip (new m i)
 
   pub grouped-own : grouped m (new m i) i ≡ true
-  grouped-own = beq-same (new m i) (new m i) refl
+  grouped-own = beq-self (new m i)
 
   -- a slot up to End is not past it, and one past End is so by its new bit
   pub newPast-below : i < end m → newPast m i ≡ false
@@ -55,13 +47,7 @@ module _ (m : List ℕ) (i : ℕ) where
   newPast-from b h e = rw (le-leb (end m) i h) (sym e)
 
   module _ (b : Bool) where
-    -- a slot is in the group of its new bit, and in no other
-    pub grouped-same : (r : Bool) → r ≡ new m i → r ≡ b → grouped m b i ≡ true
-    grouped-same r e h = beq-same (new m i) b (sym e ∙ h)
-
-    pub grouped-other : (r : Bool) → r ≡ new m i → (r ≡ b → ⊥) → grouped m b i ≡ false
-    grouped-other r e h = beq-other (new m i) b (λ q. h (e ∙ q))
-
+    -- a slot is in a group or not by its new bit
     pub grouped-told : (r v : Bool) → r ≡ new m i → Bool·beq r b ≡ v → grouped m b i ≡ v
     grouped-told r v e h = ap (λ (x : Bool). Bool·beq x b) (sym e) ∙ h
 

@@ -16,7 +16,8 @@ module _ (m : List ℕ) where
   unfolding order
   order-picks true k i w =
       let news = picked (grouped m true) (end m) in
-      let inside : k < length news = omega (arith, picked-length (grouped m true) (end m), count-grows (grouped m true) (end m) i (w .below) (w .passes), w .before) in
+      let inside : k < length news =
+      omega (arith, picked-length (grouped m true) (end m), count-grows (grouped m true) (end m) i (w .below) (w .passes), w .before) in
       rw (zero-add k, List·getD-append news (picked (grouped m false) (end m)) 0 k inside, ← w .before)
       (picked-at (grouped m true) (end m) i (w .below) (w .passes))
   order-picks false k i w =

@@ -41,17 +41,6 @@ module _ (m : List ℕ) (a n : ℕ) (e : n ≡ octetAt m a) where
   pub told-repeat : n < 64 → told m a ≡ again n
   told-repeat l = rw (← e, lt-leb 128 n (omega arith), le-leb n 63 (omega arith))
 
-  pub told-first : 128 ≤ n → isFirst (told m a) ≡ true
-  told-first l = rw (← e, le-leb 128 n l)
-
-  pub told-short : n < 128 → isFirst (told m a) ≡ false
-  told-short l = rw (← e, lt-leb 128 n l) (go (leb n 63) (eqb n 65))
-    where
-      go : (p q : Bool) → isFirst (cond p (again n) (cond q advised optional)) ≡ false
-      go true q = refl
-      go false true = refl
-      go false false = refl
-
   -- a description of another kind is no false repeat
   pub no-repeat : (t : ℕ → Told) (i : ℕ) → t i ≡ told m a → 64 ≤ n → falseRepeat t i ≡ false
   no-repeat t i q l = ap (falseIn t i) q ∙ rw (← e, lt-leb n 63 (omega arith)) (go (leb 128 n) (eqb n 65))

@@ -4,11 +4,8 @@ use Rattle.schedule.specs.declared.Description.{Description}
 use Rattle.schedule.specs.declared.Description.the-variants.{First, Repeat, Optional, Advised}
 use Rattle.schedule.specs.declared.Slot.{Slot}
 use Rattle.schedule.specs.declared.Reading.{Reading}
-use Rattle.schedule.specs.declared.Placed.{Placed as PlacedCode}
-use Rattle.schedule.specs.declared.Given.{Given as GivenCode}
-use Rattle.schedule.specs.Paper.{Told, first, again, optional, advised, Shown, Read, unread, Placed, Given, next, noMore, refusal}
+use Rattle.schedule.specs.Paper.{Told, first, again, optional, advised, Shown, Read, unread}
 use Rattle.schedule.specs.declared.Reading.the-variants as readings
-use Rattle.schedule.specs.declared.Given.the-variants as givens
 
 -- the four kinds of description
 abbrev pub toldOf : Description → Told
@@ -24,12 +21,3 @@ shownOf s = record { new = s .new; told = toldOf (s .description) }
 abbrev pub readOf : Reading → Read
 readOf (readings.Read b e) = record { number = 0; begin = b; end = e }
 readOf (readings.Refused r) = unread (numberOf r)
-
-abbrev pub placedOf : PlacedCode → Placed
-placedOf p = record { read = readOf (p .answer); places = p .places }
-
--- a refusal by its number
-abbrev pub givenOf : GivenCode → Given
-givenOf (givens.Next n s) = next n (shownOf s)
-givenOf givens.NoMore = noMore
-givenOf (givens.Refused r) = refusal (numberOf r)

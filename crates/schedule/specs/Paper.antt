@@ -2,11 +2,11 @@
 use mathlib.Core.Bool.{Bool, true, false, cond, not, _&&_, _||_, Bool·beq}
 use mathlib.Core.List.{List, [], _∷_, _++_}
 use Prim.Native.Nat.{ℕ, zero, suc, _+_, _*_, _-_, _/_, _%_, _^_}
-use lib.ListN.{length, take, drop, getD, replicate}
+use lib.ListN.{length, take, drop, getD}
 use lib.Dec.{eqb, leb, ltb}
 use Rattle.sizes.specs.Paper.{wholeBlocks}
 use Rattle.laws.specs.Ruled.{ruled}
-use Rattle.laws.specs.Upto.{some, count, picked, each}
+use Rattle.laws.specs.Upto.{some, count, picked}
 
 -- an octet of a message
 abbrev pub octetAt : List ℕ → ℕ → ℕ
@@ -40,23 +40,23 @@ pub data Told : Type 0 where
 
 -- 01 Schedule message, 000 3.5.5: a description has two octets where bit 8 of its first is set, and else one
 abbrev pub width : ℕ → ℕ
-width x = cond (leb 128 x) 2 1
+width x = cond (leb 0x80 x) 2 1
 
 -- 01 Schedule message: 42 to 7F are reserved
 abbrev pub reserved : ℕ → Bool
-reserved x = leb 66 x && leb x 127
+reserved x = leb 0x42 x && leb x 0x7f
 
 -- 01 Schedule message, 000 3.5.5: one octet: 00 to 3F a repeat of the slot in bits 6 to 1, 41 advised, 40 and the reserved 42 to 7F optional
 abbrev pub short : ℕ → Told
-short x = cond (leb x 63) (again x) (cond (eqb x 65) advised optional)
+short x = cond (leb x 0x3f) (again x) (cond (eqb x 0x41) advised optional)
 
 -- 01 Schedule message, 000 3.5.5.1: two octets: a first transmission with the identifier's low 15 bits, high part first
 abbrev pub long : ℕ → ℕ → Told
-long x y = first (256 * (x - 128) + y)
+long x y = first (256 * (x - 0x80) + y)
 
 -- 01 Schedule message: the description that starts at an octet
 abbrev pub told : List ℕ → ℕ → Told
-told m a = cond (leb 128 (octetAt m a)) (long (octetAt m a) (octetAt m (a + 1))) (short (octetAt m a))
+told m a = cond (leb 0x80 (octetAt m a)) (long (octetAt m a) (octetAt m (a + 1))) (short (octetAt m a))
 
 -- 01 Schedule message: where the description starts before which k others stand; the first starts after eight octets
 unfoldable pub place : List ℕ → ℕ → ℕ
@@ -102,8 +102,12 @@ abbrev pub falseRepeat : (ℕ → Told) → ℕ → Bool
 falseRepeat t i = falseIn t i (t i)
 
 -- 01 Schedule message: 1 ≤ Begin ≤ End ≤ 48
+abbrev pub bounded : ℕ → ℕ → Bool
+bounded b e = leb 1 b && (leb b e && leb e 48)
+
+-- 01 Schedule message: a message's Begin and End are so
 abbrev pub inBounds : List ℕ → Bool
-inBounds m = leb 1 (begin m) && (leb (begin m) (end m) && leb (end m) 48)
+inBounds m = bounded (begin m) (end m)
 
 -- 01 Numbers given, 22: the new bit of a slot past End is set
 abbrev pub newPast : List ℕ → ℕ → Bool
@@ -156,27 +160,6 @@ good m = record { number = 0; begin = begin m; end = end m }
 -- 01 Schedule message, Order: the reader
 unfoldable pub read : List ℕ → ℕ → Read
 read m received = ruled unread (faults m received) (good m)
-
--- 01 Schedule message: the reader's answer, and where the descriptions of the 48 slots start that a message can describe
-pub record Placed : Type 0 where
-  pub read : Read
-  pub places : List ℕ
-
--- 01 Schedule message: where the description of a slot up to End starts, and 0 for the rest
-abbrev pub placeAt : List ℕ → ℕ → ℕ
-placeAt m i = cond (ltb i (end m)) (place m (rank m i)) 0
-
--- 01 Order: with a refusal no slot is told of
-abbrev pub unplaced : ℕ → Placed
-unplaced n = record { read = unread n; places = replicate 48 0 }
-
--- 01 Schedule message: a message that is not refused, with the places of all its descriptions
-abbrev pub whole : List ℕ → Placed
-whole m = record { read = good m; places = each (placeAt m) 48 }
-
--- 01 Schedule message, Order: the reader with the places of all descriptions; `tells` is what stands there
-unfoldable pub placed : List ℕ → ℕ → Placed
-placed m received = ruled unplaced (faults m received) (whole m)
 
 -- 01 Schedule message: what the reader of descriptions gives: a slot by its number and what is shown of it, no more, or a refusal
 pub data Given : Type 0 where

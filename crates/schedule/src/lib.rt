@@ -1,20 +1,15 @@
-// Schedule messages read: their header, where each slot's description starts, and their descriptions in order.
-mod groups;
-mod told;
-
+// Schedule messages read: their header, their new bits, and what stands at an octet.
 ghost use mathlib.Core.Path.{_≡_};
 ghost use Prim.Native.Nat.{_≤_};
-ghost use Rattle.schedule.specs.Paper.{new as newOf, told, place as placeOf, base, read, placed, given};
-ghost use Rattle.schedule.specs.Coded.{shownOf, readOf, placedOf, givenOf};
-ghost use Rattle.schedule.specs.Inner.{Readable, headRead, Group, unplacedBy};
+ghost use lib.ListN.{length};
+ghost use Rattle.laws.specs.Upto.{some};
+ghost use Rattle.schedule.specs.Paper.{octetAt, end as endOf, new as newOf, bounded, newPast, short, told};
+ghost use Rattle.schedule.specs.Coded.{toldOf, shownOf, readOf};
+ghost use Rattle.schedule.specs.Inner.{headRead};
 use refusals::Refusal;
 use sizes::MESSAGE;
 use sizes::SLOTS;
 use sizes::whole_blocks;
-pub use told::told_at;
-
-// 000 3.5: the octets before the first description.
-const HEADER: usize = 8;
 
 // What a message tells of a slot.
 pub enum Description {
@@ -37,21 +32,63 @@ pub enum Reading {
     Refused(Refusal),
 }
 
-// Where the description of each slot starts, with the reader's answer; 0 for a slot that is not told of.
-pub struct Placed {
-    pub answer: Reading,
-    pub places: [usize; 48],
+// An octet of a message, and 0 past its end.
+pub fn octet_at(message: &[u8], at: usize) -> u8
+    ensures { λ r. ⌜ r ≡ octetAt (now (message .entry)) at ⌝ }
+{
+    if at >= message.len() {
+        return 0;
+    }
+    message[at]
 }
 
-// What the description reader answers: a slot by its number, no more, or a refusal.
-pub enum Given {
-    Next(usize, Slot),
-    NoMore,
-    Refused(Refusal),
+// Whether slot i, counted from 0, has its new bit set.
+pub fn is_new(message: &[u8], i: usize) -> bool
+    ensures { λ r. ⌜ r ≡ newOf (now (message .entry)) i ⌝ }
+{
+    if i >= SLOTS {
+        return false;
+    }
+    (octet_at(message, 2 + i / 8) >> (7 - i % 8)) % 2 == 1
 }
 
-// Begin and End of a message whose header is good.
-fn read_header(message: &[u8], received: usize) -> Reading
+// The description that starts at a place.
+pub fn told_at(message: &[u8], at: usize) -> Description
+    ensures { λ r. ⌜ toldOf r ≡ told (now (message .entry)) at ⌝ }
+{
+    let octet = octet_at(message, at);
+    if octet < 0x80 {
+        return short_description(octet);
+    }
+    let high = octet as u16 - 0x80;
+    let low = octet_at(message, at + 1) as u16;
+    Description::First(256 * high + low)
+}
+
+// The description of one octet.
+fn short_description(octet: u8) -> Description
+    ensures { λ r. ⌜ toldOf r ≡ short octet ⌝ }
+{
+    if octet < 0x40 {
+        return Description::Repeat(octet);
+    }
+    if octet == 0x41 {
+        return Description::Advised;
+    }
+    Description::Optional
+}
+
+// Slot i, counted from 0, as it is told by the description that starts at a place.
+pub fn shown(message: &[u8], i: usize, at: usize) -> Slot
+    ensures { λ r. ⌜ shownOf r ≡ record { new = newOf (now (message .entry)) i; told = told (now (message .entry)) at } ⌝ }
+{
+    let new = is_new(message, i);
+    let description = told_at(message, at);
+    Slot { new, description }
+}
+
+// Begin and End of a message, as far as its header settles the answer.
+pub fn read_header(message: &[u8], received: usize) -> Reading
     ensures { λ r. ⌜ readOf r ≡ headRead (now (message .entry)) received ⌝ }
 {
     if message.len() != MESSAGE {
@@ -65,145 +102,39 @@ fn read_header(message: &[u8], received: usize) -> Reading
     if begin >= 64 {
         return Reading::Refused(Refusal::ScheduleType);
     }
-    if begin == 0 {
+    if !is_in_bounds(begin, end) {
         return Reading::Refused(Refusal::BeginOrEnd);
     }
-    if begin > end {
-        return Reading::Refused(Refusal::BeginOrEnd);
-    }
-    if end > SLOTS {
-        return Reading::Refused(Refusal::BeginOrEnd);
-    }
-    if groups::has_new_past(message, end) {
+    if has_new_past(message, end) {
         return Reading::Refused(Refusal::NewPastEnd);
     }
     Reading::Read(begin, end)
 }
 
-// The place after a group of descriptions, or the refusal.
-enum Reach {
-    To(usize),
-    Refused(Refusal),
-}
-
-// A group's descriptions among others: the place after them, where that of each slot starts, and which are first transmissions.
-struct Part {
-    reach: Reach,
-    places: [usize; 48],
-    firsts: [bool; 48],
-}
-
-// Finds the descriptions of the slots up to End whose new bit is as given, which start at a place.
-fn find_group(
-    message: &[u8],
-    received: usize,
-    end: usize,
-    new: bool,
-    places: [usize; 48],
-    firsts: [bool; 48],
-    from: usize,
-) -> Part
-    requires { ⌜ Readable (now message) received end × (from ≡ placeOf (now message) (base (now message) new)) × (from ≤ received) ⌝ }
-    ensures { λ r. ⌜ Group (now (message .entry)) received new places firsts (r .places) (r .firsts) (r .reach) ⌝ }
+// Whether Begin is from 1 to End, and End at most 48.
+fn is_in_bounds(begin: usize, end: usize) -> bool
+    ensures { λ r. ⌜ r ≡ bounded begin end ⌝ }
 {
-    let mut found = places;
-    let mut marked = firsts;
-    let mut at = from;
-    let mut i = 0;
-    while i < end {
-        if groups::is_new(message, i) == new {
-            let told::Step::Took(description, next) = told::step_at(message, received, at) else {
-                return Part {
-                    reach: Reach::Refused(Refusal::DescriptionPastReceived),
-                    places: found,
-                    firsts: marked,
-                };
-            };
-            found[i] = at;
-            marked[i] = told::is_first(description);
-            at = next;
+    if begin == 0 {
+        return false;
+    }
+    if begin > end {
+        return false;
+    }
+    end <= SLOTS
+}
+
+// Whether the new bit of a slot past End is set.
+fn has_new_past(message: &[u8], end: usize) -> bool
+    requires { ⌜ (length (now message) ≡ 88) × (end ≡ endOf (now message)) × (end ≤ 48) ⌝ }
+    ensures { λ r. ⌜ r ≡ some (newPast (now (message .entry))) 48 ⌝ }
+{
+    let mut i = end;
+    while i < SLOTS {
+        if is_new(message, i) {
+            return true;
         }
         i += 1;
     }
-    Part {
-        reach: Reach::To(at),
-        places: found,
-        firsts: marked,
-    }
-}
-
-// Reads a message as far as where each description starts.
-pub fn read_places(message: &[u8], received: usize) -> Placed
-    ensures { λ r. ⌜ placedOf r ≡ placed (now (message .entry)) received ⌝ }
-{
-    let header = read_header(message, received);
-    let Reading::Read(_, end) = header else {
-        return refused(header);
-    };
-    let news = find_group(message, received, end, true, [0; 48], [false; 48], HEADER);
-    let reach = news.reach;
-    let Reach::To(next) = reach else {
-        return refused(Reading::Refused(Refusal::DescriptionPastReceived));
-    };
-    let found = news.places;
-    let marked = news.firsts;
-    let others = find_group(message, received, end, false, found, marked, next);
-    let reach = others.reach;
-    let Reach::To(_) = reach else {
-        return refused(Reading::Refused(Refusal::DescriptionPastReceived));
-    };
-    let places = others.places;
-    let firsts = others.firsts;
-    if told::has_false_repeat(message, places, firsts, end) {
-        return refused(Reading::Refused(Refusal::RepeatOfNoFirst));
-    }
-    Placed {
-        answer: header,
-        places,
-    }
-}
-
-// An answer that tells of no slot.
-fn refused(answer: Reading) -> Placed
-    ensures { λ r. ⌜ placedOf r ≡ unplacedBy (readOf answer) ⌝ }
-{
-    Placed {
-        answer,
-        places: [0; 48],
-    }
-}
-
-// Slot i, counted from 0, as it is told by the description that starts at a place.
-pub fn shown(message: &[u8], i: usize, at: usize) -> Slot
-    ensures { λ r. ⌜ shownOf r ≡ record { new = newOf (now (message .entry)) i; told = told (now (message .entry)) at } ⌝ }
-{
-    let new = groups::is_new(message, i);
-    let description = told_at(message, at);
-    Slot { new, description }
-}
-
-// Reads Begin and End of a message.
-pub fn read_schedule(message: &[u8], received: usize) -> Reading
-    ensures { λ r. ⌜ readOf r ≡ read (now (message .entry)) received ⌝ }
-{
-    read_places(message, received).answer
-}
-
-// The description that stands after the given number of others, with its slot.
-pub fn description_at(message: &[u8], received: usize, place: usize) -> Given
-    ensures { λ r. ⌜ givenOf r ≡ given (now (message .entry)) received place ⌝ }
-{
-    let found = read_places(message, received);
-    let answer = found.answer;
-    match answer {
-        Reading::Refused(refusal) => Given::Refused(refusal),
-        Reading::Read(_, end) => {
-            if place >= end {
-                return Given::NoMore;
-            }
-            let i = groups::slot_at(message, end, place);
-            let places = found.places;
-            Given::Next(i + 1, shown(message, i, places[i]))
-        }
-    }
+    false
 }

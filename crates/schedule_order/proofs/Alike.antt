@@ -3,14 +3,15 @@ use Rattle.laws.proofs.Base.{_≡_, refl, sym, ap, _∙_, Bool, true, false, co
 use Rattle.sizes.specs.Paper.{wholeBlocks}
 use Rattle.laws.specs.Ruled.{ruled}
 use Rattle.laws.specs.Upto.{some, count, picked, each}
-use Rattle.laws.proofs.Outcome.{Outcome, refuses, passes, outcome}
 use Rattle.laws.proofs.Ruled.{ruled-map}
 use Rattle.laws.proofs.Upto.{some-agree}
-use Rattle.schedule.specs.Paper.{octetAt, type, begin, end, new, told, place, rank, order, tells, falseRepeat, inBounds, faults, shown, Read, unread, good, read, Placed, placeAt, unplaced, whole, placed, next, noMore, refusal, slotOf, givenAt, given}
-use Rattle.schedule.proofs.Givens.{faults-some, read-placed}
+use Rattle.schedule.specs.Paper.{octetAt, type, begin, end, new, told, place, rank, order, tells, falseRepeat, inBounds, faults, shown, Read, unread, good, read, next, noMore, refusal, slotOf, givenAt, given}
+use Rattle.schedule.proofs.Answers.{Answered, refused, sound, answered}
 use Rattle.schedule.proofs.News.{new-octet, new-beyond}
 use Rattle.schedule.proofs.Places.{place-mono}
 use Rattle.schedule.proofs.Repeats.{falseRepeat-agree}
+use Rattle.schedule_places.specs.Inner.{Placed, placeAt, unplaced, whole, placed}
+use Rattle.schedule_places.proofs.Known.{read-placed}
 use Rattle.schedule_order.specs.Claims.{Alike, begun, AlikeButBegin}
 use Rattle.schedule_order.proofs.Ranks.{order-below, rank-below}
 
@@ -119,16 +120,13 @@ module _ (m n : List ℕ) (a : Matching m n) where
 
     begun-same : read n received ≡ begun (begin n) (read m received)
     unfolding read
-    begun-same = go (outcome (faults m received))
+    begun-same = sym (λ p. ruled unread (faults-same p) (good n)) ∙ go (answered m received)
       where
-        by-mine : read n received ≡ ruled unread (faults m received) (good n)
-        by-mine = sym (λ p. ruled unread (faults-same p) (good n))
-
-        go : Outcome (faults m received) → read n received ≡ begun (begin n) (read m received)
-        go (refuses x f h) =
-            by-mine ∙ h Read unread (good n) ∙ sym (ap (begun (begin n)) (h Read unread (good m)) ∙ rw (ne-eqb x 0 (faults-some m received x f)))
-        go (passes f h) =
-            by-mine ∙ h Read unread (good n) ∙ sym (ap (begun (begin n)) (h Read unread (good m)) ∙ (λ p. record { number = 0; begin = begin n; end = a .last p }))
+        go : Answered m received → ruled unread (faults m received) (good n) ≡ begun (begin n) (read m received)
+        go (refused x s h) = h Read unread (good n) ∙ sym (ap (begun (begin n)) (h Read unread (good m)) ∙ rw (ne-eqb x 0 s))
+        go (sound w) =
+            w .answers Read unread (good n)
+            ∙ sym (ap (begun (begin n)) (w .answers Read unread (good m)) ∙ (λ p. record { number = 0; begin = begin n; end = a .last p }))
 
     pub alike-but-begin : AlikeButBegin m n received
     alike-but-begin =

@@ -1,16 +1,18 @@
 -- A message is refused by 24 exactly when the tests before it pass and a slot has a false repeat.
-use Rattle.laws.proofs.Base.{_≡_, refl, sym, ap, _∙_, Bool, true, false, not, cond, _&&_, _||_, false≢true, List, [], _∷_, _++_, _↔_, inl, inr, ⊎-elim, ℕ, suc, _+_, _-_, _≤_, _<_, arith, length, eqb, leb, ltb, eq-eqb, eqb-true, le-leb, leb-true, le-ltb, ltb-false, not-true, not-false}
+use Rattle.laws.proofs.Base.{_≡_, refl, sym, ap, _∙_, Bool, true, false, not, cond, _||_, false≢true, List, [], _∷_, _++_, _↔_, inl, inr, ⊎-elim, ℕ, suc, _+_, _-_, _≤_, _<_, arith, length, eqb, leb, ltb, eq-eqb, eqb-true, le-leb, leb-true, le-ltb, ltb-false, not-true, not-false}
 use Rattle.sizes.specs.Paper.{wholeBlocks}
 use Rattle.laws.specs.Upto.{some}
 use Rattle.laws.proofs.Outcome.{ruled-past}
-use Rattle.laws.proofs.Ruled.{Among, NoneHolds, ruled-map}
-use Rattle.laws.proofs.Tests.{both, either}
+use Rattle.laws.proofs.Ruled.{NoneHolds, ruled-map}
+use Rattle.laws.proofs.Tests.{either}
 use Rattle.laws.proofs.Upto.{some-none, some-false, some-at, some-passing}
 use Rattle.schedule.specs.Paper.{type, begin, end, new, place, rank, slotOf, tells, Told, first, again, optional, advised, isFirst, falseIn, falseRepeat, inBounds, newPast, headFaults, faults, Read, unread, good, read}
+use Rattle.schedule.proofs.Answers.{not-among}
+use Rattle.schedule.proofs.Header.{within}
 use Rattle.schedule.proofs.News.{newPast-from}
 use Rattle.schedule.proofs.Places.{place-next, place-after}
 use Rattle.schedule.proofs.Repeats.{false-zero, false-late, false-other}
-use Rattle.schedule_order.specs.Claims.{Reaches24, FalseRepeat}
+use Rattle.schedule_order.specs.Claims.{Reaches24, FalseRepeat, RefusedBy24}
 use Rattle.schedule_order.proofs.Ranks.{order-below, rank-below, rank-order}
 
 module _ (m : List ℕ) where
@@ -25,7 +27,9 @@ module _ (m : List ℕ) where
         repeats = e;
         why =
             ⊎-elim (λ a. inl (eqb-true n 0 a))
-            (λ w. inr (⊎-elim (λ a. inl (omega (arith, leb-true (suc i) n a))) (λ a. inr (not-true (isFirst (tells m (n - 1))) a)) (either (leb (suc i) n) (not (isFirst (tells m (n - 1)))) w)))
+            (λ w. inr
+            (⊎-elim (λ a. inl (omega (arith, leb-true (suc i) n a))) (λ a. inr (not-true (isFirst (tells m (n - 1))) a))
+            (either (leb (suc i) n) (not (isFirst (tells m (n - 1)))) w)))
             (either (eqb n 0) (leb (suc i) n || not (isFirst (tells m (n - 1)))) h);
       }
   false-because i l optional e h = absurd (false≢true h)
@@ -50,29 +54,16 @@ module _ (m : List ℕ) where
     abbrev itself : List (Bool × ℕ)
     itself = (some (falseRepeat (tells m)) (end m), 24) ∷ []
 
-    others : Among 24 before → ⊥
-    others (inl e) = omega arith
-    others (inr (inl e)) = omega arith
-    others (inr (inr (inl e))) = omega arith
-    others (inr (inr (inr (inl e)))) = omega arith
-    others (inr (inr (inr (inr (inl e))))) = omega arith
-    others (inr (inr (inr (inr (inr (inl e)))))) = omega arith
-    others (inr (inr (inr (inr (inr (inr e)))))) = e
-
     reaches : NoneHolds before → Reaches24 m received
     reaches h =
-        let rule = both (leb 1 (begin m)) (leb (begin m) (end m) && leb (end m) 48) (not-false (inBounds m) (h .1 .1 .1 .0)) in
-        let upper = both (leb (begin m) (end m)) (leb (end m) 48) (rule .1) in
-        let from = leb-true 1 (begin m) (rule .0) in
-        let upto = leb-true (begin m) (end m) (upper .0) in
-        let few = leb-true (end m) 48 (upper .1) in
+        let bounds = within m (not-false (inBounds m) (h .1 .1 .1 .0)) in
         let received-all = ltb-false received (place m (end m)) (h .1 .1 .1 .1 .1 .0) in
         record {
           whole = eqb-true (length m) 88 (not-false (eqb (length m) 88) (h .0));
           blocks = not-false (wholeBlocks received) (h .1 .0);
           kind = eqb-true (type m) 0 (not-false (eqb (type m) 0) (h .1 .1 .0));
-          begins = record { from = omega arith; upto = omega arith };
-          last = few;
+          begins = record { from = bounds .0; upto = bounds .1 };
+          last = bounds .2;
           old = λ i l b. sym (newPast-from m i (new m i) (omega arith) refl) ∙ some-false (newPast m) 48 i (h .1 .1 .1 .1 .0) b;
           inside = λ i l. omega (arith, place-after m (rank m i) (end m) (rank-below m i l));
         }
@@ -94,9 +85,9 @@ module _ (m : List ℕ) where
           go true e = let past = leb-true (end m) i e in newPast-from m i false past (sym (r .old i (omega arith) l))
           go false e = rw e
 
-    pub refused-by-24 : (read m received .number ≡ 24) ↔ (Reaches24 m received × FalseRepeat m)
+    by-24 : (read m received .number ≡ 24) ↔ (Reaches24 m received × FalseRepeat m)
     unfolding read
-    refused-by-24 = (there, back)
+    by-24 = (there, back)
       where
         holds : (b : Bool) → _≡_ {A = ℕ} (cond b 24 0) 24 → b ≡ true
         holds true e = refl
@@ -105,7 +96,7 @@ module _ (m : List ℕ) where
         there : read m received .number ≡ 24 → Reaches24 m received × FalseRepeat m
         there e =
             let number = sym (ruled-map (λ (r : Read). r .number) unread (faults m received) (good m)) ∙ e in
-            let w = ruled-past before itself 0 24 others number in
+            let w = ruled-past before itself 0 24 (not-among 24 before refl) number in
             (reaches (w .0), found (holds (some (falseRepeat (tells m)) (end m)) (w .1)))
 
         back : Reaches24 m received × FalseRepeat m → read m received .number ≡ 24
@@ -122,3 +113,6 @@ module _ (m : List ℕ) where
               le-ltb received (place m (end m)) (reached r),
               told-of (h .1),
             )
+
+pub refused-by-24 : RefusedBy24
+refused-by-24 = by-24

@@ -3,7 +3,7 @@ use Rattle.laws.proofs.Base.{_≡_, refl, ap, _∙_, Bool, true, false, List, �
 use Rattle.laws.proofs.Tests.{both}
 use Rattle.schedule.specs.Paper.{octetAt, begin, end, width, reserved, told, place}
 use Rattle.schedule.proofs.Places.{place-mono, place-after}
-use Rattle.schedule_order.specs.Claims.{optionalOctet, made40, Alike}
+use Rattle.schedule_order.specs.Claims.{optionalOctet, made40, Alike, NeverSlides}
 use Rattle.schedule_order.proofs.Alike.{place-least, Matching, news-same, within-same, alike}
 
 module _ (m : List ℕ) (k : ℕ) (h : reserved (octetAt m (place m k)) ≡ true) where
@@ -91,5 +91,8 @@ module _ (m : List ℕ) (k : ℕ) (h : reserved (octetAt m (place m k)) ≡ true
         describes = λ j l. ap (told m′) (place-same j) ∙ told-same j;
       }
 
-  pub never-slides : (received : ℕ) → Alike m′ m received
-  never-slides received = alike m′ m matching received begin-same
+  slides : (received : ℕ) → Alike m′ m received
+  slides received = alike m′ m matching received begin-same
+
+pub never-slides : NeverSlides
+never-slides = slides

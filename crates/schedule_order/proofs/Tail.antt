@@ -1,10 +1,10 @@
 -- Octets past the last description and the spare bits of octet 2 change nothing that is read, and a Begin from 1 to End nothing but itself.
-use Rattle.laws.proofs.Base.{_≡_, refl, sym, ap, _∙_, Bool, true, false, List, ℕ, zero, suc, _+_, _*_, _/_, _%_, _≤_, _<_, arith, length, take, replicate, length-take, length-set, List·getD-append, List·getD-eq-default, getD-set-same, getD-set-other, getD-take, leb, ltb, le-leb, ltb-true, ltb-false}
+use Rattle.laws.proofs.Base.{_≡_, refl, sym, ap, _∙_, Bool, true, false, List, ℕ, zero, suc, _+_, _*_, _/_, _%_, _≤_, _<_, arith, length, take, length-take, length-set, List·getD-append, List·getD-eq-default, getD-set-same, getD-set-other, getD-take, leb, ltb, le-leb, ltb-true, ltb-false}
 use Rattle.sizes.specs.Paper.{wholeBlocks}
 use Rattle.laws.specs.Upto.{some, count}
 use Rattle.schedule.specs.Paper.{octetAt, type, begin, end, width, told, new, place, tells, inBounds, read}
 use Rattle.schedule.proofs.Places.{place-after, width-some}
-use Rattle.schedule_order.specs.Claims.{Alike, AlikeButBegin, SameSlots, Begins, TailIgnored, withBegin, withSpare, withTail, twoSlots, twoSlotsOther}
+use Rattle.schedule_order.specs.Claims.{Alike, AlikeButBegin, SameSlots, Begins, TailIgnored, TailIsIgnored, withBegin, withSpare, withTail, PastIgnored, SpareIgnored, BeginOnlyItself, TwoSlots}
 use Rattle.schedule_order.proofs.Alike.{place-least, Matching, news-same, within-same, alike, alike-but-begin}
 
 -- a Begin from 1 to End keeps the rule wherever End does
@@ -50,12 +50,15 @@ module _ (m n : List ℕ) (s : SameSlots m n) where
         describes = λ k l. told-same k l ∙ ap (told n) (place-same k (omega arith));
       }
 
-  pub tail-ignored : (received : ℕ) → TailIgnored m n received
-  tail-ignored received =
+  ignored : (received : ℕ) → TailIgnored m n received
+  ignored received =
       record {
         same = λ e. alike m n (matching (within-same m n e end-same)) received e;
         other = λ b c. alike-but-begin m n (matching (begins-good m b ∙ ap (λ (e : ℕ). leb e 48) end-same ∙ sym (begins-good n c))) received;
       }
+
+pub tail-ignored : TailIsIgnored
+tail-ignored = ignored
 
 -- messages that agree from octet 3 to the last description's end
 same-slots : (m n : List ℕ) → length m ≡ length n → type m ≡ type n → end m ≡ end n
@@ -71,12 +74,12 @@ same-slots m n long kind last same =
     }
 
 module _ (m : List ℕ) (received : ℕ) where
-  pub past-ignored : (t : List ℕ) → length (withTail m t) ≡ length m → Alike m (withTail m t) received
-  past-ignored t e =
+  past : (t : List ℕ) → length (withTail m t) ≡ length m → Alike m (withTail m t) received
+  past t e =
       let least = place-least m (end m) in
       let first = kept 0 (omega arith) in
       let slots = same-slots m (withTail m t) (sym e) (ap (λ (x : ℕ). x / 64) first) (ap (λ (x : ℕ). x % 64) (kept 1 (omega arith))) (λ i _ l. kept i l) in
-      tail-ignored m (withTail m t) slots received .same (ap (λ (x : ℕ). x % 64) first)
+      ignored m (withTail m t) slots received .same (ap (λ (x : ℕ). x % 64) first)
     where
       kept : (i : ℕ) → i < place m (end m) → octetAt m i ≡ octetAt (withTail m t) i
       kept i l = go (ltb i (length m)) refl
@@ -91,30 +94,37 @@ module _ (m : List ℕ) (received : ℕ) where
               let far′ : length (withTail m t) ≤ i = omega arith in
               List·getD-eq-default m 0 far ∙ sym (List·getD-eq-default (withTail m t) 0 far′)
 
-  pub spare-ignored : (s : ℕ) → 1 < length m → Alike m (withSpare m s) received
-  spare-ignored s l =
+  spare : (s : ℕ) → 1 < length m → Alike m (withSpare m s) received
+  spare s l =
       let here : octetAt (withSpare m s) 1 ≡ 64 * s + end m = getD-set-same m 1 (64 * s + end m) 0 l in
-      let slots = same-slots m (withSpare m s) (sym (length-set m 1 (64 * s + end m))) (ap (λ (x : ℕ). x / 64) (other 0 (omega arith))) (omega arith) (λ i l _. other i (omega arith)) in
-      tail-ignored m (withSpare m s) slots received .same (ap (λ (x : ℕ). x % 64) (other 0 (omega arith)))
+      let slots = same-slots m (withSpare m s) (sym (length-set m 1 (64 * s + end m)))
+      (ap (λ (x : ℕ). x / 64) (other 0 (omega arith))) (omega arith) (λ i l _. other i (omega arith)) in
+      ignored m (withSpare m s) slots received .same (ap (λ (x : ℕ). x % 64) (other 0 (omega arith)))
     where
       other : (i : ℕ) → (i ≡ 1 → ⊥) → octetAt m i ≡ octetAt (withSpare m s) i
       other i e = sym (getD-set-other m 1 i (64 * s + end m) 0 e)
 
-  pub begin-only-itself : (b : ℕ) → 0 < length m → Begins m → 1 ≤ b → b ≤ end m
+  begin-alone : (b : ℕ) → 0 < length m → Begins m → 1 ≤ b → b ≤ end m
       → (begin (withBegin m b) ≡ b) × AlikeButBegin m (withBegin m b) received
-  begin-only-itself b l q from upto =
+  begin-alone b l q from upto =
       let here : octetAt (withBegin m b) 0 ≡ 64 * type m + b = getD-set-same m 0 (64 * type m + b) 0 l in
       let mine : begin (withBegin m b) ≡ b = omega arith in
       let last : end m ≡ end (withBegin m b) = ap (λ (x : ℕ). x % 64) (other 1 (omega arith)) in
       let slots = same-slots m (withBegin m b) (sym (length-set m 0 (64 * type m + b))) (omega arith) last (λ i l _. other i (omega arith)) in
-      (mine, tail-ignored m (withBegin m b) slots received .other q (record { from = omega arith; upto = omega arith }))
+      (mine, ignored m (withBegin m b) slots received .other q (record { from = omega arith; upto = omega arith }))
     where
       other : (i : ℕ) → (i ≡ 0 → ⊥) → octetAt m i ≡ octetAt (withBegin m b) i
       other i e = sym (getD-set-other m 0 i (64 * type m + b) 0 e)
 
--- document 01's message of two slots, and the same with all changed that may be
-pub two-slots : (read twoSlots 88 ≡ record { number = 0; begin = 1; end = 2 })
-    × (withTail (withSpare (withBegin twoSlots 2) 3) (replicate 77 0xff) ≡ twoSlotsOther)
-    × (read twoSlotsOther 88 ≡ record { number = 0; begin = 2; end = 2 })
+pub past-ignored : PastIgnored
+past-ignored = past
+
+pub spare-ignored : SpareIgnored
+spare-ignored = spare
+
+pub begin-only-itself : BeginOnlyItself
+begin-only-itself = begin-alone
+
+pub two-slots : TwoSlots
 unfolding read place tells new some count wholeBlocks
 two-slots = (refl, refl, refl)

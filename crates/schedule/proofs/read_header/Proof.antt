@@ -1,8 +1,19 @@
 -- `schedule::read_header` meets its contract: each answer is a case of the header.
-use Rattle.laws.proofs.Base.{sym, _∙_, arith, not-true, not-false, needs}
-use Rattle.schedule.proofs.Header.{head-length, head-received, head-type, head-range, head-new, head-good, within-zero, within-over, within-last, within-good}
+use Rattle.laws.proofs.Base.{_≡_, true, sym, _∙_, arith, not-true, not-false, needs}
+use Rattle.sizes.specs.Paper.{wholeBlocks}
+use Rattle.schedule.specs.Paper.{inBounds}
+use Rattle.schedule.proofs.Header.{within, within-low, head-length, head-received, head-type, head-range, head-new, head-good}
 use Rattle.schedule.proofs.read_header.Statement.{statement}
 use Rattle.schedule.proofs.read_header.Tie as tie
+
+-- past the second test the octets received are whole blocks
+sent : (c : tie.Else2) → wholeBlocks (c .before .before .before .before .args .received) ≡ true
+sent c = sym (c .before .whole-blocks .ensures) ∙ not-false _ (c .if2 .left)
+
+-- what was asked of Begin and End
+bounds : (c : tie.After-is-in-bounds)
+    → c .is-in-bounds .result ≡ inBounds (c .before .before .before .before .before .before .before .before .args .message .now)
+bounds c = c .is-in-bounds .ensures ∙ within-low (c .before .before .before .before .before .before .before .before .args .message .now) (c .before .if3 .left)
 
 returns : tie.Need-returns
 returns c = head-length _ _ (c .if1 .taken)
@@ -17,26 +28,39 @@ cast-end : tie.Need-cast-end
 cast-end c = omega (arith, c .shared-slice-known3 .given 1 .fits)
 
 returns-3 : tie.Need-returns-3
-returns-3 c = head-type _ _ (c .before .before .before .before .before .if1 .left) (sym (c .before .before .before .before .whole-blocks .ensures) ∙ not-false _ (c .before .before .before .if2 .left)) (c .if3 .taken)
+returns-3 c = let s = c .before .before .before in head-type _ _ (s .before .before .if1 .left) (sent s) (c .if3 .taken)
 
 returns-4 : tie.Need-returns-4
-returns-4 c = head-range _ _ (c .before .before .before .before .before .before .if1 .left) (sym (c .before .before .before .before .before .whole-blocks .ensures) ∙ not-false _ (c .before .before .before .before .if2 .left)) (c .before .if3 .left) (within-zero (c .before .before .before .before .before .before .before .before .args .message .now) (c .before .if3 .left) (c .if4 .taken))
+returns-4 c =
+    let t = c .before .before in
+    let s = t .before .before .before in
+    head-range _ _ (s .before .before .if1 .left) (sent s) (t .if3 .left)
+    (sym (bounds (c .before)) ∙ not-true _ (c .if4 .taken))
+
+has-new-past-requires : tie.Need-has-new-past-requires
+has-new-past-requires c κs =
+    let m = c .before .before .before .before .before .before .before .before .before .args .message .now in
+    (search needs, search needs, within m (sym (bounds (c .before)) ∙ not-false _ (c .if4 .left)) .2)
 
 returns-5 : tie.Need-returns-5
-returns-5 c = head-range _ _ (c .before .before .before .before .before .before .before .if1 .left) (sym (c .before .before .before .before .before .before .whole-blocks .ensures) ∙ not-false _ (c .before .before .before .before .before .if2 .left)) (c .before .before .if3 .left) (within-over (c .before .before .before .before .before .before .before .before .before .args .message .now) (c .before .before .if3 .left) (c .if5 .taken))
+returns-5 c =
+    let b = c .before .before in
+    let t = b .before .before in
+    let s = t .before .before .before in
+    head-new _ _ (s .before .before .if1 .left) (sent s) (t .if3 .left)
+    (sym (bounds (b .before)) ∙ not-false _ (b .if4 .left)) (sym (c .before .has-new-past .ensures) ∙ c .if5 .taken)
 
 returns-6 : tie.Need-returns-6
-returns-6 c = head-range _ _ (c .before .before .before .before .before .before .before .before .if1 .left) (sym (c .before .before .before .before .before .before .before .whole-blocks .ensures) ∙ not-false _ (c .before .before .before .before .before .before .if2 .left)) (c .before .before .before .if3 .left) (within-last (c .before .before .before .before .before .before .before .before .before .before .args .message .now) (c .before .before .before .if3 .left) (c .if6 .taken))
-
-returns-7 : tie.Need-returns-7
-returns-7 c = head-new _ _ (c .before .before .before .before .before .before .before .before .before .before .if1 .left) (sym (c .before .before .before .before .before .before .before .before .before .whole-blocks .ensures) ∙ not-false _ (c .before .before .before .before .before .before .before .before .if2 .left)) (c .before .before .before .before .before .if3 .left) (within-good (c .before .before .before .before .before .before .before .before .before .before .before .before .args .message .now) (c .before .before .before .before .before .if3 .left) (c .before .before .before .before .if4 .left) (c .before .before .before .if5 .left) (c .before .before .if6 .left)) (sym (c .before .has-new-past .ensures) ∙ c .if7 .taken)
-
-returns-8 : tie.Need-returns-8
-returns-8 c = head-good _ _ (c .before .before .before .before .before .before .before .before .before .before .if1 .left) (sym (c .before .before .before .before .before .before .before .before .before .whole-blocks .ensures) ∙ not-false _ (c .before .before .before .before .before .before .before .before .if2 .left)) (c .before .before .before .before .before .if3 .left) (within-good (c .before .before .before .before .before .before .before .before .before .before .before .before .args .message .now) (c .before .before .before .before .before .if3 .left) (c .before .before .before .before .if4 .left) (c .before .before .before .if5 .left) (c .before .before .if6 .left)) (sym (c .before .has-new-past .ensures) ∙ c .if7 .left)
+returns-6 c =
+    let b = c .before .before in
+    let t = b .before .before in
+    let s = t .before .before .before in
+    head-good _ _ (s .before .before .if1 .left) (sent s) (t .if3 .left)
+    (sym (bounds (b .before)) ∙ not-false _ (b .if4 .left)) (sym (c .before .has-new-past .ensures) ∙ c .if5 .left)
 
 pub read-header-spec : {M : Type 1} → statement M
 read-header-spec =
     tie.close
     (tie.spec
     returns (λ c κs. search needs) returns-2 (λ c. search needs) cast-begin (λ c. search needs)
-    cast-end returns-3 returns-4 returns-5 returns-6 (λ c κs. search needs) returns-7 returns-8)
+    cast-end returns-3 (λ c κs. search needs) returns-4 has-new-past-requires returns-5 returns-6)

@@ -1,0 +1,3 @@
+-- What `schedule_given` proves.
+pub mod Givens
+pub mod Determined

@@ -1,0 +1,2 @@
+-- What `schedule_given` defines.
+pub mod Coded

@@ -1,0 +1,6 @@
+-- What `schedule_places` proves.
+pub mod Steps
+pub mod Finds
+pub mod Placing
+pub mod Known
+pub mod Determined

@@ -1,0 +1,57 @@
+-- `schedule_places::find_group` meets its contract. The invariant: the slots passed are found, and the place is that after their descriptions.
+use Rattle.laws.proofs.Base.{_≡_, refl, sym, ap, _∙_, ⊎-elim, _≤_, _-_, _<_, arith, length, length-set, needs}
+use Rattle.schedule.specs.Paper.{end as endOf}
+use Rattle.schedule_places.specs.Inner.{Finds, steppedOf}
+use Rattle.schedule_places.proofs.Finds.{finds-none, finds-skip, finds-take, finds-short}
+use Rattle.schedule.proofs.News.{grouped-told}
+use Rattle.schedule_places.proofs.find_group.Statement.{statement}
+use Rattle.schedule_places.proofs.find_group.Tie as tie
+
+abbrev Inv-loop : tie.InvT-loop
+Inv-loop message received end new from found₀ marked₀ at₀ i₀ found marked at i =
+    (i ≤ end) × (at ≤ received) × (length found ≡ 48) × (length marked ≡ 48) × Finds message new i found₀ marked₀ found marked at
+
+abbrev μ-loop : tie.MeasureT-loop
+μ-loop message received end new from found₀ marked₀ at₀ i₀ found marked at i = end - i
+
+loop-holds : tie.Need-loop-holds Inv-loop μ-loop
+loop-holds c =
+    let a = c .before .args in
+    (omega arith, search needs, search needs, search needs, finds-none (a .message .now) (a .new) (a .places) (a .firsts) (a .from) (c .before .pre .1))
+
+returns : tie.Need-returns Inv-loop μ-loop
+returns c =
+    let a = c .before .before .before .before .before .before .before .before .args in
+    let l = c .before .before .before .before .before .before .loop in
+    let inside = grouped-told (a .message .now) (l .i) (a .new) _ _ (c .before .before .before .before .is-new .ensures) (c .before .before .before .if1 .taken) in
+    (refl, finds-short (a .message .now) (a .new) (a .places) (a .firsts) (l .i) (l .at) (l .found) (l .marked) (l .inv .4) inside (a .received) (omega arith) (sym (ap steppedOf (c .enum-told .given .1)) ∙ c .before .before .step-at .ensures))
+
+loop-again : tie.Need-loop-again Inv-loop μ-loop
+loop-again c =
+    let a = c .before .before .before .before .before .args in
+    let l = c .before .before .before .loop in
+    let bit = c .before .is-new in
+    let m = a .message .now in
+    let room : l .i < 48 = omega arith in
+    ⊎-elim
+    (λ w.
+    let inside = grouped-told m (l .i) (a .new) _ _ (bit .ensures) (w .0 .taken) in
+    let k = finds-take m (a .new) (a .places) (a .firsts) (l .i) (l .at) (l .found) (l .marked) (l .inv .4) inside (a .received) _ _ _ (l .inv .2) (l .inv .3) room (sym (ap steppedOf (w .3 .given .1)) ∙ w .1 .ensures) (w .5 .ensures) in
+    rw (w .6, w .7, w .8) (omega arith, k .1, simp length-set (l .inv .2), simp length-set (l .inv .3), k .0))
+    (λ w. rw (w .1, w .2, w .3) (omega arith, l .inv .1, l .inv .2, l .inv .3, finds-skip m (a .new) (a .places) (a .firsts) (l .i) (l .at) (l .found) (l .marked) (l .inv .4) (grouped-told m (l .i) (a .new) _ _ (bit .ensures) (w .0 .left))))
+    (c .if1 .came)
+
+returns-2 : tie.Need-returns-2 Inv-loop μ-loop
+returns-2 c =
+    let a = c .before .before .before .args in
+    let l = c .before .loop in
+    let e : l .i ≡ endOf (a .message .now) = omega arith in
+    (rw e at (l .inv .4), l .inv .1, l .inv .2)
+
+pub find-group-spec : {M : Type 1} → statement M
+find-group-spec =
+    tie.close
+    (tie.spec
+    Inv-loop μ-loop loop-holds (λ c κs. search needs) (λ c κs. search needs) (λ c. search needs)
+    (λ c. search needs) returns (λ c. search needs) (λ c. search needs) (λ c κs. search needs)
+    (λ c. search needs) (λ c. search needs) (λ c. search needs) loop-again returns-2)

@@ -1,0 +1,3 @@
+-- What `schedule_places` defines.
+pub mod Coded
+pub mod Inner
