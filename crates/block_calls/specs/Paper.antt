@@ -3,7 +3,8 @@ use mathlib.Core.Bool.{Bool, cond}
 use mathlib.Core.List.{List}
 use Prim.Native.Nat.{ℕ}
 use Rattle.calls.specs.Paper.{CallLeft}
-use Rattle.block.specs.Paper.{Kind, page, schedule, BlocksLeft, written}
+use Rattle.block.specs.Paper.{Kind, page, schedule}
+use Rattle.block_writer.specs.Paper.{BlocksLeft, written}
 
 -- 01 Blocks: the kind, page or schedule, as C tells it
 abbrev pub kindIf : Bool → Kind

@@ -3,7 +3,7 @@ ghost use mathlib.Core.Path.{_≡_};
 ghost use Rattle.block.specs.Coded.{kindOf};
 ghost use Rattle.block_calls.specs.Paper.{kindIf, blocksCall};
 use block::Kind;
-use block::Sent;
+use block_writer::Sent;
 
 // The kind that a caller tells.
 fn kind_of(schedule: bool) -> Kind
@@ -26,7 +26,7 @@ pub extern "C" fn cb_write_blocks(
     ensures { λ r. ⌜ record { returned = r; memory = now (out .exit) } ≡ blocksCall (now (message .entry)) schedule used (now (out .entry)) ⌝ }
 {
     let kind = kind_of(schedule);
-    let answer = block::write_blocks(message, kind, used, out);
+    let answer = block_writer::write_blocks(message, kind, used, out);
     match answer {
         Sent::Done => 0,
         Sent::Refused(refusal) => refusals::number(refusal) as u32,

@@ -1,8 +1,7 @@
 // The intake by value: blocks taken in one at a time.
 ghost use mathlib.Core.Path.{_≡_};
 ghost use Rattle.refusals.specs.Number.{numberOf};
-ghost use Rattle.block.specs.Paper.{added, step};
-ghost use Rattle.block.specs.Paper.{start as startOf};
+ghost use Rattle.block.specs.Paper.{added, step, start as startOf};
 ghost use Rattle.block.specs.Inner.{stateWith, outcome, Adds};
 ghost use Rattle.block_intake.specs.Coded.{heldOf, givenOf, leaving};
 use block::Place;

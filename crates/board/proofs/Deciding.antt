@@ -1,8 +1,10 @@
 -- Whether a slot is read, by way of the places of the descriptions.
 use Rattle.laws.proofs.Base.{_≡_, refl, sym, ap, _∙_, Bool, true, false, _&&_, not, List, ℕ, _+_, _-_, _≤_, _<_, arith}
-use Rattle.schedule.specs.declared.Placed.{Placed}
-use Rattle.schedule.specs.Paper.{Told, first, again, optional, advised, falseRepeat, end, tells, placed}
-use Rattle.schedule.specs.Coded.{readOf, placedOf}
+use Rattle.schedule_places.specs.declared.Placed.{Placed}
+use Rattle.schedule.specs.Paper.{Told, first, again, optional, advised, falseRepeat, end, tells}
+use Rattle.schedule_places.specs.Inner.{placed}
+use Rattle.schedule.specs.Coded.{readOf}
+use Rattle.schedule_places.specs.Coded.{placedOf}
 use Rattle.schedule.specs.Inner.{toldBy}
 use Rattle.board_held.specs.Paper.{isHeld, entryFor}
 use Rattle.board_held.specs.Inner.{answers}

@@ -4,8 +4,10 @@ use Rattle.laws.specs.Ruled.{ruled}
 use Rattle.laws.specs.Search.{some}
 use Rattle.schedule.specs.Paper.{Told, first, again, optional, advised, tells}
 use Rattle.board.specs.declared.Wanted.{Wanted as WantedCode}
-use Rattle.board.specs.Paper.{Wanted, Schedule, Decided, matches15, isWanted, isHeld, firstMatches, readsFor, tellsOf, reads, undecided, decide}
-use Rattle.board.specs.Coded.{idsOf, wantedOf, lentSchedule}
+use Rattle.board.specs.Paper.{Wanted, Decided, matches15, isWanted, firstMatches, readsFor, reads, undecided, decide}
+use Rattle.board_held.specs.Paper.{Schedule, isHeld, tellsOf}
+use Rattle.board.specs.Coded.{idsOf, wantedOf}
+use Rattle.board_held.specs.Coded.{lentSchedule}
 use Rattle.board_calls.specs.Paper.{decidedFor}
 
 -- wanted lists with the same identifiers

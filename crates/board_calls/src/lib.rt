@@ -5,8 +5,8 @@ ghost use lib.ListN.{length, take};
 ghost use Rattle.board.specs.Coded.{idsOf};
 ghost use Rattle.board_calls.specs.Paper.{decideCall, enterCall};
 use board::Decision;
-use board::Held;
 use board::Wanted;
+use board_held::Held;
 use page::MessageId;
 
 // 01 Numbers given, 42: the most identifiers that are wanted at a time.

@@ -6,11 +6,13 @@ use Rattle.laws.proofs.Upto.{some-false}
 use Rattle.refusals.specs.declared.Refusal.{Refusal}
 use Rattle.refusals.specs.Number.{numberOf}
 use Rattle.refusals.proofs.Inverse.{numberOf-positive}
-use Rattle.schedule.specs.declared.Placed.{Placed}
-use Rattle.schedule.specs.Paper.{Told, first, again, optional, advised, isFirst, falseIn, falseRepeat, begin, end, inBounds, faults, tells, Read, unread, good, read, Placed as Places, placed}
-use Rattle.schedule.specs.Coded.{readOf, placedOf}
+use Rattle.schedule_places.specs.declared.Placed.{Placed}
+use Rattle.schedule.specs.Paper.{Told, first, again, optional, advised, isFirst, falseIn, falseRepeat, begin, end, inBounds, faults, tells, Read, unread, good, read}
+use Rattle.schedule_places.specs.Inner.{Placed as Places, placed}
+use Rattle.schedule.specs.Coded.{readOf}
+use Rattle.schedule_places.specs.Coded.{placedOf}
 use Rattle.schedule.specs.Inner.{toldBy}
-use Rattle.schedule.proofs.Givens.{read-placed, given-good, told-at}
+use Rattle.schedule_places.proofs.Known.{read-placed, given-good, told-at}
 use Rattle.schedule.proofs.Repeats.{falseRepeat-agree}
 use Rattle.board_held.specs.Paper.{tellsOf, entryFor, enteredUnder}
 use Rattle.board_held.specs.Inner.{answers}

@@ -82,7 +82,7 @@ pub fn entered_under_on(known: bool, message: &[u8], received: usize, slot: usiz
     if !known {
         return slot;
     }
-    let found = schedule::read_places(message, received);
+    let found = schedule_places::read_places(message, received);
     let answer = found.answer;
     if !tells_of(answer, slot) {
         return slot;

@@ -8,9 +8,10 @@ use Rattle.page.specs.Paper.{Name, samePage}
 use Rattle.page.proofs.Sameness.{Same, same-reflexive, same-symmetric, same-transitive}
 use Rattle.schedule.specs.Paper.{Told, first, again, optional, advised, isFirst, tells, end, read, shown}
 use Rattle.schedule.proofs.Repeats.{false-other}
-use Rattle.plan.specs.Paper.{Plan, entryAt, pageAt, lowestAt, low15At}
+use Rattle.plan.specs.Paper.{Plan, entryAt}
+use Rattle.plan_slots.specs.Paper.{pageAt, lowestAt, low15At}
 use Rattle.plan.proofs.GoodPlan.{kind-few}
-use Rattle.plan.proofs.Lowest.{leading}
+use Rattle.plan_slots.proofs.Lowest.{leading}
 use Rattle.checker_truth.specs.Claims.{TrueAt, Truthful}
 use Rattle.checker_truth.proofs.Accepted.{accepted-exactly}
 use Rattle.board_held.specs.Paper.{isHeld, enter, tellsOf, enteredUnder, entryFor}

@@ -11,7 +11,7 @@ use Rattle.calls.specs.Paper.{bitOf}
 use Rattle.calls.specs.Claims.{TakenApart}
 use Rattle.block.specs.Paper as block
 use Rattle.page.specs.Paper.{Heading}
-use Rattle.plan.specs.Paper.{readPlan}
+use Rattle.plan_read.specs.Paper.{readPlan}
 use Rattle.schedule.specs.Paper.{end, new, tells, again, Read, read, Shown, next, refusal, given}
 use Rattle.text.specs.Paper.{written, reading}
 use Rattle.firmware.specs.Paper.{heldIn, intakeCall}

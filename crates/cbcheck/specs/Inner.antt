@@ -3,7 +3,8 @@ use mathlib.Core.Bool.{cond}
 use mathlib.Core.List.{List, []}
 use Prim.Native.Nat.{ℕ, _/_, _%_}
 use lib.Dec.{eqb}
-use Rattle.checker.specs.Inner.{Plans, checkBeside}
+use Rattle.checker_plans.specs.Inner.{Plans}
+use Rattle.checker.specs.Inner.{checkBeside}
 use Rattle.cbcheck.specs.Paper.{line}
 
 -- the line for a returned number, beside the message

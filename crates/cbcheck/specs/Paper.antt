@@ -5,7 +5,8 @@ use Prim.Native.Nat.{ℕ}
 use lib.Dec.{eqb}
 use Rattle.block.specs.Paper.{Held, Given}
 use Rattle.checker.specs.Paper.{Checked}
-use Rattle.checker.specs.Inner.{Plans, checkBeside}
+use Rattle.checker_plans.specs.Inner.{Plans}
+use Rattle.checker.specs.Inner.{checkBeside}
 use Rattle.lines.specs.Paper.{ascii, decimal, marked, flat}
 use Rattle.logs.specs.Paper.{listing}
 use Rattle.words.specs.Paper.{words}

@@ -15,7 +15,7 @@ ghost use Rattle.cbcheck.specs.Paper.{numbers, reason, line, lineOf, lin
 ghost use Rattle.cbcheck.specs.Inner.{lineFor};
 use arguments::Asked;
 use checker::Checking;
-use checker::Plans;
+use checker_plans::Plans;
 use files::Opened;
 ghost use Rattle.lines.specs.Inner.{Puts};
 use checker_plans::Plans;

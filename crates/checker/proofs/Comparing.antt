@@ -7,14 +7,14 @@ use Rattle.refusals.specs.declared.Refusal.{Refusal}
 use Rattle.refusals.proofs.Inverse.{numberOf-positive}
 use Rattle.schedule.specs.declared.Reading.{Reading}
 use Rattle.schedule.specs.declared.Reading.the-variants.{Read, Refused}
-use Rattle.schedule.specs.declared.Placed.{Placed}
+use Rattle.schedule_places.specs.declared.Placed.{Placed}
 use Rattle.schedule.specs.Paper.{new, Told, shown, end, read, Read as Reads}
 use Rattle.schedule_places.specs.Inner.{placed, Placed as Places}
 use Rattle.schedule.specs.Coded.{readOf}
 use Rattle.schedule_places.specs.Coded.{placedOf}
 use Rattle.schedule_places.proofs.Known.{Good, read-placed, given-good, told-at}
 use Rattle.schedule_places.specs.declared.Placed.{Placed}
-use Rattle.plan.specs.declared.Planned.{Planned as PlannedCode}
+use Rattle.plan_slots.specs.declared.Planned.{Planned as PlannedCode}
 use Rattle.plan_slots.specs.Paper.{Planned}
 use Rattle.plan_slots.specs.Coded.{plannedOf}
 use Rattle.plan_slots.specs.Inner.{nothing}

@@ -6,7 +6,7 @@ use lib.ListN.{getD}
 use Rattle.refusals.specs.Number.{numberOf}
 use Rattle.schedule.specs.Paper.{new}
 use Rattle.schedule.specs.Inner.{toldBy}
-use Rattle.plan.specs.declared.Planned.{Planned}
+use Rattle.plan_slots.specs.declared.Planned.{Planned}
 use Rattle.plan_slots.specs.Coded.{plannedOf}
 use Rattle.plan_slots.specs.Inner.{nothing}
 use Rattle.plan_slots.specs.declared.Planned.{Planned}

@@ -1,6 +1,8 @@
 -- Which test of the plans answers, each case on plain facts.
 use Rattle.laws.proofs.Base.{_≡_, List, ℕ, eq-eqb, ne-eqb}
-use Rattle.plan.specs.Paper.{Plan, Planned, planNumber, allPlanned}
+use Rattle.plan.specs.Paper.{Plan, planNumber}
+use Rattle.plan_slots.specs.Paper.{Planned}
+use Rattle.plan_slots.specs.Inner.{allPlanned}
 use Rattle.checker_plans.specs.Inner.{unsaid, beside}
 
 module _ (c p : Plan) where

@@ -4,7 +4,8 @@ use Rattle.laws.specs.Determined.{Determined}
 use Rattle.laws.proofs.Determined.{determined-by}
 use Rattle.plan.specs.declared.Plan.{Plan}
 use Rattle.plan.specs.Coded.{planOf}
-use Rattle.plan.proofs.Determined.{verdict-injective, said-injective}
+use Rattle.plan.proofs.Determined.{verdict-injective}
+use Rattle.plan_slots.proofs.Determined.{said-injective}
 use Rattle.checker_plans.specs.declared.Plans.{Plans}
 use Rattle.checker_plans.specs.Inner.{Plans as Said, beside}
 use Rattle.checker_plans.specs.Coded.{plansOf}

@@ -1,6 +1,7 @@
 -- The code's finding for two plans in numbers.
 use mathlib.Core.List.{map}
-use Rattle.plan.specs.Coded.{verdictOf, plannedOf}
+use Rattle.plan.specs.Coded.{verdictOf}
+use Rattle.plan_slots.specs.Coded.{plannedOf}
 use Rattle.checker_plans.specs.declared.Plans.{Plans as PlansCode}
 use Rattle.checker_plans.specs.Inner.{Plans}
 

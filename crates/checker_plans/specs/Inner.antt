@@ -4,7 +4,9 @@ use Prim.Native.Nat.{ℕ}
 use lib.Dec.{eqb}
 use lib.ListN.{replicate}
 use Rattle.laws.specs.Ruled.{ruled, unless0}
-use Rattle.plan.specs.Paper.{Plan, Planned, planNumber, nonePlanned, allPlanned}
+use Rattle.plan.specs.Paper.{Plan, planNumber}
+use Rattle.plan_slots.specs.Paper.{Planned}
+use Rattle.plan_slots.specs.Inner.{nonePlanned, allPlanned}
 
 -- 01 Order: the number that the plans are refused by or 0, the current plan's count, and what both say of each slot
 pub record Plans : Type 0 where

@@ -5,8 +5,8 @@ ghost use Rattle.plan.specs.Coded.{planOf};
 ghost use Rattle.checker_plans.specs.Inner.{beside as besideThem, unsaid};
 ghost use Rattle.checker_plans.specs.Coded.{plansOf};
 use plan::Plan;
-use plan::Planned;
 use plan::Verdict;
+use plan_slots::Planned;
 use refusals::Refusal;
 use sizes::SLOTS;
 
@@ -49,7 +49,7 @@ pub fn beside(current: Plan, previous: Plan) -> Plans
     if current.count == 0 {
         return unsaid(Refusal::PlanEmpty);
     }
-    let said = plan::all_planned(current, previous);
+    let said = plan_slots::all_planned(current, previous);
     Plans {
         verdict: Verdict::Good,
         count: current.count,

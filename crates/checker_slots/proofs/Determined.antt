@@ -4,8 +4,8 @@ use Rattle.laws.specs.Determined.{Determined}
 use Rattle.laws.proofs.Determined.{determined}
 use Rattle.schedule.specs.declared.Slot.{Slot}
 use Rattle.schedule.specs.Coded.{shownOf}
-use Rattle.plan.specs.declared.Planned.{Planned}
-use Rattle.plan.specs.Coded.{plannedOf}
+use Rattle.plan_slots.specs.declared.Planned.{Planned}
+use Rattle.plan_slots.specs.Coded.{plannedOf}
 use Rattle.checker_slots.specs.Inner.{trueBy}
 
 pub determined-is-true : (planned : Planned) (number : ℕ) (slot : Slot) → Determined (λ (r : Bool). r ≡ trueBy (plannedOf planned) number (shownOf slot))

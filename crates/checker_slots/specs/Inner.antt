@@ -3,7 +3,7 @@ use mathlib.Core.Bool.{Bool, true, false, not, _&&_, _||_, Bool·beq}
 use Prim.Native.Nat.{ℕ}
 use lib.Dec.{eqb}
 use Rattle.schedule.specs.Paper.{Told, first, again, optional, advised, Shown}
-use Rattle.plan.specs.Paper.{Planned}
+use Rattle.plan_slots.specs.Paper.{Planned}
 
 -- 01 Truthful: the lowest slot with a page
 abbrev pub leads : Planned → ℕ → Bool

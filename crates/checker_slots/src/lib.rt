@@ -1,9 +1,9 @@
 // Whether a slot of a schedule message is told truly by what two plans say of it.
 ghost use mathlib.Core.Path.{_≡_};
 ghost use Rattle.schedule.specs.Coded.{toldOf, shownOf};
-ghost use Rattle.plan.specs.Coded.{plannedOf};
+ghost use Rattle.plan_slots.specs.Coded.{plannedOf};
 ghost use Rattle.checker_slots.specs.Inner.{leads, repeats, mayTell, newFor, trueBy};
-use plan::Planned;
+use plan_slots::Planned;
 use schedule::Description;
 use schedule::Slot;
 

@@ -8,7 +8,8 @@ use Rattle.refusals.specs.declared.Refusal.{Refusal}
 use Rattle.refusals.specs.Number.{numberOf}
 use Rattle.schedule.specs.Paper.{end}
 use Rattle.plan.specs.declared.Verdict.the-variants as verdicts
-use Rattle.plan.specs.Paper.{Plan, readPlan}
+use Rattle.plan.specs.Paper.{Plan}
+use Rattle.plan_read.specs.Paper.{readPlan}
 use Rattle.plan.specs.Coded.{planOf}
 use Rattle.plan.proofs.GoodPlan.{good-counted}
 use Rattle.sender.specs.declared.Writing.{Writing as WritingCode}

@@ -6,10 +6,11 @@ use Rattle.laws.proofs.Ruled.{none-holds, ruled-none, unless0-numbered}
 use Rattle.refusals.specs.declared.Refusal.{Refusal}
 use Rattle.refusals.specs.Number.{numberOf}
 use Rattle.refusals.proofs.Inverse.{numberOf-positive}
-use Rattle.plan.specs.declared.Reading.{Reading}
+use Rattle.plan_read.specs.declared.Reading.{Reading}
 use Rattle.plan.specs.declared.Verdict.the-variants.{Good, Refused}
-use Rattle.plan.specs.Paper.{Read, readPlan}
-use Rattle.plan.specs.Coded.{verdictOf, planOf, readingOf}
+use Rattle.plan_read.specs.Paper.{Read, readPlan}
+use Rattle.plan.specs.Coded.{verdictOf, planOf}
+use Rattle.plan_read.specs.Coded.{readingOf}
 use Rattle.plan_calls.specs.declared.Files.{Files}
 use Rattle.plan_calls.specs.Paper.{fileFaults}
 use Rattle.plan_calls.specs.Coded.{filesOf}

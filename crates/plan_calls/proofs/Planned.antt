@@ -5,7 +5,7 @@ use Rattle.refusals.specs.declared.Refusal.{Refusal}
 use Rattle.refusals.specs.Number.{numberOf}
 use Rattle.refusals.proofs.Inverse.{numberOf-positive}
 use Rattle.plan.specs.declared.Verdict.the-variants.{Good, Refused}
-use Rattle.plan.specs.declared.Reading.{Reading}
+use Rattle.plan_read.specs.declared.Reading.{Reading}
 use Rattle.plan_read.specs.Paper.{Read, listed, refusal, faults, readPlan}
 use Rattle.plan.specs.Paper.{filledPlan, Plan, planNumber}
 use Rattle.plan.specs.Coded.{verdictOf}

@@ -2,7 +2,8 @@
 use mathlib.Core.List.{List}
 use Prim.Native.Nat.{ℕ}
 use Rattle.laws.specs.Ruled.{ruled}
-use Rattle.plan.specs.Paper.{Plan, readPlan}
+use Rattle.plan.specs.Paper.{Plan}
+use Rattle.plan_read.specs.Paper.{readPlan}
 use Rattle.plan_calls.specs.Paper.{fileFaults}
 
 -- two files read: the number that they are refused by, 0 where both are good, and their plans

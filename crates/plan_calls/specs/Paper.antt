@@ -6,7 +6,7 @@ use lib.Dec.{eqb}
 use lib.ListN.{length}
 use Rattle.laws.specs.Ruled.{ruled, unless0}
 use Rattle.calls.specs.Paper.{CallLeft, inOne, leftWith}
-use Rattle.plan.specs.Paper.{readPlan}
+use Rattle.plan_read.specs.Paper.{readPlan}
 use Rattle.sender.specs.Paper.{Writing, unwritten, write}
 use Rattle.checker.specs.Paper.{Checked, unchecked, check}
 

@@ -15,7 +15,7 @@ use sizes::MESSAGE;
 pub extern "C" fn cb_read_plan(file: &[u8]) -> u32
     ensures { λ r. ⌜ r ≡ planCall (now (file .entry)) ⌝ }
 {
-    let reading = plan::read_plan(file);
+    let reading = plan_read::read_plan(file);
     let verdict = reading.verdict;
     match verdict {
         Verdict::Good => 256 * reading.plan.count as u32,
@@ -33,8 +33,8 @@ struct Files {
 fn read_plans(current: &[u8], previous: &[u8]) -> Files
     ensures { λ r. ⌜ filesOf r ≡ filed (now (current .entry)) (now (previous .entry)) ⌝ }
 {
-    let this = plan::read_plan(current);
-    let last = plan::read_plan(previous);
+    let this = plan_read::read_plan(current);
+    let last = plan_read::read_plan(previous);
     let verdict = this.verdict;
     let other = last.verdict;
     let plan = this.plan;

@@ -4,10 +4,11 @@ use Rattle.laws.proofs.Ruled.{Ruling, refuses, passes, ruling}
 use Rattle.schedule.specs.declared.Slot.{Slot}
 use Rattle.schedule.specs.declared.Reading.{Reading}
 use Rattle.schedule.specs.declared.Reading.the-variants as readings
-use Rattle.schedule.specs.declared.Given.{Given as GivenCode}
-use Rattle.schedule.specs.declared.Given.the-variants as givens
+use Rattle.schedule_given.specs.declared.Given.{Given as GivenCode}
+use Rattle.schedule_given.specs.declared.Given.the-variants as givens
 use Rattle.schedule.specs.Paper.{end, faults, Read, unread, good, read, Given, next, noMore, refusal, givenAt, given}
-use Rattle.schedule.specs.Coded.{readOf, givenOf}
+use Rattle.schedule.specs.Coded.{readOf}
+use Rattle.schedule_given.specs.Coded.{givenOf}
 use Rattle.schedule_order.proofs.Ranks.{order-below}
 use Rattle.schedule_calls.specs.Paper.{packedRead}
 

@@ -3,8 +3,8 @@ ghost use mathlib.Core.Path.{_≡_};
 ghost use Rattle.schedule.specs.Coded.{toldOf};
 ghost use Rattle.schedule_calls.specs.Paper.{codeOf, scheduleCall, descriptionCall};
 use schedule::Description;
-use schedule::Given;
 use schedule::Reading;
+use schedule_given::Given;
 
 // A description as one number.
 pub fn code(description: Description) -> u32
@@ -23,7 +23,7 @@ pub fn code(description: Description) -> u32
 pub extern "C" fn cb_read_schedule(message: &[u8], received: usize) -> u32
     ensures { λ r. ⌜ r ≡ scheduleCall (now (message .entry)) received ⌝ }
 {
-    let answer = schedule::read_schedule(message, received);
+    let answer = schedule_places::read_schedule(message, received);
     match answer {
         Reading::Read(begin, end) => 0x100 * begin as u32 + 0x10000 * end as u32,
         Reading::Refused(refusal) => refusals::number(refusal) as u32,
@@ -35,7 +35,7 @@ pub extern "C" fn cb_read_schedule(message: &[u8], received: usize) -> u32
 pub extern "C" fn cb_description(message: &[u8], received: usize, place: usize) -> u64
     ensures { λ r. ⌜ r ≡ descriptionCall (now (message .entry)) received place ⌝ }
 {
-    let answer = schedule::description_at(message, received, place);
+    let answer = schedule_given::description_at(message, received, place);
     match answer {
         Given::Next(number, slot) => {
             let description = slot.description;

@@ -10,9 +10,8 @@ use Rattle.refusals.specs.Number.{numberOf}
 use Rattle.refusals.proofs.Inverse.{numberOf-positive}
 use Rattle.refusals.specs.declared.Refusal.{Refusal}
 use Rattle.schedule.specs.Paper.{end, place, grouped, base, told, tells, isFirst, inBounds, headFaults, bodyFaults, faults, falseRepeat, Read, unread, good}
-use Rattle.schedule_places.specs.Inner.{placeAt, Placed, unplaced, whole, placed}
+use Rattle.schedule_places.specs.Inner.{placeAt, Placed, unplaced, whole, placed, Readable, over, Over, start, Finds, Firsts}
 use Rattle.schedule.specs.Inner.{headRead, toldBy}
-use Rattle.schedule_places.specs.Inner.{Readable, over, Over, start, Finds, Firsts}
 use Rattle.schedule.proofs.Answers.{head-some}
 use Rattle.schedule.proofs.Header.{within}
 use Rattle.schedule.proofs.News.{grouped-flip}

@@ -6,12 +6,15 @@ use Rattle.laws.proofs.Outcome.{Outcome, refuses, passes, outcome}
 use Rattle.refusals.specs.declared.Refusal.{Refusal}
 use Rattle.refusals.specs.Number.{numberOf}
 use Rattle.refusals.proofs.Inverse.{numberOf-positive}
-use Rattle.schedule.specs.declared.Placed.{Placed as PlacedCode}
+use Rattle.schedule_places.specs.declared.Placed.{Placed as PlacedCode}
 use Rattle.schedule.specs.declared.Reading.the-variants.{Read, Refused}
-use Rattle.schedule.specs.Paper.{new, tells, faults, Placed, placed, Read as Reads, unread, good, read}
-use Rattle.schedule.specs.Coded.{readOf, placedOf}
+use Rattle.schedule.specs.Paper.{new, tells, faults, Read as Reads, unread, good, read}
+use Rattle.schedule_places.specs.Inner.{Placed, placed}
+use Rattle.schedule.specs.Coded.{readOf}
+use Rattle.schedule_places.specs.Coded.{placedOf}
 use Rattle.schedule.specs.Inner.{toldBy}
-use Rattle.schedule.proofs.Givens.{faults-some, Good, read-placed, given-good, told-at}
+use Rattle.schedule.proofs.Answers.{faults-some}
+use Rattle.schedule_places.proofs.Known.{Good, read-placed, given-good, told-at}
 use Rattle.calls.specs.Paper.{CallLeft}
 use Rattle.calls.specs.Claims.{IsLeft}
 use Rattle.schedule_calls.specs.Paper.{packedRead}

@@ -41,7 +41,7 @@ pub extern "C" fn cb_slots(message: &[u8], received: usize, slots: &mut [u32]) -
     if slots.len() != SLOTS {
         return refusals::number(Refusal::OutputLength) as u32;
     }
-    let found = schedule::read_places(message, received);
+    let found = schedule_places::read_places(message, received);
     let answer = found.answer;
     match answer {
         Reading::Refused(refusal) => refusals::number(refusal) as u32,

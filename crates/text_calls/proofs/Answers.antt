@@ -1,12 +1,13 @@
 -- What the text room's answers count is small.
 use Rattle.laws.proofs.Base.{_≡_, sym, ap, List, ℕ, _≤_, arith}
 use Rattle.page.specs.Paper.{Heading}
-use Rattle.text.specs.declared.Written.{Written}
-use Rattle.text.specs.declared.Written.the-variants.{Used}
-use Rattle.text.specs.declared.Got.{Got}
-use Rattle.text.specs.declared.Got.the-variants.{Characters}
+use Rattle.text_writer.specs.declared.Written.{Written}
+use Rattle.text_writer.specs.declared.Written.the-variants.{Used}
+use Rattle.text_reader.specs.declared.Got.{Got}
+use Rattle.text_reader.specs.declared.Got.the-variants.{Characters}
 use Rattle.text.specs.Paper.{Writing, Reading, written, reading}
-use Rattle.text.specs.Coded.{writingOf, readingOf}
+use Rattle.text_writer.specs.Coded.{writingOf}
+use Rattle.text_reader.specs.Coded.{readingOf}
 use Rattle.text_back.proofs.Back.{used-bounds}
 use Rattle.text_back.proofs.Reader.{characters-bounded}
 

@@ -3,8 +3,8 @@ ghost use mathlib.Core.Path.{_≡_};
 ghost use Rattle.text_calls.specs.Paper.{writeCall, readCall};
 use page::MessageId;
 use page::Serial;
-use text::Got;
-use text::Written;
+use text_reader::Got;
+use text_writer::Written;
 
 // Writes a page of text: number + 256 × used octets.
 #[no_mangle]
@@ -18,7 +18,7 @@ pub extern "C" fn cb_write_text(
 ) -> u32
     ensures { λ r. ⌜ record { returned = r; memory = now (page .exit) } ≡ writeCall (record { serial = serial; id = identifier; scheme = scheme; parameter = parameter }) (now (text .entry)) (now (page .entry)) ⌝ }
 {
-    let answer = text::write_text(
+    let answer = text_writer::write_text(
         Serial(serial),
         MessageId(identifier),
         scheme,
@@ -37,7 +37,7 @@ pub extern "C" fn cb_write_text(
 pub extern "C" fn cb_read_text(page: &[u8], received: usize, text: &mut [u16]) -> u32
     ensures { λ r. ⌜ record { returned = r; memory = now (text .exit) } ≡ readCall (now (page .entry)) received (now (text .entry)) ⌝ }
 {
-    let answer = text::read_text(page, received, text);
+    let answer = text_reader::read_text(page, received, text);
     match answer {
         Got::Characters(characters) => 256 * characters as u32,
         Got::Refused(refusal) => refusals::number(refusal) as u32,

@@ -6,8 +6,8 @@ use crate::told::DIFFERS;
 use page::Handing;
 use page::MessageId;
 use page::Serial;
-use text::Got;
-use text::Written;
+use text_reader::Got;
+use text_writer::Written;
 
 // The septet that is read as a space, and never written.
 const ESCAPE: u8 = 0x1B;
@@ -94,7 +94,7 @@ fn is_packing(septets: &[u8; 93], page: &[u8; 88]) -> bool {
 
 // The characters that are read, 0 where the page is refused.
 fn read(page: &[u8], text: &mut [u16]) -> usize {
-    let answer = text::read_text(page, 88, text);
+    let answer = text_reader::read_text(page, 88, text);
     match answer {
         Got::Characters(characters) => characters,
         Got::Refused(_) => 0,
@@ -103,7 +103,7 @@ fn read(page: &[u8], text: &mut [u16]) -> usize {
 
 // The octets that a text uses, 0 where it is refused.
 fn write(text: &[u16], page: &mut [u8]) -> usize {
-    let answer = text::write_text(Serial(0), MessageId(0), 0, 0x11, text, page);
+    let answer = text_writer::write_text(Serial(0), MessageId(0), 0, 0x11, text, page);
     match answer {
         Written::Used(used) => used,
         Written::Refused(_) => 0,

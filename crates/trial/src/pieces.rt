@@ -5,9 +5,9 @@ use crate::fields;
 use crate::fields::UNREAD;
 use crate::told;
 use crate::told::NO_VALUE;
-use block::Answer;
-use block::Reply;
-use block::State;
+use block_intake::Answer;
+use block_intake::Reply;
+use block_intake::State;
 use sizes::MESSAGE;
 
 // Octets of a state in a line.
@@ -41,7 +41,7 @@ fn intake_of(line: &[u8], at: usize, lent: &[u8], piece: &[u8]) -> usize {
     if lent.len() != STATE {
         return NO_VALUE;
     }
-    let reply = block::intake(held_in(lent), piece);
+    let reply = block_intake::intake(held_in(lent), piece);
     let after = reply.state;
     let next = answered(line, at, reply);
     let left = told::state_after(line, next, after);
@@ -60,7 +60,7 @@ pub(crate) fn sequence(line: &[u8]) -> usize {
 
 // The pieces of a line up to a place of it, of which there are fewer than characters.
 fn pieces(line: &[u8], end: usize) -> Left {
-    let mut state = block::start();
+    let mut state = block_intake::start();
     let mut next = 1;
     let mut turns = line.len();
     while turns > 0 {
@@ -82,7 +82,7 @@ fn piece_of(line: &[u8], at: usize, before: State) -> Left {
     let mut room = fields::room();
     let piece = fields::take_octets(line, at, &mut room);
     let count = piece.count;
-    let reply = block::intake(before, &room[..count]);
+    let reply = block_intake::intake(before, &room[..count]);
     let state = reply.state;
     let next = answered(line, piece.next, reply);
     Left {

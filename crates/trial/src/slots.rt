@@ -7,13 +7,13 @@ use crate::told;
 use crate::told::DIFFERS;
 use crate::told::NO_VALUE;
 use board::Decision;
-use board::Held;
-use board::Schedule;
 use board::Wanted;
+use board_held::Held;
+use board_held::Schedule;
 use page::MessageId;
-use schedule::Given;
 use schedule::Reading;
 use schedule::Slot;
+use schedule_given::Given;
 use sizes::MESSAGE;
 
 // The most identifiers that are wanted.
@@ -29,7 +29,7 @@ pub(crate) fn schedule(line: &[u8]) -> usize {
 }
 
 fn schedule_of(line: &[u8], at: usize, message: &[u8], received: usize) -> usize {
-    let answer = schedule::read_schedule(message, received);
+    let answer = schedule_places::read_schedule(message, received);
     match answer {
         Reading::Read(begin, end) => {
             let next = ends(line, at, 0, begin, end);
@@ -184,7 +184,7 @@ fn entry_of(
         return NO_VALUE;
     }
     let given = given_of(known, message, received);
-    let under = board::entered_under(given, slot);
+    let under = board_held::entered_under(given, slot);
     told::number(line, at, Held(held).with(under).0)
 }
 

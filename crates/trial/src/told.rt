@@ -1,6 +1,6 @@
 // Results as a line tells them, character by character. Each function answers the place after what it was given.
 
-use block::State;
+use block_intake::State;
 
 // The place after a result that a line tells otherwise: past every line.
 pub(crate) const DIFFERS: usize = usize::MAX - 1;

@@ -1,7 +1,8 @@
 -- `block_calls::cb_write_blocks` meets its contract: the block writer's answer and output, for the kind that is told.
 use Rattle.laws.proofs.Base.{_≡_, ap, _∙_, needs}
-use Rattle.block.specs.Paper.{Kind, BlocksLeft, written}
-use Rattle.block.specs.Coded.{sentOf}
+use Rattle.block.specs.Paper.{Kind}
+use Rattle.block_writer.specs.Paper.{BlocksLeft, written}
+use Rattle.block_writer.specs.Coded.{sentOf}
 use Rattle.block_calls.specs.Paper.{kindIf, blocksLeft}
 use Rattle.block_calls.proofs.cb_write_blocks.Statement.{statement}
 use Rattle.block_calls.proofs.cb_write_blocks.Tie as tie

@@ -3,7 +3,6 @@ use Rattle.laws.proofs.Base.{sym, ap, _∙_, _-_, arith, length, length-take-le
 use Rattle.checker_plans.specs.Coded.{plansOf}
 use Rattle.logs.proofs.Turns.{Going, going-start, may-list, goes-higher, turn-told, turn-going}
 use Rattle.cbcheck.specs.Paper.{lineOf}
-use Rattle.lines.proofs.Read.{long-chunk, goes-on}
 use Rattle.cbcheck.proofs.list_all.Statement.{statement}
 use Rattle.cbcheck.proofs.list_all.Tie as tie
 
