@@ -54,7 +54,8 @@ module _ (m : List ℕ) (b : Bool) (s : List ℕ) (f : List Bool) where
       there : at ≡ start m j
       there = k .reached ∙ rw (grouped-is m j b inside)
 
-      pub finds-take : (received n : ℕ) (d : Told) (x : Bool) → length t ≡ 48 → length g ≡ 48 → j < 48 → took d n ≡ step m received at → x ≡ isFirst d
+      pub finds-take : (received n : ℕ) (d : Told) (x : Bool) → length t ≡ 48 → length g ≡ 48 → j < 48
+          → took d n ≡ step m received at → x ≡ isFirst d
           → Finds m b (j + 1) s f (set t j at) (set g j x) n × (n ≤ received)
       unfolding tells
       finds-take received n d x lt lg l e q =

@@ -47,7 +47,9 @@ module _ (m : List ℕ) (received : ℕ) where
             ends = ends;
             last = rw ends (within m (not-false (inBounds m) (h .1 .1 .1 .0)) .2);
             reads = reads;
-            places = ruled-append unplaced (headFaults m received) (bodyFaults m received) (whole m) ∙ f Placed unplaced (ruled unplaced (bodyFaults m received) (whole m));
+            places =
+                ruled-append unplaced (headFaults m received) (bodyFaults m received) (whole m)
+                ∙ f Placed unplaced (ruled unplaced (bodyFaults m received) (whole m));
           }
 
   pub head-refused : (r : Refusal) → unread (numberOf r) ≡ headRead m received → unplaced (numberOf r) ≡ placed m received
@@ -57,7 +59,8 @@ module _ (m : List ℕ) (received : ℕ) where
       go : Outcome (headFaults m received) → unplaced (numberOf r) ≡ ruled unplaced (faults m received) (whole m)
       go (refuses n a h) =
           ap unplaced (ap (λ (x : Read). x .number) (q ∙ h Read unread (good m)))
-          ∙ sym (ruled-append unplaced (headFaults m received) (bodyFaults m received) (whole m) ∙ h Placed unplaced (ruled unplaced (bodyFaults m received) (whole m)))
+          ∙ sym (ruled-append unplaced (headFaults m received) (bodyFaults m received) (whole m)
+          ∙ h Placed unplaced (ruled unplaced (bodyFaults m received) (whole m)))
       go (passes h f) =
           absurd (numberOf-positive r (ap (λ (x : Read). x .number) (q ∙ f Read unread (good m))))
 
@@ -76,9 +79,11 @@ module _ (m : List ℕ) (received : ℕ) where
     pub placed-short-rest : received < place m (base m false + count (grouped m false) (end m)) → unplaced 23 ≡ placed m received
     placed-short-rest l = placed-short (rw (groups-whole m) at l)
 
-    module _ (t s : List ℕ) (f g : List Bool) (n k : ℕ) (news : Finds m true (end m) (replicate 48 0) (replicate 48 false) t f n) (others : Finds m false (end m) t f s g k) (inside : k ≤ received) where
+    module _ (t s : List ℕ) (f g : List Bool) (n k : ℕ)
+        (news : Finds m true (end m) (replicate 48 0) (replicate 48 false) t f n) (others : Finds m false (end m) t f s g k) (inside : k ≤ received) where
       -- what both groups together have of a slot up to End
-      both-groups : {A : Type 0} (v : ℕ → A) (d : A) (x y z : List A) → Over v d m true (end m) x y → Over v d m false (end m) y z → (i : ℕ) → i < 48 → i < end m → getD z i d ≡ v i
+      both-groups : {A : Type 0} (v : ℕ → A) (d : A) (x y z : List A) → Over v d m true (end m) x y
+          → Over v d m false (end m) y z → (i : ℕ) → i < 48 → i < end m → getD z i d ≡ v i
       both-groups v d x y z p q i h l = q i h ∙ go (grouped m true i) refl
         where
           go : (b : Bool) → grouped m true i ≡ b → over v d m false (end m) y i ≡ v i

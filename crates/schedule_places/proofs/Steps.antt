@@ -24,7 +24,8 @@ module _ (m : List ℕ) (received at : ℕ) where
   unfolding step
   step-past e = go (leb (at + width (octetAt m at)) received) refl e
     where
-      go : (b : Bool) → leb (at + width (octetAt m at)) received ≡ b → past ≡ cond b (took (told m at) (at + width (octetAt m at))) past → received < at + width (octetAt m at)
+      go : (b : Bool) → leb (at + width (octetAt m at)) received ≡ b
+          → past ≡ cond b (took (told m at) (at + width (octetAt m at))) past → received < at + width (octetAt m at)
       go true q h = let z : _≡_ {A = ℕ} 0 1 = cc in absurd (omega arith)
       go false q h = leb-false (at + width (octetAt m at)) received q
 

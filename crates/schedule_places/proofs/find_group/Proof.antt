@@ -16,15 +16,16 @@ abbrev μ-loop : tie.MeasureT-loop
 
 loop-holds : tie.Need-loop-holds Inv-loop μ-loop
 loop-holds c =
-    let a = c .before .args in
-    (omega arith, search needs, search needs, search needs, finds-none (a .message .now) (a .new) (a .places) (a .firsts) (a .from) (c .before .pre .1))
+    (omega arith, search needs, search needs, search needs, finds-none _ _ _ _ _ (c .before .pre .1))
 
 returns : tie.Need-returns Inv-loop μ-loop
 returns c =
     let a = c .before .before .before .before .before .before .before .before .args in
     let l = c .before .before .before .before .before .before .loop in
-    let inside = grouped-told (a .message .now) (l .i) (a .new) _ _ (c .before .before .before .before .is-new .ensures) (c .before .before .before .if1 .taken) in
-    (refl, finds-short (a .message .now) (a .new) (a .places) (a .firsts) (l .i) (l .at) (l .found) (l .marked) (l .inv .4) inside (a .received) (omega arith) (sym (ap steppedOf (c .enum-told .given .1)) ∙ c .before .before .step-at .ensures))
+    let bit = c .before .before .before in
+    let inside = grouped-told (a .message .now) (l .i) (a .new) _ _ (bit .before .is-new .ensures) (bit .if1 .taken) in
+    let passed = sym (ap steppedOf (c .enum-told .given .1)) ∙ c .before .before .step-at .ensures in
+    (refl, finds-short _ _ _ _ (l .i) (l .at) (l .found) (l .marked) (l .inv .4) inside (a .received) (omega arith) passed)
 
 loop-again : tie.Need-loop-again Inv-loop μ-loop
 loop-again c =
@@ -36,9 +37,15 @@ loop-again c =
     ⊎-elim
     (λ w.
     let inside = grouped-told m (l .i) (a .new) _ _ (bit .ensures) (w .0 .taken) in
-    let k = finds-take m (a .new) (a .places) (a .firsts) (l .i) (l .at) (l .found) (l .marked) (l .inv .4) inside (a .received) _ _ _ (l .inv .2) (l .inv .3) room (sym (ap steppedOf (w .3 .given .1)) ∙ w .1 .ensures) (w .5 .ensures) in
+    let taken = sym (ap steppedOf (w .3 .given .1)) ∙ w .1 .ensures in
+    let k =
+    finds-take _ _ _ _ (l .i) (l .at) (l .found) (l .marked) (l .inv .4) inside (a .received) _ _ _ (l .inv .2) (l .inv .3) room taken
+    (w .5 .ensures) in
     rw (w .6, w .7, w .8) (omega arith, k .1, simp length-set (l .inv .2), simp length-set (l .inv .3), k .0))
-    (λ w. rw (w .1, w .2, w .3) (omega arith, l .inv .1, l .inv .2, l .inv .3, finds-skip m (a .new) (a .places) (a .firsts) (l .i) (l .at) (l .found) (l .marked) (l .inv .4) (grouped-told m (l .i) (a .new) _ _ (bit .ensures) (w .0 .left))))
+    (λ w.
+    let outside = grouped-told m (l .i) (a .new) _ _ (bit .ensures) (w .0 .left) in
+    rw (w .1, w .2, w .3)
+    (omega arith, l .inv .1, l .inv .2, l .inv .3, finds-skip _ _ _ _ (l .i) (l .at) (l .found) (l .marked) (l .inv .4) outside))
     (c .if1 .came)
 
 returns-2 : tie.Need-returns-2 Inv-loop μ-loop

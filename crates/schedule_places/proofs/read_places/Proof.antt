@@ -1,60 +1,53 @@
 -- `schedule_places::read_places` meets its contract: each answer is a case of the reader with all places.
 use Rattle.laws.proofs.Base.{refl, sym, ap, _∙_, zero-add, arith, needs}
-use Rattle.schedule_places.specs.Inner.{unplacedBy}
-use Rattle.schedule.specs.Coded.{readOf}
 use Rattle.schedule.specs.Paper.{place}
+use Rattle.schedule.specs.Coded.{readOf}
 use Rattle.schedule.specs.declared.Reading.{Reading}
+use Rattle.schedule_places.specs.Inner.{unplacedBy}
 use Rattle.schedule_places.proofs.Placing.{Headed, head-read, head-refused, readable, placed-short-new, placed-short-rest, all-firsts, placed-false, placed-good}
 use Rattle.schedule_places.proofs.read_places.Statement.{statement}
 use Rattle.schedule_places.proofs.read_places.Tie as tie
 
 returns : tie.Need-returns
 returns c =
-    let a = c .before .before .before .before .before .args in
     let told = c .before .enum-told .given in
-    c .refused .ensures ∙ ap (λ (x : Reading). unplacedBy (readOf x)) (told .1) ∙ head-refused (a .message .now) (a .received) (told .0 .0) (sym (ap readOf (told .1)) ∙ c .before .before .before .read-header .ensures)
+    c .refused .ensures ∙ ap (λ (x : Reading). unplacedBy (readOf x)) (told .1)
+    ∙ head-refused _ _ (told .0 .0) (sym (ap readOf (told .1)) ∙ c .before .before .before .read-header .ensures)
+
+-- the header was read
+headed : (c : tie.After-header) → let a = c .before .before .before .before .args in
+    Headed (a .message .now) (a .received) (c .header .given .0 .0) (c .header .given .0 .1 .0)
+headed c = head-read _ _ _ _ (sym (ap readOf (c .header .given .1)) ∙ c .before .before .read-header .ensures)
 
 find-group-requires : tie.Need-find-group-requires
 unfolding place
-find-group-requires c κs =
-    let a = c .before .before .before .before .before .args in
-    let h = head-read (a .message .now) (a .received) _ _ (sym (ap readOf (c .before .header .given .1)) ∙ c .before .before .before .read-header .ensures) in
-    (readable (a .message .now) (a .received) _ _ h, refl, omega (arith, h .room))
+find-group-requires c κs = let h = headed (c .before) in (readable _ _ _ _ h, refl, omega (arith, h .room))
 
 returns-2 : tie.Need-returns-2
 returns-2 c =
     let f = c .before .before .before in
-    let x = f .before .before in
-    let a = x .before .before .before .before .args in
-    let h = head-read (a .message .now) (a .received) _ _ (sym (ap readOf (x .header .given .1)) ∙ x .before .before .read-header .ensures) in
     let g = rw (c .before .enum-told2 .given .1) at (f .find-group .ensures) in
-    c .refused2 .ensures ∙ placed-short-new (a .message .now) (a .received) _ _ h (g .1)
-
--- the header was read where the second group is asked for
-headed : (c : tie.After-marked) → let x = c .before .before .before .before .before .before .before in let a = x .before .before .before .before .args in Headed (a .message .now) (a .received) (x .header .given .0 .0) (x .header .given .0 .1 .0)
-headed c =
-    let x = c .before .before .before .before .before .before .before in
-    head-read _ _ _ _ (sym (ap readOf (x .header .given .1)) ∙ x .before .before .read-header .ensures)
+    c .refused2 .ensures ∙ placed-short-new _ _ _ _ (headed (f .before .before)) (g .1)
 
 find-group-requires-2 : tie.Need-find-group-requires-2
 find-group-requires-2 c κs =
     let r = c .before .before .before in
     let g = rw (r .reach .given .1) at (r .before .before .find-group .ensures) in
-    (readable _ _ _ _ (headed c), g .0 .reached ∙ rw zero-add, g .1)
+    (readable _ _ _ _ (headed (r .before .before .before .before)), g .0 .reached ∙ rw zero-add, g .1)
 
 returns-3 : tie.Need-returns-3
 returns-3 c =
     let b = c .before .before .before in
     let g = rw (c .before .enum-told4 .given .1) at (b .find-group2 .ensures) in
-    c .refused3 .ensures ∙ placed-short-rest _ _ _ _ (headed (b .before)) (g .1)
+    c .refused3 .ensures ∙ placed-short-rest _ _ _ _ (headed (b .before .before .before .before .before .before .before .before)) (g .1)
 
 has-false-repeat-requires : tie.Need-has-false-repeat-requires
 has-false-repeat-requires c κs =
     let b = c .before .before .before .before in
     let r = b .before .before .before .before in
+    let h = headed (r .before .before .before .before) in
     let n = rw (r .reach .given .1) at (r .before .before .find-group .ensures) in
     let g = rw (c .before .before .enum-told3 .given .1) at (b .find-group2 .ensures) in
-    let h = headed (b .before) in
     (h .last, all-firsts _ _ _ _ h _ _ _ _ _ _ (n .0) (g .0) (g .1))
 
 returns-4 : tie.Need-returns-4
@@ -62,9 +55,11 @@ returns-4 c =
     let told = c .before .before in
     let b = told .before .before .before .before .before in
     let r = b .before .before .before .before in
+    let h = headed (r .before .before .before .before) in
     let n = rw (r .reach .given .1) at (r .before .before .find-group .ensures) in
     let g = rw (told .before .before .before .enum-told3 .given .1) at (b .find-group2 .ensures) in
-    c .refused4 .ensures ∙ placed-false _ _ _ _ (headed (b .before)) _ _ _ _ _ _ (n .0) (g .0) (g .1) (sym (told .has-false-repeat .ensures) ∙ c .before .if1 .taken)
+    c .refused4 .ensures
+    ∙ placed-false _ _ _ _ h _ _ _ _ _ _ (n .0) (g .0) (g .1) (sym (told .has-false-repeat .ensures) ∙ c .before .if1 .taken)
 
 returns-5 : tie.Need-returns-5
 returns-5 c =
@@ -74,7 +69,8 @@ returns-5 c =
     let x = r .before .before .before .before in
     let n = rw (r .reach .given .1) at (r .before .before .find-group .ensures) in
     let g = rw (told .before .before .before .enum-told3 .given .1) at (b .find-group2 .ensures) in
-    placed-good _ _ _ _ (headed (b .before)) _ _ _ _ _ _ (n .0) (g .0) (g .1) _ (sym (ap readOf (x .header .given .1)) ∙ x .before .before .read-header .ensures) (g .2) (sym (told .has-false-repeat .ensures) ∙ c .if1 .left)
+    placed-good _ _ _ _ (headed x) _ _ _ _ _ _ (n .0) (g .0) (g .1) _
+    (sym (ap readOf (x .header .given .1)) ∙ x .before .before .read-header .ensures) (g .2) (sym (told .has-false-repeat .ensures) ∙ c .if1 .left)
 
 pub read-places-spec : {M : Type 1} → statement M
 read-places-spec =
