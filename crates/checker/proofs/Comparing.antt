@@ -13,14 +13,12 @@ use Rattle.schedule_places.specs.Inner.{placed, Placed as Places}
 use Rattle.schedule.specs.Coded.{readOf}
 use Rattle.schedule_places.specs.Coded.{placedOf}
 use Rattle.schedule_places.proofs.Known.{Good, read-placed, given-good, told-at}
-use Rattle.schedule_places.specs.declared.Placed.{Placed}
 use Rattle.plan_slots.specs.declared.Planned.{Planned as PlannedCode}
 use Rattle.plan_slots.specs.Paper.{Planned}
 use Rattle.plan_slots.specs.Coded.{plannedOf}
 use Rattle.plan_slots.specs.Inner.{nothing}
 use Rattle.checker_slots.specs.Inner.{trueBy}
 use Rattle.checker.specs.Paper.{Checked, unchecked, untrueAt}
-use Rattle.plan_slots.specs.declared.Planned.{Planned as PlannedCode}
 use Rattle.checker.specs.Inner.{untrueTo, compared}
 use Rattle.checker.specs.Coded.{untrueBy}
 
