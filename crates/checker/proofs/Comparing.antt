@@ -17,7 +17,7 @@ use Rattle.plan_slots.specs.declared.Planned.{Planned as PlannedCode}
 use Rattle.plan_slots.specs.Paper.{Planned}
 use Rattle.plan_slots.specs.Coded.{plannedOf}
 use Rattle.plan_slots.specs.Inner.{nothing}
-use Rattle.checker_slots.specs.Inner.{trueBy}
+use Rattle.checker_slots.specs.Paper.{trueBy}
 use Rattle.checker.specs.Paper.{Checked, unchecked, untrueAt}
 use Rattle.checker.specs.Inner.{untrueTo, compared}
 use Rattle.checker.specs.Coded.{untrueBy}

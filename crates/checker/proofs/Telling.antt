@@ -8,7 +8,7 @@ use Rattle.plan.specs.Paper.{Plan, planNumber, entryAt}
 use Rattle.plan_slots.specs.Inner.{nonePlanned, saidAt, allPlanned}
 use Rattle.plan_slots.specs.Paper.{Planned, plannedAt}
 use Rattle.plan.proofs.GoodPlan.{good-counted}
-use Rattle.checker_slots.specs.Inner.{trueBy}
+use Rattle.checker_slots.specs.Paper.{trueBy}
 use Rattle.checker_plans.specs.Inner.{beside}
 use Rattle.checker.specs.Paper.{isTrue, untrue, verdict, check}
 use Rattle.checker.specs.Inner.{untrueTo, verdictTo, compared, checkBeside}

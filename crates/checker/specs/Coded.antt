@@ -12,7 +12,7 @@ use Rattle.plan_slots.specs.Inner.{nothing}
 use Rattle.plan.specs.Coded.{verdictOf}
 use Rattle.checker.specs.declared.Checking.{Checking}
 use Rattle.checker.specs.declared.Checking.the-variants.{True, Refused}
-use Rattle.checker_slots.specs.Inner.{trueBy}
+use Rattle.checker_slots.specs.Paper.{trueBy}
 use Rattle.checker.specs.Paper.{Checked}
 
 -- what a message tells of slot i at its place is untrue by what an array says of the slot

@@ -8,7 +8,7 @@ use Rattle.laws.specs.Upto.{lowest}
 use Rattle.schedule.specs.Paper.{Shown, shown, end, read, Told, first, again, optional, advised}
 use Rattle.plan.specs.Paper.{Plan, planNumber}
 use Rattle.plan_slots.specs.Paper.{plannedAt, Planned}
-use Rattle.checker_slots.specs.Inner.{trueBy}
+use Rattle.checker_slots.specs.Paper.{trueBy}
 
 -- 01 Truthful: a slot is told truly
 unfoldable pub isTrue : Plan → Plan → ℕ → Shown → Bool

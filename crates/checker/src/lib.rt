@@ -7,7 +7,7 @@ ghost use Rattle.plan.specs.Coded.{planOf};
 ghost use Rattle.plan_slots.specs.Coded.{plannedOf};
 ghost use Rattle.checker_plans.specs.Coded.{plansOf};
 ghost use Rattle.checker.specs.Paper.{check};
-ghost use Rattle.checker_slots.specs.Inner.{leads, repeats, mayTell, newFor, trueBy};
+ghost use Rattle.checker_slots.specs.Paper.{leads, repeats, mayTell, newFor, trueBy};
 ghost use Rattle.checker.specs.Inner.{compared, checkBeside};
 ghost use Rattle.checker_plans.specs.Inner.{beside as besideThem, unsaid};
 ghost use Rattle.checker.specs.Coded.{untrueBy, checkedOf};

@@ -6,7 +6,7 @@ use Rattle.schedule.specs.declared.Slot.{Slot}
 use Rattle.schedule.specs.Coded.{shownOf}
 use Rattle.plan_slots.specs.declared.Planned.{Planned}
 use Rattle.plan_slots.specs.Coded.{plannedOf}
-use Rattle.checker_slots.specs.Inner.{trueBy}
+use Rattle.checker_slots.specs.Paper.{trueBy}
 
 pub determined-is-true : (planned : Planned) (number : ℕ) (slot : Slot) → Determined (λ (r : Bool). r ≡ trueBy (plannedOf planned) number (shownOf slot))
 determined-is-true planned number slot = determined

@@ -1,2 +1,2 @@
 -- What `checker_slots` defines.
-pub mod Inner
+pub mod Paper

@@ -2,7 +2,7 @@
 ghost use mathlib.Core.Path.{_≡_};
 ghost use Rattle.schedule.specs.Coded.{toldOf, shownOf};
 ghost use Rattle.plan_slots.specs.Coded.{plannedOf};
-ghost use Rattle.checker_slots.specs.Inner.{leads, repeats, mayTell, newFor, trueBy};
+ghost use Rattle.checker_slots.specs.Paper.{leads, repeats, mayTell, newFor, trueBy};
 use plan_slots::Planned;
 use schedule::Description;
 use schedule::Slot;

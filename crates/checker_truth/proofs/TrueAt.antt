@@ -6,7 +6,7 @@ use Rattle.schedule.specs.Paper.{Told, first, again, optional, advised, Shown}
 use Rattle.plan.specs.Paper.{Plan, planNumber, entryAt}
 use Rattle.plan_slots.specs.Paper.{lowestAt, low15At, Planned, plannedAt}
 use Rattle.plan_slots.proofs.Lowest.{leading}
-use Rattle.checker_slots.specs.Inner.{leads, repeats, mayTell, newFor}
+use Rattle.checker_slots.specs.Paper.{leads, repeats, mayTell, newFor}
 use Rattle.checker.specs.Paper.{isTrue}
 use Rattle.checker_truth.specs.Claims.{TrueAt}
 use Rattle.plan.proofs.GoodPlan.{kind-few}

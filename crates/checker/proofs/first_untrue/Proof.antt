@@ -4,7 +4,7 @@ use borrow.Author.Count.{below-none, below-more}
 use Rattle.laws.proofs.Lowest.{lowest-at, lowest-none}
 use Rattle.plan_slots.specs.Coded.{plannedOf}
 use Rattle.plan_slots.specs.Inner.{nothing}
-use Rattle.checker_slots.specs.Inner.{trueBy}
+use Rattle.checker_slots.specs.Paper.{trueBy}
 use Rattle.checker.specs.Coded.{untrueBy}
 use Rattle.checker.proofs.first_untrue.Statement.{statement}
 use Rattle.checker.proofs.first_untrue.Tie as tie
