@@ -26,8 +26,6 @@ use Rattle.schedule_calls.proofs.Given.{ends-small, slotNumber, slot-small}
 use Rattle.plan_calls.specs.Paper.{fileFaults, writtenFrom, checkedBeside}
 use Rattle.board_calls.specs.Paper.{decidedFor}
 use Rattle.calls_unpacked.specs.Claims.{UnpackedIntake, UnpackedWriteText, UnpackedReadText, UnpackedReadPlan, UnpackedWriteSchedule, UnpackedCheckSchedule, UnpackedDecide, UnpackedReadSchedule, UnpackedNext, UnpackedRefusal, answeredCall}
-use Rattle.capi.specs.Paper.{codeOf, writeCall, readCall, scheduleCall, descriptionCall, planCall, writeScheduleCall, checkScheduleCall, decideCall}
-use Rattle.capi.proofs.Scheduled.{bit-byte, bit-small}
 
 -- the numbers of some tests fit eight bits
 abbrev fitting : List (Bool × ℕ) → Bool

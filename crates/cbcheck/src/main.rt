@@ -17,8 +17,6 @@ use arguments::Asked;
 use checker::Checking;
 use checker_plans::Plans;
 use files::Opened;
-ghost use Rattle.lines.specs.Inner.{Puts};
-use checker_plans::Plans;
 use libc::STDERR_FILENO;
 use refusals::Refusal;
 
