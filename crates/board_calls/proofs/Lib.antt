@@ -1,5 +1,4 @@
 -- What `board_calls` proves.
 pub mod Decided
 pub mod Determined
-pub mod Nothing
 pub mod Wanted

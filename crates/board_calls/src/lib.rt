@@ -1,9 +1,9 @@
-// The entries for C by which a board decides for a slot, and keeps the set of slots whose pages it holds.
+// The entry for C by which a board decides for a slot.
 ghost use mathlib.Core.Path.{_≡_};
 ghost use Prim.Native.Nat.{_≤_};
 ghost use lib.ListN.{length, take};
 ghost use Rattle.board.specs.Coded.{idsOf};
-ghost use Rattle.board_calls.specs.Paper.{decideCall, enterCall};
+ghost use Rattle.board_calls.specs.Paper.{decideCall};
 use board::Decision;
 use board::Wanted;
 use board_held::Held;
@@ -53,19 +53,4 @@ pub extern "C" fn cb_decide(
         Decision::Skip => 0,
         Decision::Refused(refusal) => refusals::number(refusal) as u32,
     }
-}
-
-// The held set with the page got in a slot entered, under its first's slot where the schedule tells a repeat.
-#[no_mangle]
-pub extern "C" fn cb_enter(
-    known: bool,
-    message: &[u8],
-    received: usize,
-    slot: usize,
-    held: u64,
-) -> u64
-    ensures { λ r. ⌜ r ≡ enterCall known (now (message .entry)) received slot held ⌝ }
-{
-    let under = board_held::entered_under_on(known, message, received, slot);
-    Held(held).with(under).0
 }

@@ -11,7 +11,8 @@ use Rattle.plan_read.specs.Paper.{readPlan}
 use Rattle.plan_slots.specs.Paper.{pageAt, lowestAt}
 use Rattle.board.specs.Paper.{Wanted}
 use Rattle.plan_calls.specs.Paper.{writeScheduleCall, checkScheduleCall}
-use Rattle.board_calls.specs.Paper.{decideCall, enterCall}
+use Rattle.board_calls.specs.Paper.{decideCall}
+use Rattle.held_calls.specs.Paper.{enterCall}
 use Rattle.board_obeyed.specs.Claims.{WantedPage, Why, Board, after}
 
 -- 01 The plan: the plan that a file holds

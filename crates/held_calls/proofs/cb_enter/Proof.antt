@@ -1,8 +1,8 @@
--- `board_calls::cb_enter` meets its contract: the set with the slot entered that the board gives.
+-- `held_calls::cb_enter` meets its contract: the set with the slot entered that the board gives.
 use Rattle.laws.proofs.Base.{ap, _∙_, needs}
 use Rattle.board_held.specs.Paper.{enter}
-use Rattle.board_calls.proofs.cb_enter.Statement.{statement}
-use Rattle.board_calls.proofs.cb_enter.Tie as tie
+use Rattle.held_calls.proofs.cb_enter.Statement.{statement}
+use Rattle.held_calls.proofs.cb_enter.Tie as tie
 
 returns : tie.Need-returns
 returns c = c .with .ensures ∙ ap (enter (c .before .before .before .args .held)) (c .before .entered-under-on .ensures)

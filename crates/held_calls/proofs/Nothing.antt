@@ -6,7 +6,7 @@ use Rattle.board_held.specs.Coded.{lentSchedule}
 use Rattle.board_held.proofs.Cases.{entered-untold}
 use Rattle.board_held.proofs.Sets.{enter-low, enter-high}
 use Rattle.board_held.proofs.Telling.{is-read}
-use Rattle.board_calls.specs.Paper.{enterCall}
+use Rattle.held_calls.specs.Paper.{enterCall}
 
 module _ (known : Bool) (m : List ℕ) (received slot : ℕ) where
   -- no schedule tells of it

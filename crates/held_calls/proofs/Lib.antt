@@ -1,0 +1,3 @@
+-- What `held_calls` proves.
+pub mod Determined
+pub mod Nothing

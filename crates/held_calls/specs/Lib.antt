@@ -1,0 +1,2 @@
+-- What `held_calls` defines.
+pub mod Paper
