@@ -1,7 +1,8 @@
 -- The cases of what a program's arguments ask for.
 use Rattle.laws.proofs.Base.{_≡_, true, false, List, ℕ, _≤_, _<_, le-leb, lt-leb}
-use Rattle.arguments.specs.Paper.{helpAsked, askedBy}
-use Rattle.arguments.specs.declared.Asked.the-variants.{Work, Help, Usage}
+use Rattle.arguments.specs as defs
+use defs.Paper.{helpAsked, askedBy}
+use defs.declared.Asked.the-variants.{Work, Help, Usage}
 
 module _ (count : ℕ) (first : List ℕ) (fewest most : ℕ) where
   pub asks-for-help : helpAsked count first ≡ true → Help ≡ askedBy count first fewest most

@@ -1,13 +1,14 @@
 -- Answers that meet a contract of `block` are equal.
 use Rattle.laws.proofs.Base.{_≡_, refl, sym, ap, _∙_, Bool, List, ℕ}
 use Rattle.refusals.proofs.Inverse.{refusalOf, refusalOf-numberOf}
-use Rattle.block.specs.declared.Kind.{Kind as KindCode}
-use Rattle.block.specs.declared.Kind.the-variants.{Page, Schedule}
-use Rattle.block.specs.declared.Place.{Place as PlaceCode}
-use Rattle.block.specs.declared.Place.the-variants.{None, First, Next}
-use Rattle.block.specs.Paper.{Kind, page, schedule, kindNumber, proper}
-use Rattle.block.specs.Inner.{Place, none, first, next, placeOf, stateWith}
-use Rattle.block.specs.Coded.{kindOf, placed}
+use Rattle.block.specs as defs
+use defs.declared.Kind.{Kind as KindCode}
+use defs.declared.Kind.the-variants.{Page, Schedule}
+use defs.declared.Place.{Place as PlaceCode}
+use defs.declared.Place.the-variants.{None, First, Next}
+use defs.Paper.{Kind, page, schedule, kindNumber, proper}
+use defs.Inner.{Place, none, first, next, placeOf, stateWith}
+use defs.Coded.{kindOf, placed}
 
 pub determined-is-proper : (kind taken : ℕ) (octets : List ℕ) (r s : Bool) → r ≡ proper (stateWith kind taken octets) → s ≡ proper (stateWith kind taken octets) → r ≡ s
 determined-is-proper kind taken octets r s a b = a ∙ sym b

@@ -3,8 +3,9 @@ use Rattle.laws.proofs.Base.{_≡_, refl, sym, ap, _∙_, Bool, true, false, co
 use Rattle.laws.specs.Ruled.{ruled}
 use Rattle.laws.proofs.Ruled.{ruled-map, ruling, Ruling, refuses, passes}
 use Rattle.laws.proofs.Tests.{true-or-false, both}
-use Rattle.block.specs.Paper.{page, schedule, kindNumber, Held, Given, proper, refusal, code, follows, faults, last, made, added, step, blank}
-use Rattle.block.specs.Inner.{Place, none, first, next, placeOf, stateWith, outcome, Adds}
+use Rattle.block.specs as defs
+use defs.Paper.{page, schedule, kindNumber, Held, Given, proper, refusal, code, follows, faults, last, made, added, step, blank}
+use defs.Inner.{Place, none, first, next, placeOf, stateWith, outcome, Adds}
 use Rattle.block.proofs.Blank.{allBlank-is}
 
 pub step-improper : (h : Held) (p : List ℕ) → proper h ≡ false → step h p ≡ refusal 8

@@ -7,8 +7,9 @@ use Rattle.block.specs.Inner.{outcome}
 use Rattle.block_writer.specs.Paper.{markOf, lastUsed, block, blocks}
 use Rattle.block_writer.proofs.Write.{codeOf-small, length-block, length-blocks}
 use Rattle.block_history.specs.Claims.{IsBlock, contents, after, piece, pieces, BlocksTaken}
-use Rattle.block_history.proofs.Joins.{next-of, Part, nothing, more, join, not-next, contents-snoc}
-use Rattle.block_history.proofs.History.{after-append, held-part}
+use Rattle.block_history.proofs as own
+use own.Joins.{next-of, Part, nothing, more, join, not-next, contents-snoc}
+use own.History.{after-append, held-part}
 
 markOf-small : (used i : ℕ) → markOf used i ≤ 1
 markOf-small used i = true-or-false (leb (lastUsed used) (suc i)) (λ e. rw e (lit≤ tt)) (λ e. rw e (lit≤ tt))

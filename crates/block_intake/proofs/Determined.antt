@@ -3,11 +3,12 @@ use Rattle.laws.proofs.Base.{_≡_, refl, sym, ap, _∙_, cond, List, ℕ, arit
 use Rattle.refusals.specs.Number.{numberOf}
 use Rattle.refusals.proofs.Inverse.{refusalOf, refusalOf-numberOf, not-listed, numberOf-positive}
 use Rattle.block.specs.Paper.{Given, start, step}
-use Rattle.block_intake.specs.declared.State.{State}
-use Rattle.block_intake.specs.declared.Answer.{Answer}
-use Rattle.block_intake.specs.declared.Answer.the-variants.{Page, Schedule, Taken, Refused}
-use Rattle.block_intake.specs.declared.Reply.{Reply}
-use Rattle.block_intake.specs.Coded.{heldOf, answerOf, givenOf}
+use Rattle.block_intake.specs as defs
+use defs.declared.State.{State}
+use defs.declared.Answer.{Answer}
+use defs.declared.Answer.the-variants.{Page, Schedule, Taken, Refused}
+use defs.declared.Reply.{Reply}
+use defs.Coded.{heldOf, answerOf, givenOf}
 
 pub determined-start : (r s : State) → heldOf r ≡ start → heldOf s ≡ start → r ≡ s
 determined-start r s a b = λ i. record { kind = (a ∙ sym b) i .kind; taken = (a ∙ sym b) i .taken; octets = (a ∙ sym b) i .octets }

@@ -4,10 +4,11 @@ use Rattle.refusals.specs.Number.{numberOf}
 use Rattle.refusals.proofs.Inverse.{refusalOf, refusalOf-numberOf, numberOf-positive}
 use Rattle.block.specs.declared.Kind.{Kind}
 use Rattle.block.specs.Coded.{kindOf}
-use Rattle.block_writer.specs.declared.Sent.{Sent}
-use Rattle.block_writer.specs.declared.Sent.the-variants.{Done, Refused}
-use Rattle.block_writer.specs.Paper.{BlocksLeft, written}
-use Rattle.block_writer.specs.Coded.{sentOf}
+use Rattle.block_writer.specs as defs
+use defs.declared.Sent.{Sent}
+use defs.declared.Sent.the-variants.{Done, Refused}
+use defs.Paper.{BlocksLeft, written}
+use defs.Coded.{sentOf}
 
 -- the writer's answer by its number
 abbrev sentFrom : ℕ → Sent

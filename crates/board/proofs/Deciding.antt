@@ -11,8 +11,9 @@ use Rattle.board_held.specs.Inner.{answers}
 use Rattle.board_held.specs.Coded.{lentSchedule}
 use Rattle.board_held.proofs.Sets.{Slot}
 use Rattle.board_held.proofs.Telling.{telling, tells-by, named}
-use Rattle.board.specs.Paper.{Wanted, firstMatches, readsFor, decide}
-use Rattle.board.specs.Inner.{readsBy}
+use Rattle.board.specs as defs
+use defs.Paper.{Wanted, firstMatches, readsFor, decide}
+use defs.Inner.{readsBy}
 use Rattle.board.proofs.Cases.{reads-told, decided-as}
 
 -- whether a slot is read, by what is told of the slot that its page is entered under

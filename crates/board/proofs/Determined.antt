@@ -7,11 +7,12 @@ use Rattle.refusals.proofs.Inverse.{refusalOf, refusalOf-numberOf, numberOf-pos
 use Rattle.board_held.specs.declared.Held.{Held}
 use Rattle.board_held.specs.declared.Schedule.{Schedule}
 use Rattle.board_held.specs.Coded.{scheduleOf, lentSchedule}
-use Rattle.board.specs.declared.Decision.{Decision}
-use Rattle.board.specs.declared.Decision.the-variants.{Read, Skip, Refused}
-use Rattle.board.specs.declared.Wanted.{Wanted}
-use Rattle.board.specs.Paper.{Decided, decide}
-use Rattle.board.specs.Coded.{wantedOf, decidedOf}
+use Rattle.board.specs as defs
+use defs.declared.Decision.{Decision}
+use defs.declared.Decision.the-variants.{Read, Skip, Refused}
+use defs.declared.Wanted.{Wanted}
+use defs.Paper.{Decided, decide}
+use defs.Coded.{wantedOf, decidedOf}
 
 -- the code's decision by the paper's
 abbrev decisionFrom : Decided → Decision

@@ -3,8 +3,9 @@ use Rattle.laws.proofs.Base.{_≡_, ap, true, false, List, ℕ, _+_, _%_, _<_, 
 use Rattle.laws.specs.Search.{some}
 use Rattle.laws.proofs.Search.{some-turn, some-found, some-implies, some-agree}
 use Rattle.page.specs.declared.MessageId.{MessageId}
-use Rattle.board.specs.Paper.{Wanted, matches15, isWanted}
-use Rattle.board.specs.Coded.{idOf, idsOf}
+use Rattle.board.specs as defs
+use defs.Paper.{Wanted, matches15, isWanted}
+use defs.Coded.{idOf, idsOf}
 
 -- the identifier that stands for one past the end of an array
 abbrev pub none : MessageId

@@ -5,11 +5,12 @@ use Rattle.laws.proofs.Determined.{determined, determined-by}
 use Rattle.schedule.specs.declared.Description.{Description}
 use Rattle.schedule.specs.declared.Reading.{Reading}
 use Rattle.schedule.specs.Coded.{toldOf, readOf}
-use Rattle.board_held.specs.declared.Held.{Held}
-use Rattle.board_held.specs.declared.Schedule.{Schedule}
-use Rattle.board_held.specs.Paper.{isHeld, enter, entryFor, enteredUnder}
-use Rattle.board_held.specs.Inner.{answers}
-use Rattle.board_held.specs.Coded.{scheduleOf, lentSchedule}
+use Rattle.board_held.specs as defs
+use defs.declared.Held.{Held}
+use defs.declared.Schedule.{Schedule}
+use defs.Paper.{isHeld, enter, entryFor, enteredUnder}
+use defs.Inner.{answers}
+use defs.Coded.{scheduleOf, lentSchedule}
 
 pub determined-is-held : (held : Held) (slot : ℕ) → Determined (λ (r : Bool). r ≡ isHeld (held .0) slot)
 determined-is-held held slot = determined

@@ -14,9 +14,10 @@ use Rattle.schedule_places.specs.Coded.{placedOf}
 use Rattle.schedule.specs.Inner.{toldBy}
 use Rattle.schedule_places.proofs.Known.{read-placed, given-good, told-at}
 use Rattle.schedule.proofs.Repeats.{falseRepeat-agree}
-use Rattle.board_held.specs.Paper.{tellsOf, entryFor, enteredUnder}
-use Rattle.board_held.specs.Inner.{answers}
-use Rattle.board_held.specs.Coded.{lentSchedule}
+use Rattle.board_held.specs as defs
+use defs.Paper.{tellsOf, entryFor, enteredUnder}
+use defs.Inner.{answers}
+use defs.Coded.{lentSchedule}
 use Rattle.board_held.proofs.Cases.{entered-told}
 
 -- what is known of a message that is read

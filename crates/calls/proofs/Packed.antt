@@ -1,8 +1,9 @@
 -- Laws of two numbers in one.
 use Rattle.laws.proofs.Base.{_≡_, sym, ap, _∙_, Bool, true, false, List, ℕ, _*_, _≤_, _<_, zero-add, add-zero, arith, refl}
 use mir.Val.{boolByte}
-use Rattle.calls.specs.Paper.{inOne, leftWith, bitOf}
-use Rattle.calls.specs.Claims.{IsLeft, TakenApart}
+use Rattle.calls.specs as defs
+use defs.Paper.{inOne, leftWith, bitOf}
+use defs.Claims.{IsLeft, TakenApart}
 
 -- they come apart again
 pub apart : (n other : ℕ) → n < 256 → TakenApart (inOne n other) n other

@@ -6,8 +6,9 @@ use Rattle.checker.specs.Inner.{checkBeside}
 use Rattle.lines.specs.Paper.{flat}
 use Rattle.logs.proofs.Complete.{Complete, handed-output}
 use Rattle.logs.proofs.Listed.{Taken}
-use Rattle.cbcheck.specs.Paper.{line, lineOf}
-use Rattle.cbcheck.specs.Inner.{lineFor}
+use Rattle.cbcheck.specs as defs
+use defs.Paper.{line, lineOf}
+use defs.Inner.{lineFor}
 use Rattle.cbcheck.proofs.Wide.{line-wide}
 
 -- the line for what the call returned is that of its answer

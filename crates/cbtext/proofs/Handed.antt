@@ -3,8 +3,9 @@ use Rattle.laws.proofs.Base.{_≡_, refl, sym, ap, _∙_, Bool, true, false, co
 use Rattle.block.specs.Paper.{Given}
 use Rattle.logs.proofs.Complete.{Complete, handed-output}
 use Rattle.logs.proofs.Listed.{Taken}
-use Rattle.cbtext.specs.Paper.{lineOf, pageLine}
-use Rattle.cbtext.specs.Inner.{Handed, lineFor}
+use Rattle.cbtext.specs as defs
+use defs.Paper.{lineOf, pageLine}
+use defs.Inner.{Handed, lineFor}
 
 module _ {g : Given} {returned : ℕ} {s p p′ : List ℕ} (t : Taken g returned s p p′) (whole : g .number ≡ 0 → Complete g) where
   -- a page complete is what the call leaves in the output

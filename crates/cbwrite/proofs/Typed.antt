@@ -1,7 +1,8 @@
 -- The cases of a Begin that is read octet by octet.
 use Rattle.laws.proofs.Base.{_≡_, refl, List, [], _∷_, ℕ, _+_, _*_, _-_, _≤_, _<_, min, add-one, arith, length, getD, drop, drop-cons, drop-of-length-le, lt-ltb, le-ltb}
-use Rattle.cbwrite.specs.Inner.{typed, typedOn}
-use Rattle.cbwrite.specs.declared.Begin.the-variants.{Number, NoNumber}
+use Rattle.cbwrite.specs as defs
+use defs.Inner.{typed, typedOn}
+use defs.declared.Begin.the-variants.{Number, NoNumber}
 
 pub typed-none : (ds : List ℕ) → length ds ≡ 0 → NoNumber ≡ typed ds
 unfolding typed

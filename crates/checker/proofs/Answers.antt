@@ -6,8 +6,9 @@ use Rattle.plan_slots.specs.Paper.{Planned}
 use Rattle.checker_plans.specs.Inner.{Plans}
 use Rattle.plan.specs.Paper.{Plan, planNumber}
 use Rattle.plan_slots.specs.Inner.{allPlanned}
-use Rattle.checker.specs.Paper.{unchecked, untrueAt}
-use Rattle.checker.specs.Inner.{untrueTo, compared, checkBeside}
+use Rattle.checker.specs as defs
+use defs.Paper.{unchecked, untrueAt}
+use defs.Inner.{untrueTo, compared, checkBeside}
 
 module _ (b : Plans) (m : List ℕ) (received : ℕ) where
   pub plans-refused : (n : ℕ) → (n ≡ 0 → ⊥) → n ≡ b .number → unchecked n ≡ checkBeside b m received

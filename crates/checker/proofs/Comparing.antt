@@ -18,9 +18,10 @@ use Rattle.plan_slots.specs.Paper.{Planned}
 use Rattle.plan_slots.specs.Coded.{plannedOf}
 use Rattle.plan_slots.specs.Inner.{nothing}
 use Rattle.checker_slots.specs.Paper.{trueBy}
-use Rattle.checker.specs.Paper.{Checked, unchecked, untrueAt}
-use Rattle.checker.specs.Inner.{untrueTo, compared}
-use Rattle.checker.specs.Coded.{untrueBy}
+use Rattle.checker.specs as defs
+use defs.Paper.{Checked, unchecked, untrueAt}
+use defs.Inner.{untrueTo, compared}
+use defs.Coded.{untrueBy}
 
 module _ (n : ℕ) (xs : List PlannedCode) (m : List ℕ) (received : ℕ) (t : Placed) (q : placedOf t ≡ placed m received) where
   abbrev answer : Checked

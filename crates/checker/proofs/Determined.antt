@@ -10,11 +10,12 @@ use Rattle.checker_plans.specs.declared.Plans.{Plans}
 use Rattle.checker_plans.specs.Coded.{plansOf}
 use Rattle.plan.proofs.Determined.{verdict-injective}
 use Rattle.plan_slots.proofs.Determined.{said-injective}
-use Rattle.checker.specs.declared.Checking.{Checking}
-use Rattle.checker.specs.declared.Checking.the-variants.{True, Refused}
-use Rattle.checker.specs.Paper.{Checked, check}
-use Rattle.checker.specs.Coded.{checkedOf}
-use Rattle.checker.specs.Inner.{checkBeside}
+use Rattle.checker.specs as defs
+use defs.declared.Checking.{Checking}
+use defs.declared.Checking.the-variants.{True, Refused}
+use defs.Paper.{Checked, check}
+use defs.Coded.{checkedOf}
+use defs.Inner.{checkBeside}
 
 -- the code's answer by the paper's
 abbrev checkingFrom : Checked → Checking

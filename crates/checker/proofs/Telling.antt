@@ -10,8 +10,9 @@ use Rattle.plan_slots.specs.Paper.{Planned, plannedAt}
 use Rattle.plan.proofs.GoodPlan.{good-counted}
 use Rattle.checker_slots.specs.Paper.{trueBy}
 use Rattle.checker_plans.specs.Inner.{beside}
-use Rattle.checker.specs.Paper.{isTrue, untrue, verdict, check}
-use Rattle.checker.specs.Inner.{untrueTo, verdictTo, compared, checkBeside}
+use Rattle.checker.specs as defs
+use defs.Paper.{isTrue, untrue, verdict, check}
+use defs.Inner.{untrueTo, verdictTo, compared, checkBeside}
 
 module _ (c p : Plan) (i : ℕ) where
   -- of a slot planned with no page, no description and no new bit is judged by a page

@@ -6,9 +6,10 @@ use Rattle.plan.specs.declared.Plan.{Plan}
 use Rattle.plan.specs.Coded.{planOf}
 use Rattle.plan.proofs.Determined.{verdict-injective}
 use Rattle.plan_slots.proofs.Determined.{said-injective}
-use Rattle.checker_plans.specs.declared.Plans.{Plans}
-use Rattle.checker_plans.specs.Inner.{Plans as Said, beside}
-use Rattle.checker_plans.specs.Coded.{plansOf}
+use Rattle.checker_plans.specs as defs
+use defs.declared.Plans.{Plans}
+use defs.Inner.{Plans as Said, beside}
+use defs.Coded.{plansOf}
 
 plans-injective : (r s : Plans) → plansOf r ≡ plansOf s → r ≡ s
 plans-injective r s e =

@@ -16,8 +16,9 @@ use Rattle.checker.specs.Paper.{isTrue, untrue, unchecked, verdict, check}
 use Rattle.checker.specs.Paper as checker
 use Rattle.block_writer.specs.Paper.{lastUsed}
 use Rattle.delivery.specs.Claims.{Fits, Reads, OursAccepted}
-use Rattle.delivery.proofs.ReadsBack.{reads-back}
-use Rattle.delivery.proofs.Planned.{planned-tellable, planned-true, planned-repeats}
+use Rattle.delivery.proofs as own
+use own.ReadsBack.{reads-back}
+use own.Planned.{planned-tellable, planned-true, planned-repeats}
 
 -- what the writer takes fits a message
 pub fits : (c p : Plan) (b : ℕ) (o : List ℕ) → Accepts c p b o → Fits b (planned c p) (c .count)

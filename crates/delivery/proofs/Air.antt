@@ -15,8 +15,9 @@ use Rattle.sender.proofs.Cases.{accepts}
 use Rattle.sender.proofs.Message.{used-length}
 use Rattle.checker.specs.Paper.{check}
 use Rattle.delivery.specs.Claims.{blockOf, takenAt, StartedProper, Carried, textHanded, Heard, OverTheAir, HeaderOverTheAir, OursDelivered}
-use Rattle.delivery.proofs.ReadsBack.{reads-back}
-use Rattle.delivery.proofs.Accepted.{fits, used-bounds, ours-accepted}
+use Rattle.delivery.proofs as own
+use own.ReadsBack.{reads-back}
+use own.Accepted.{fits, used-bounds, ours-accepted}
 
 pub started-proper : StartedProper
 started-proper ps = standing-proper (standing ps)

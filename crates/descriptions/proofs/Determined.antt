@@ -6,14 +6,15 @@ use Rattle.refusals.proofs.Inverse.{refusalOf, refusalOf-numberOf, numberOf-pos
 use Rattle.schedule_given.specs.declared.Given.{Given as GivenCode}
 use Rattle.schedule.proofs.Determined.{slotFrom, slotFrom-shownOf}
 use Rattle.schedule_given.proofs.Determined.{determined-description-at}
-use Rattle.descriptions.specs.declared.Numbered.{Numbered as NumberedCode}
-use Rattle.descriptions.specs.declared.Counted.{Counted}
-use Rattle.descriptions.specs.declared.Counted.the-variants.{Count, Refused}
-use Rattle.descriptions.specs.declared.Ordered.{Ordered as OrderedCode}
-use Rattle.descriptions.specs.declared.Descriptions.{Descriptions}
-use Rattle.descriptions.specs.declared.Stepped.{Stepped as SteppedCode}
-use Rattle.descriptions.specs.Paper.{Stepped, stepped, Numbered, Ordered, ordered}
-use Rattle.descriptions.specs.Coded.{steppedOf, Called, calledOf, called, numberedOf, countOf, orderedOf}
+use Rattle.descriptions.specs as defs
+use defs.declared.Numbered.{Numbered as NumberedCode}
+use defs.declared.Counted.{Counted}
+use defs.declared.Counted.the-variants.{Count, Refused}
+use defs.declared.Ordered.{Ordered as OrderedCode}
+use defs.declared.Descriptions.{Descriptions}
+use defs.declared.Stepped.{Stepped as SteppedCode}
+use defs.Paper.{Stepped, stepped, Numbered, Ordered, ordered}
+use defs.Coded.{steppedOf, Called, calledOf, called, numberedOf, countOf, orderedOf}
 
 -- the code's count and numbered slot by the paper's
 abbrev countedFrom : ℕ → ℕ → Counted

@@ -8,9 +8,10 @@ use Rattle.schedule.specs.declared.Slot.{Slot}
 use Rattle.schedule.specs.Paper.{end, Given, next, noMore, refusal, givenAt, given}
 use Rattle.schedule.specs.Coded.{shownOf}
 use Rattle.schedule.specs.Inner.{zeroed}
-use Rattle.descriptions.specs.declared.Numbered.{Numbered as NumberedCode}
-use Rattle.descriptions.specs.Paper.{Numbered, nothing, entry, Ordered, ordered}
-use Rattle.descriptions.specs.Coded.{numberedOf}
+use Rattle.descriptions.specs as defs
+use defs.declared.Numbered.{Numbered as NumberedCode}
+use defs.Paper.{Numbered, nothing, entry, Ordered, ordered}
+use defs.Coded.{numberedOf}
 use Rattle.descriptions.proofs.Stepping.{Told, refused, whole, told}
 
 -- what is read past the end of an array, which never is

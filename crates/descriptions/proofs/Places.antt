@@ -1,8 +1,9 @@
 -- The places that opening and calls of the reader of descriptions reach.
 use Rattle.laws.proofs.Base.{_≡_, refl, ap, _∙_, Bool, true, false, List, ℕ, zero, suc, _+_, min, arith, ltb, ltb-true, ltb-false}
 use Rattle.schedule.specs.Paper.{end, givenAt, given}
-use Rattle.descriptions.specs.Paper.{passed, reached, Ordered, ordered}
-use Rattle.descriptions.specs.Claims.{ReachedLeast}
+use Rattle.descriptions.specs as defs
+use defs.Paper.{passed, reached, Ordered, ordered}
+use defs.Claims.{ReachedLeast}
 use Rattle.descriptions.proofs.Stepping.{Told, refused, whole, told}
 
 module _ (m : List ℕ) (received : ℕ) where

@@ -5,9 +5,10 @@ use Rattle.schedule.specs.Paper.{end, Given, refusal, givenAt, given}
 use Rattle.schedule_given.specs.Coded.{givenOf}
 use Rattle.schedule.proofs.Answers.{Answered, answered}
 use Rattle.schedule.proofs.Answers as answers
-use Rattle.descriptions.specs.declared.Stepped.{Stepped as SteppedCode}
-use Rattle.descriptions.specs.Paper.{Stepped, passed, stepped, Ordered, unordered, inOrder, ordered}
-use Rattle.descriptions.specs.Coded.{steppedOf}
+use Rattle.descriptions.specs as defs
+use defs.declared.Stepped.{Stepped as SteppedCode}
+use defs.Paper.{Stepped, passed, stepped, Ordered, unordered, inOrder, ordered}
+use defs.Coded.{steppedOf}
 
 module _ (m : List ℕ) (received : ℕ) where
   -- every answer is that of one refusal, or the message is read

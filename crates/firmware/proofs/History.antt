@@ -5,8 +5,9 @@ use Rattle.block.specs.Paper.{Kind, Given, start, step}
 use Rattle.block_history.specs.Claims.{completes, refusedBy, after, answered}
 use Rattle.block_history.proofs.History.{standing, standing-proper, after-append, number-small, not-completes, complete-exactly, complete-gives, taken-gives, goes-on-decided, refused-gives}
 use Rattle.block.proofs.Steps.{proper-facts}
-use Rattle.firmware.specs.Paper.{IntakeLeft, Started, lent, heldIn, moved, startCall, intakeCall}
-use Rattle.firmware.specs.Claims.{Call, on, off, afterCalls, counted, called, LentHistory, NeverFinishesLeftovers}
+use Rattle.firmware.specs as defs
+use defs.Paper.{IntakeLeft, Started, lent, heldIn, moved, startCall, intakeCall}
+use defs.Claims.{Call, on, off, afterCalls, counted, called, LentHistory, NeverFinishesLeftovers}
 use Rattle.firmware.proofs.Lent.{refused-over}
 
 -- memory that holds what pieces leave is 90 octets long

@@ -1,8 +1,9 @@
 -- Laws of the lowest number below a bound that passes a test.
-use Rattle.laws.proofs.Base.{_≡_, refl, sym, _∙_, Bool, true, false, cond, false≢true, ⊎-elim, ℕ, zero, suc, _<_, not-suc-le-zero, arith}
+use Rattle.laws.proofs as own
+use own.Base.{_≡_, refl, sym, _∙_, Bool, true, false, cond, false≢true, ⊎-elim, ℕ, zero, suc, _<_, not-suc-le-zero, arith}
 use Rattle.laws.specs.Upto.{some, lowest}
-use Rattle.laws.proofs.Tests.{true-or-false}
-use Rattle.laws.proofs.Upto.{below-suc, some-at, some-none, some-agree}
+use own.Tests.{true-or-false}
+use own.Upto.{below-suc, some-at, some-none, some-agree}
 
 module _ (p : ℕ → Bool) where
   -- what the lowest number is: 0 where none passes, or one more than the first that does

@@ -1,8 +1,9 @@
 -- What a list of tests settles, whatever the answers that hang on it.
-use Rattle.laws.proofs.Base.{_≡_, refl, sym, Bool, true, false, List, [], _∷_, _++_, _⊎_, inl, inr, ⊎-elim, ℕ}
+use Rattle.laws.proofs as own
+use own.Base.{_≡_, refl, sym, Bool, true, false, List, [], _∷_, _++_, _⊎_, inl, inr, ⊎-elim, ℕ}
 use Rattle.laws.specs.Ruled.{ruled}
-use Rattle.laws.proofs.Ruled.{Among, NoneHolds}
-use Rattle.laws.proofs.Tests.{true-or-false}
+use own.Ruled.{Among, NoneHolds}
+use own.Tests.{true-or-false}
 
 -- either every answer is that of one test's number, or no test holds and every answer is the one past the tests
 pub data Outcome (ts : List (Bool × ℕ)) : Type 1 where

@@ -189,7 +189,3 @@ digits-kept b c n k r v pos e =
 pub power-bits : (q k : ℕ) → (2 ^ q) ^ k ≡ 2 ^ (q * k)
 power-bits q zero = simp (mul-zero, pow-zero)
 power-bits q (suc k) = simp (mul-suc, pow-add, pow-suc, power-bits q k)
-
--- two numbers in one, the first below 256, taken apart
-pub packed-apart : (n c : ℕ) → n < 256 → ((n + 256 * c) % 256 ≡ n) × ((n + 256 * c) / 256 ≡ c)
-packed-apart n c l = (omega arith, omega arith)

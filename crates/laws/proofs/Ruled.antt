@@ -1,7 +1,8 @@
 -- Laws of `ruled`: what is done to its answer, and which of its tests answered.
-use Rattle.laws.proofs.Base.{_≡_, refl, sym, _∙_, Bool, true, false, cond, not, _&&_, List, [], _∷_, _⊎_, inl, inr, ℕ, _≤_, eqb, leb, leb-true, eqb-false, not-true}
+use Rattle.laws.proofs as own
+use own.Base.{_≡_, refl, sym, _∙_, Bool, true, false, cond, not, _&&_, List, [], _∷_, _⊎_, inl, inr, ℕ, _≤_, eqb, leb, leb-true, eqb-false, not-true}
 use Rattle.laws.specs.Ruled.{ruled, unless0}
-use Rattle.laws.proofs.Tests.{true-or-false, both}
+use own.Tests.{true-or-false, both}
 
 module _ {A B : Type 0} (f : A → B) where
   cond-map : (t : Bool) (a b : A) → f (cond t a b) ≡ cond t (f a) (f b)
@@ -54,10 +55,6 @@ module _ (f : ℕ → Bool) where
       go : {r : A} → Ruling by ts x r → f (number r) ≡ true
       go (refuses n a q) = rw (q, back n) (among-passes ts e n a)
       go (passes h q) = rw q past
-
--- no number of the tests is over k
-pub among-low : (k : ℕ) (ts : List (Bool × ℕ)) → numbers (λ (n : ℕ). leb n k) ts ≡ true → (n : ℕ) → Among n ts → n ≤ k
-among-low k ts e n a = leb-true n k (among-passes (λ (j : ℕ). leb j k) ts e n a)
 
 -- k is not among the tests' numbers
 pub not-among : (k : ℕ) (ts : List (Bool × ℕ)) → numbers (λ (n : ℕ). not (eqb n k)) ts ≡ true → (n : ℕ) → Among n ts → n ≡ k → ⊥

@@ -3,8 +3,9 @@ use Rattle.laws.proofs.Base.{_≡_, refl, sym, ap, _∙_, Bool, true, false, Li
 use lib.Seq.{set-split}
 use borrow.Rule.Slice.PartMut.{midOf, putMid}
 use Rattle.laws.proofs.Parts.{put-copy}
-use Rattle.lines.specs.Paper.{PutLeft, behind}
-use Rattle.lines.specs.Inner.{Puts}
+use Rattle.lines.specs as defs
+use defs.Paper.{PutLeft, behind}
+use defs.Inner.{Puts}
 
 -- whether a number of octets fits, by what is left of the memory
 pub fits-left : (count at size : ℕ) → at ≤ size → leb count (size - at) ≡ leb (at + count) size

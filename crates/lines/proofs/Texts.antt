@@ -1,9 +1,11 @@
 -- Laws of texts put one behind the other.
 use Rattle.laws.proofs.Base.{_≡_, refl, ap, _∙_, List, [], _∷_, _++_, append-assoc, ℕ, _+_, _≤_, le-refl, arith, length, length-append}
-use Rattle.lines.specs.Paper.{PutLeft, decimal, marked, behind, allBehind, flat}
-use Rattle.lines.specs.Inner.{Puts}
-use Rattle.lines.proofs.Behind.{ends-inside, length-behind, puts-behind, puts-none, puts-wider, puts-then}
-use Rattle.lines.proofs.Numbers.{length-spelled}
+use Rattle.lines.specs as defs
+use defs.Paper.{PutLeft, decimal, marked, behind, allBehind, flat}
+use defs.Inner.{Puts}
+use Rattle.lines.proofs as own
+use own.Behind.{ends-inside, length-behind, puts-behind, puts-none, puts-wider, puts-then}
+use own.Numbers.{length-spelled}
 
 -- one text, and others behind it
 pub and-then : (s : List ℕ) (ss : List (List ℕ)) (n : ℕ) (t : List ℕ) {one left : PutLeft} → one ≡ behind s n t → left ≡ allBehind ss (one .end) (one .text)
@@ -56,8 +58,3 @@ pub flat-append : (rs ss : List (List ℕ)) → flat (rs ++ ss) ≡ flat rs ++ f
 unfolding flat
 flat-append [] ss = refl
 flat-append (r ∷ rs) ss = rw (flat-append rs ss, append-assoc)
-
--- a number and the octet behind it are at most 21 octets
-pub length-marked : (n mark : ℕ) → length (flat (marked n mark)) ≤ 21
-unfolding flat
-length-marked n mark = rw (length-append (decimal n)) (omega (arith, length-spelled 19 n))

@@ -2,8 +2,9 @@
 use Rattle.laws.proofs.Base.{_≡_, sym, _∙_, List, [], _∷_, _++_, append-assoc, ℕ, suc, _+_, _/_, add-zero, arith, length}
 use Rattle.block.specs.Paper.{Held, Given, step}
 use Rattle.block_history.specs.Claims.{after}
-use Rattle.logs.specs.Paper.{listing, cut}
-use Rattle.logs.specs.Claims.{InChunks}
+use Rattle.logs.specs as defs
+use defs.Paper.{listing, cut}
+use defs.Claims.{InChunks}
 use Rattle.logs.proofs.Pieces.{length-pieces, cut-append}
 
 module _ (f : ℕ → Given → List ℕ) where

@@ -1,9 +1,10 @@
 -- What is known of a chunk that was read, by what reading gave.
 use Rattle.laws.proofs.Base.{_≡_, refl, sym, subst, _∙_, Bool, true, false, cond, List, ℕ, _-_, _%_, _≤_, arith, length, take, eqb, eqb-true}
-use Rattle.logs.specs.Inner.{movedOn, endingOf, chunkOf, Reads}
-use Rattle.logs.specs.declared.Chunk.{Chunk}
-use Rattle.logs.specs.declared.Ending.{Ending}
-use Rattle.logs.specs.declared.Ending.the-variants as endings
+use Rattle.logs.specs as defs
+use defs.Inner.{movedOn, endingOf, chunkOf, Reads}
+use defs.declared.Chunk.{Chunk}
+use defs.declared.Ending.{Ending}
+use defs.declared.Ending.the-variants as endings
 use Rattle.files.specs.Inner.{filled}
 use Rattle.files.specs.declared.Filled.{Filled}
 use Rattle.files.specs.declared.Filled.the-variants.{Octets, Fault}

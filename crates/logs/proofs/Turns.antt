@@ -4,12 +4,14 @@ use Rattle.block.specs.Paper.{Given, start}
 use Rattle.block_history.specs.Claims.{after}
 use Rattle.block_history.proofs.History.{after-append}
 use Rattle.firmware.specs.Paper.{lent, heldIn}
-use Rattle.logs.specs.Inner.{movedOn, Reads, Continues}
-use Rattle.logs.specs.Paper.{cut, listing, pieces}
-use Rattle.logs.specs.declared.Chunk.{Chunk}
-use Rattle.logs.specs.declared.Ending.the-variants as endings
-use Rattle.logs.proofs.Chunks.{listing-append}
-use Rattle.logs.proofs.Pieces.{cut-append, length-cut}
+use Rattle.logs.specs as defs
+use defs.Inner.{movedOn, Reads, Continues}
+use defs.Paper.{cut, listing, pieces}
+use defs.declared.Chunk.{Chunk}
+use defs.declared.Ending.the-variants as endings
+use Rattle.logs.proofs as own
+use own.Chunks.{listing-append}
+use own.Pieces.{cut-append, length-cut}
 
 -- whole chunks and what follows them are cut apart
 cut-behind : (xs ys : List ℕ) → length xs % 23552 ≡ 0 → cut (xs ++ ys) ≡ cut xs ++ cut ys

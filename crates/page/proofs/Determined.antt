@@ -3,12 +3,13 @@ use Rattle.laws.proofs.Base.{_≡_, sym, ap, List, ℕ, _+_, _*_}
 use Rattle.laws.specs.Determined.{Determined}
 use Rattle.laws.proofs.Determined.{determined, determined-by}
 use Rattle.refusals.proofs.Inverse.{numberOf-injective, numberOf-positive}
-use Rattle.page.specs.Paper.{Part, header, headerOctets, handedPart, handedNumber}
-use Rattle.page.specs.Coded.{keyOf, headingOf, nameOf, numberOfHanding}
-use Rattle.page.specs.declared.Header.{Header}
-use Rattle.page.specs.declared.PageName.{PageName}
-use Rattle.page.specs.declared.Handing.{Handing}
-use Rattle.page.specs.declared.Handing.the-variants.{Handed, Refused}
+use Rattle.page.specs as defs
+use defs.Paper.{Part, header, headerOctets, handedPart, handedNumber}
+use defs.Coded.{keyOf, headingOf, nameOf, numberOfHanding}
+use defs.declared.Header.{Header}
+use defs.declared.PageName.{PageName}
+use defs.declared.Handing.{Handing}
+use defs.declared.Handing.the-variants.{Handed, Refused}
 
 pub determined-joined : (high low : ℕ) → Determined (λ (r : ℕ). r ≡ high * 256 + low)
 determined-joined high low = determined

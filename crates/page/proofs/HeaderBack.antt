@@ -1,7 +1,8 @@
 -- The header's octets and what they say determine each other.
 use Rattle.laws.proofs.Base.{_≡_, refl, _+_, _*_, _/_, _%_, div-add-mod', arith, length}
-use Rattle.page.specs.Paper.{Heading, header, headerOctets}
-use Rattle.page.specs.Claims.{HeaderBack, OctetsBack}
+use Rattle.page.specs as defs
+use defs.Paper.{Heading, header, headerOctets}
+use defs.Claims.{HeaderBack, OctetsBack}
 
 pub header-back : HeaderBack
 unfolding header headerOctets

@@ -3,12 +3,13 @@ use Rattle.laws.proofs.Base.{_≡_, refl, sym, ap, _∙_, cond, ℕ, eqb, ne-eq
 use Rattle.laws.proofs.Map.{map-injective}
 use Rattle.refusals.specs.Number.{numberOf}
 use Rattle.refusals.proofs.Inverse.{refusalOf, refusalOf-numberOf, numberOf-positive}
-use Rattle.plan.specs.declared.Entry.{Entry as EntryCode}
-use Rattle.plan.specs.declared.Plan.{Plan as PlanCode}
-use Rattle.plan.specs.declared.Verdict.{Verdict}
-use Rattle.plan.specs.declared.Verdict.the-variants.{Good, Refused}
-use Rattle.plan.specs.Paper.{Entry, Plan, empty, planNumber}
-use Rattle.plan.specs.Coded.{entryOf, planOf, verdictOf}
+use Rattle.plan.specs as defs
+use defs.declared.Entry.{Entry as EntryCode}
+use defs.declared.Plan.{Plan as PlanCode}
+use defs.declared.Verdict.{Verdict}
+use defs.declared.Verdict.the-variants.{Good, Refused}
+use defs.Paper.{Entry, Plan, empty, planNumber}
+use defs.Coded.{entryOf, planOf, verdictOf}
 
 -- the code's entry, plan and verdict by the paper's
 abbrev entryFrom : Entry → EntryCode

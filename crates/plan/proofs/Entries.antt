@@ -1,8 +1,9 @@
 -- Entries of an array as their numbers.
 use Rattle.laws.proofs.Base.{_≡_, List, ℕ, _<_, length, getD, length-map, List·getD-map}
-use Rattle.plan.specs.Paper.{free}
-use Rattle.plan.specs.Coded.{entryOf, entriesOf}
-use Rattle.plan.specs.declared.Entry.{Entry as EntryCode}
+use Rattle.plan.specs as defs
+use defs.Paper.{free}
+use defs.Coded.{entryOf, entriesOf}
+use defs.declared.Entry.{Entry as EntryCode}
 
 -- the entry that stands for one past the end of an array
 abbrev pub none : EntryCode

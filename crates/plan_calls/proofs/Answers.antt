@@ -23,10 +23,11 @@ use Rattle.checker.specs.Paper.{Checked, unchecked, untrueAt, untrue, verdict, 
 use Rattle.checker.specs.Coded.{checkedOf}
 use Rattle.calls.specs.Claims.{IsLeft}
 use Rattle.calls.proofs.Packed.{left-number}
-use Rattle.plan_calls.specs.declared.Files.{Files}
-use Rattle.plan_calls.specs.Paper.{fileFaults, writtenFrom, writtenLeft, writeScheduleCall, checkedBeside, packedChecked, checkScheduleCall}
-use Rattle.plan_calls.specs.Coded.{filesOf}
-use Rattle.plan_calls.specs.Inner.{filed}
+use Rattle.plan_calls.specs as defs
+use defs.declared.Files.{Files}
+use defs.Paper.{fileFaults, writtenFrom, writtenLeft, writeScheduleCall, checkedBeside, packedChecked, checkScheduleCall}
+use defs.Coded.{filesOf}
+use defs.Inner.{filed}
 use Rattle.plan_calls.proofs.Filed.{files-refused, files-good}
 
 module _ (c p : List ℕ) (b : ℕ) (o : List ℕ) where

@@ -11,10 +11,11 @@ use Rattle.plan.specs.declared.Verdict.the-variants.{Good, Refused}
 use Rattle.plan_read.specs.Paper.{Read, readPlan}
 use Rattle.plan.specs.Coded.{verdictOf, planOf}
 use Rattle.plan_read.specs.Coded.{readingOf}
-use Rattle.plan_calls.specs.declared.Files.{Files}
-use Rattle.plan_calls.specs.Paper.{fileFaults}
-use Rattle.plan_calls.specs.Coded.{filesOf}
-use Rattle.plan_calls.specs.Inner.{Filed, filed}
+use Rattle.plan_calls.specs as defs
+use defs.declared.Files.{Files}
+use defs.Paper.{fileFaults}
+use defs.Coded.{filesOf}
+use defs.Inner.{Filed, filed}
 
 -- a number that answers unless it is 0
 unless-self : (n : ℕ) → n ≡ cond (not (eqb n 0)) n 0

@@ -7,8 +7,9 @@ use Rattle.laws.proofs.Tests.{neither}
 use Rattle.page.specs.Paper.{octet}
 use Rattle.plan.specs.Paper.{Entry, Plan, free, filledPlan, bad, planNumber}
 use Rattle.plan.proofs.Answers.{ruled-refuses}
-use Rattle.plan_read.specs.Paper.{sixteen, marked, listed, Read, refusal, faults, readPlan}
-use Rattle.plan_read.specs.Inner.{frontNumber}
+use Rattle.plan_read.specs as defs
+use defs.Paper.{sixteen, marked, listed, Read, refusal, faults, readPlan}
+use defs.Inner.{frontNumber}
 use Rattle.plan_read.proofs.Entries.{length-entries}
 
 module _ (f : List ℕ) where

@@ -1,9 +1,10 @@
 -- Answers that meet the contract of `plan_read` are equal.
 use Rattle.laws.proofs.Base.{_≡_, sym, ap, _∙_, List, ℕ}
 use Rattle.plan.proofs.Determined.{plan-injective, verdict-injective}
-use Rattle.plan_read.specs.Paper.{Read, readPlan}
-use Rattle.plan_read.specs.Coded.{readingOf}
-use Rattle.plan_read.specs.declared.Reading.{Reading}
+use Rattle.plan_read.specs as defs
+use defs.Paper.{Read, readPlan}
+use defs.Coded.{readingOf}
+use defs.declared.Reading.{Reading}
 
 pub determined-read-plan : (file : List ℕ) (r s : Reading) → readingOf r ≡ readPlan file → readingOf s ≡ readPlan file → r ≡ s
 determined-read-plan file r s a b =

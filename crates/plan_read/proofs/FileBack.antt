@@ -1,8 +1,9 @@
 -- A file written from good entries reads back as them.
 use Rattle.laws.proofs.Base.{_≡_, refl, _∙_, List, [], _∷_, ℕ, _+_, _*_, _/_, _%_, div-add-mod', arith, length}
 use Rattle.plan.specs.Paper.{Entry}
-use Rattle.plan_read.specs.Paper.{entryIn, entriesIn, entriesOctets, fileOf}
-use Rattle.plan_read.specs.Claims.{FileBack}
+use Rattle.plan_read.specs as defs
+use defs.Paper.{entryIn, entriesIn, entriesOctets, fileOf}
+use defs.Claims.{FileBack}
 use Rattle.plan_read.proofs.Answers.{front-good, front-passes, filled-number}
 
 length-octets : (es : List Entry) → length (entriesOctets es) ≡ 6 * length es

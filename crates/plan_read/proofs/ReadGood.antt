@@ -2,9 +2,10 @@
 use Rattle.laws.proofs.Base.{_≡_, refl, Bool, true, false, eqb, eqb-true, eqb-false}
 use Rattle.laws.specs.Search.{some}
 use Rattle.plan.specs.Paper.{filledPlan, empty, planNumber}
-use Rattle.plan_read.specs.Paper.{listed, readPlan}
-use Rattle.plan_read.specs.Claims.{ReadIsGood}
-use Rattle.plan_read.specs.Inner.{frontNumber}
+use Rattle.plan_read.specs as defs
+use defs.Paper.{listed, readPlan}
+use defs.Claims.{ReadIsGood}
+use defs.Inner.{frontNumber}
 use Rattle.plan_read.proofs.Answers.{front-refuses, front-passes}
 
 empty-good : planNumber empty ≡ 0

@@ -3,10 +3,11 @@ use Rattle.laws.proofs.Base.{_≡_, refl, sym, _∙_, List, map}
 use Rattle.laws.proofs.Map.{map-injective}
 use Rattle.plan.specs.declared.Plan.{Plan as PlanCode}
 use Rattle.plan.specs.Coded.{planOf}
-use Rattle.plan_slots.specs.declared.Planned.{Planned as PlannedCode}
-use Rattle.plan_slots.specs.Paper.{Planned}
-use Rattle.plan_slots.specs.Coded.{plannedOf}
-use Rattle.plan_slots.specs.Inner.{allPlanned}
+use Rattle.plan_slots.specs as defs
+use defs.declared.Planned.{Planned as PlannedCode}
+use defs.Paper.{Planned}
+use defs.Coded.{plannedOf}
+use defs.Inner.{allPlanned}
 
 abbrev plannedFrom : Planned → PlannedCode
 plannedFrom v = record { kind = v .kind; low = v .low; lowest = v .lowest; fresh = v .fresh }

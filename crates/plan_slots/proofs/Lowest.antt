@@ -3,8 +3,9 @@ use Rattle.laws.proofs.Base.{_≡_, refl, sym, _∙_, true, false≢true, ℕ, 
 use Rattle.laws.proofs.Search.{Found, none-passes, first-passes}
 use Rattle.plan.specs.Paper.{Plan, free, entriesWithin, entryAt}
 use Rattle.plan.proofs.GoodPlan.{inside}
-use Rattle.plan_slots.specs.Paper.{holds, pageAt, lowestAt}
-use Rattle.plan_slots.specs.Claims.{Leading, LowestLeads}
+use Rattle.plan_slots.specs as defs
+use defs.Paper.{holds, pageAt, lowestAt}
+use defs.Claims.{Leading, LowestLeads}
 use Rattle.plan_slots.proofs.Slots.{holds-kind, holds-own, holds-identifier, lowest-same, Has, lowest-slot, lowest-reached}
 
 module _ (p : Plan) where

@@ -7,9 +7,10 @@ use Rattle.page.specs.Coded.{keyOf}
 use Rattle.page.proofs.Sameness.{Small, key-same}
 use Rattle.plan.specs.declared.Entry.{Entry as EntryCode}
 use Rattle.plan.specs.Paper.{Entry, free}
-use Rattle.plan_slots.specs.Paper.{pageOf, holds}
+use Rattle.plan_slots.specs as defs
+use defs.Paper.{pageOf, holds}
 use Rattle.plan.specs.Coded.{entryOf, entriesOf}
-use Rattle.plan_slots.specs.Inner.{Marked, Marks}
+use defs.Inner.{Marked, Marks}
 use Rattle.plan.proofs.Entries.{none, entry-at}
 
 pub marks-none : (es : List EntryCode) → length es ≡ 48 → Marks (replicate 48 0) (entriesOf es) 0

@@ -4,11 +4,12 @@ use borrow.Author.Count.{below-none, below-more}
 use Rattle.laws.specs.Search.{some, firstFrom}
 use Rattle.laws.specs.Upto.{each}
 use Rattle.laws.proofs.Upto.{each-length, each-at}
-use Rattle.plan_slots.specs.declared.Planned.{Planned as PlannedCode}
+use Rattle.plan_slots.specs as defs
+use defs.declared.Planned.{Planned as PlannedCode}
 use Rattle.plan.specs.Paper.{Plan, entryAt}
-use Rattle.plan_slots.specs.Inner.{nonePlanned, saidAt, allPlanned, nothing, saidBy, Marks, searched, Says}
-use Rattle.plan_slots.specs.Paper.{Planned, pageAt, plannedAt, lowestSlot, hasPage}
-use Rattle.plan_slots.specs.Coded.{plannedOf}
+use defs.Inner.{nonePlanned, saidAt, allPlanned, nothing, saidBy, Marks, searched, Says}
+use defs.Paper.{Planned, pageAt, plannedAt, lowestSlot, hasPage}
+use defs.Coded.{plannedOf}
 use Rattle.plan_slots.proofs.Marks.{lowest-marked, some-marked}
 use Rattle.plan_slots.proofs.Slots.{lowest-counted}
 

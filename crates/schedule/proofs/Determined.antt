@@ -2,14 +2,15 @@
 use Rattle.laws.proofs.Base.{_≡_, refl, sym, ap, _∙_, Bool, cond, List, ℕ, eqb, ne-eqb}
 use Rattle.refusals.specs.Number.{numberOf}
 use Rattle.refusals.proofs.Inverse.{refusalOf, refusalOf-numberOf, numberOf-positive}
-use Rattle.schedule.specs.declared.Description.{Description}
-use Rattle.schedule.specs.declared.Description.the-variants.{First, Repeat, Optional, Advised}
-use Rattle.schedule.specs.declared.Slot.{Slot}
-use Rattle.schedule.specs.declared.Reading.{Reading}
-use Rattle.schedule.specs.Paper.{octetAt, new, Told, first, again, optional, advised, told, Shown, Read}
-use Rattle.schedule.specs.Coded.{toldOf, shownOf, readOf}
-use Rattle.schedule.specs.Inner.{headRead}
-use Rattle.schedule.specs.declared.Reading.the-variants as readings
+use Rattle.schedule.specs as defs
+use defs.declared.Description.{Description}
+use defs.declared.Description.the-variants.{First, Repeat, Optional, Advised}
+use defs.declared.Slot.{Slot}
+use defs.declared.Reading.{Reading}
+use defs.Paper.{octetAt, new, Told, first, again, optional, advised, told, Shown, Read}
+use defs.Coded.{toldOf, shownOf, readOf}
+use defs.Inner.{headRead}
+use defs.declared.Reading.the-variants as readings
 
 -- the code's description, slot and answers by the paper's
 abbrev toldFrom : Told → Description

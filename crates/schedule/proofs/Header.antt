@@ -3,8 +3,9 @@ use Rattle.laws.proofs.Base.{_≡_, ap, true, false, _&&_, List, ℕ, _≤_, _<
 use Rattle.sizes.specs.Paper.{wholeBlocks}
 use Rattle.laws.specs.Upto.{some}
 use Rattle.laws.proofs.Tests.{both}
-use Rattle.schedule.specs.Paper.{octetAt, type, begin, end, bounded, inBounds, newPast, Read, unread}
-use Rattle.schedule.specs.Inner.{headRead}
+use Rattle.schedule.specs as defs
+use defs.Paper.{octetAt, type, begin, end, bounded, inBounds, newPast, Read, unread}
+use defs.Inner.{headRead}
 
 -- a Begin and an End that are in bounds, rule by rule
 pub within : (m : List ℕ) → inBounds m ≡ true → (1 ≤ begin m) × (begin m ≤ end m) × (end m ≤ 48)

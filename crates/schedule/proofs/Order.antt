@@ -2,8 +2,9 @@
 use Rattle.laws.proofs.Base.{_≡_, Bool, true, false, List, ℕ, _+_, _<_, zero-add, arith, length, List·getD-append, getD-append-add}
 use Rattle.laws.specs.Upto.{count, picked}
 use Rattle.laws.proofs.Upto.{count-grows, count-rest, picked-length, picked-at}
-use Rattle.schedule.specs.Paper.{end, grouped, base, order, slotOf}
-use Rattle.schedule.specs.Inner.{Picks}
+use Rattle.schedule.specs as defs
+use defs.Paper.{end, grouped, base, order, slotOf}
+use defs.Inner.{Picks}
 use Rattle.schedule.proofs.News.{grouped-flip}
 
 module _ (m : List ℕ) where

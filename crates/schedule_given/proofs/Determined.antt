@@ -3,9 +3,10 @@ use Rattle.laws.proofs.Base.{_≡_, refl, sym, ap, _∙_, List, ℕ}
 use Rattle.refusals.proofs.Inverse.{refusalOf, refusalOf-numberOf}
 use Rattle.schedule.specs.Paper.{Given, next, noMore, refusal, given}
 use Rattle.schedule.proofs.Determined.{slotFrom, slotFrom-shownOf}
-use Rattle.schedule_given.specs.declared.Given.{Given as GivenCode}
-use Rattle.schedule_given.specs.Coded.{givenOf}
-use Rattle.schedule_given.specs.declared.Given.the-variants as givens
+use Rattle.schedule_given.specs as defs
+use defs.declared.Given.{Given as GivenCode}
+use defs.Coded.{givenOf}
+use defs.declared.Given.the-variants as givens
 
 -- the code's answer by the paper's
 abbrev givenFrom : Given → GivenCode

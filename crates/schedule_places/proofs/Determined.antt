@@ -4,9 +4,10 @@ use Rattle.schedule.specs.declared.Reading.{Reading}
 use Rattle.schedule.specs.Paper.{read}
 use Rattle.schedule.specs.Coded.{readOf}
 use Rattle.schedule.proofs.Determined.{determined-read}
-use Rattle.schedule_places.specs.declared.Placed.{Placed as PlacedCode}
-use Rattle.schedule_places.specs.Coded.{placedOf}
-use Rattle.schedule_places.specs.Inner.{Placed, placed}
+use Rattle.schedule_places.specs as defs
+use defs.declared.Placed.{Placed as PlacedCode}
+use defs.Coded.{placedOf}
+use defs.Inner.{Placed, placed}
 
 pub determined-read-schedule : (m : List ℕ) (received : ℕ) (r s : Reading) → readOf r ≡ read m received → readOf s ≡ read m received → r ≡ s
 determined-read-schedule m received = determined-read (read m received)

@@ -2,8 +2,9 @@
 use Rattle.laws.proofs.Base.{_≡_, refl, sym, _∙_, Bool, true, false, ℕ, zero, suc, _+_, _*_, _<_, arith, ltb, ltb-true}
 use Rattle.laws.specs.Upto.{each}
 use Rattle.schedule.specs.Paper.{Shown}
-use Rattle.sender.specs.Paper.{descriptions, newBit, newBits, bitmapOf, usedPart, messageOf}
-use Rattle.sender.specs.Inner.{AllLow}
+use Rattle.sender.specs as defs
+use defs.Paper.{descriptions, newBit, newBits, bitmapOf, usedPart, messageOf}
+use defs.Inner.{AllLow}
 use Rattle.sender.proofs.Groups.{told, told-none, told-suc, descriptions-groups}
 
 told-agree : (s t : ℕ → Shown) (b : Bool) (n : ℕ) → ((i : ℕ) → i < n → s i ≡ t i) → told s b n ≡ told t b n

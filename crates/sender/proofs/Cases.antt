@@ -5,8 +5,9 @@ use Rattle.laws.proofs.Ruled.{NoneHolds, ruled-map, none-holds, ruled-none, unl
 use Rattle.laws.proofs.Tests.{both}
 use Rattle.plan.specs.Paper.{Plan, planNumber}
 use Rattle.plan.proofs.Answers.{ruled-refuses}
-use Rattle.sender.specs.Paper.{Writing, unwritten, planned, descriptions, message, faults, write}
-use Rattle.sender.specs.Inner.{plansNumber}
+use Rattle.sender.specs as defs
+use defs.Paper.{Writing, unwritten, planned, descriptions, message, faults, write}
+use defs.Inner.{plansNumber}
 
 module _ (c p : Plan) (b : ℕ) where
   pub plans-current : (n : ℕ) → planNumber c ≡ n → (n ≡ 0 → ⊥) → plansNumber c p b ≡ n

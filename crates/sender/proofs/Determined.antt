@@ -3,10 +3,11 @@ use Rattle.laws.proofs.Base.{_≡_, sym, ap, _∙_, List, ℕ}
 use Rattle.refusals.proofs.Inverse.{numberOf-injective, numberOf-positive}
 use Rattle.plan.specs.declared.Plan.{Plan}
 use Rattle.plan.specs.Coded.{planOf}
-use Rattle.sender.specs.Paper.{Writing, write}
-use Rattle.sender.specs.Coded.{writingOf}
-use Rattle.sender.specs.declared.Writing.{Writing as WritingCode}
-use Rattle.sender.specs.declared.Writing.the-variants.{Written, Refused}
+use Rattle.sender.specs as defs
+use defs.Paper.{Writing, write}
+use defs.Coded.{writingOf}
+use defs.declared.Writing.{Writing as WritingCode}
+use defs.declared.Writing.the-variants.{Written, Refused}
 
 writing-injective : (r s : WritingCode) (o q : List ℕ) → writingOf r o ≡ writingOf s q → (r ≡ s) × (o ≡ q)
 writing-injective (Written u) (Written v) o q e = (ap (λ (w : Writing). Written (w .used)) e, ap (λ (w : Writing). w .output) e)

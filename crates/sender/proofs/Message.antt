@@ -3,8 +3,9 @@ use Rattle.laws.proofs.Base.{_≡_, sym, ap, _∙_, true, false, List, [], _∷
 use Rattle.laws.proofs.Upto.{each-length}
 use Rattle.schedule.specs.Paper.{Shown}
 use Rattle.sender.specs.Paper.{descriptions, newBits, bitmapOf, usedPart, messageOf}
-use Rattle.sender.proofs.Groups.{told, descriptions-groups}
-use Rattle.sender.proofs.Padded.{sets-append, sets-padded}
+use Rattle.sender.proofs as own
+use own.Groups.{told, descriptions-groups}
+use own.Padded.{sets-append, sets-padded}
 
 module _ (b : ℕ) (s : ℕ → Shown) (n : ℕ) where
   pub bitmap-length : length (bitmapOf s n) ≡ 6

@@ -11,9 +11,10 @@ use Rattle.plan_slots.specs.Inner.{nonePlanned, saidAt, allPlanned, nothing}
 use Rattle.plan_slots.specs.Paper.{Planned, lowestAt, low15At, plannedAt}
 use Rattle.plan_slots.specs.Coded.{plannedOf}
 use Rattle.plan_slots.proofs.Said.{says-at, said-counted}
-use Rattle.sender.specs.Paper.{plannedTold, newAt, planned}
-use Rattle.sender.specs.Coded.{shownIn}
-use Rattle.sender.specs.Inner.{shownBy, Low, AllLow}
+use Rattle.sender.specs as defs
+use defs.Paper.{plannedTold, newAt, planned}
+use defs.Coded.{shownIn}
+use defs.Inner.{shownBy, Low, AllLow}
 
 abbrev shown : Bool → Told → Shown
 shown n t = record { new = n; told = t }

@@ -7,8 +7,9 @@ use Rattle.schedule.specs.declared.Slot.{Slot}
 use Rattle.schedule.specs.Paper.{again, optional, advised, octetAt, short, told, new, Shown}
 use Rattle.schedule.specs.Coded.{toldOf, shownOf}
 use Rattle.schedule_calls.specs.Paper.{codeOf}
-use Rattle.slots_calls.specs.Paper.{packedShown}
-use Rattle.slots_calls.specs.Inner.{packedBy}
+use Rattle.slots_calls.specs as defs
+use defs.Paper.{packedShown}
+use defs.Inner.{packedBy}
 
 -- a description's code has sixteen bits
 short-small : (x : ℕ) → codeOf (short x) < 65536

@@ -19,8 +19,9 @@ use Rattle.calls.specs.Paper.{CallLeft}
 use Rattle.calls.specs.Claims.{IsLeft}
 use Rattle.schedule_calls.specs.Paper.{packedRead}
 use Rattle.schedule_calls.proofs.Given.{begin-end-small, reads-schedule}
-use Rattle.slots_calls.specs.Paper.{packedShown, packedSlot, toldAll, slotsCall}
-use Rattle.slots_calls.specs.Inner.{packedBy, Shows}
+use Rattle.slots_calls.specs as defs
+use defs.Paper.{packedShown, packedSlot, toldAll, slotsCall}
+use defs.Inner.{packedBy, Shows}
 
 -- a slot's number at its place is that of the slot
 packed-slot : (m p : List ℕ) (e : ℕ) → Shows m p e → (i : ℕ) → packedBy m e i (getD p i 0) ≡ packedSlot m i

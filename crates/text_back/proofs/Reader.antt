@@ -5,8 +5,9 @@ use Rattle.sizes.proofs.Received.{whole-bounds}
 use Rattle.text.specs.Paper.{Reading, cr, wholeOf, septetsReceived, trimmed, shown, reading}
 use Rattle.text.proofs.Trim.{trim-back, trim-rest, trim-length, trim-front}
 use Rattle.text_back.specs.Claims.{CharactersBounded, DropsCrsOnly}
-use Rattle.text_back.proofs.Accepted.{Reads, refused, read, reads}
-use Rattle.text_back.proofs.Back.{trim-padding}
+use Rattle.text_back.proofs as own
+use own.Accepted.{Reads, refused, read, reads}
+use own.Back.{trim-padding}
 
 -- the number of characters is that of the septets left
 count : (p : List ℕ) (n : ℕ) (t : List ℕ) → reading p n t ≡ shown (trimmed (septetsReceived p n))

@@ -2,9 +2,10 @@
 use Rattle.laws.proofs.Base.{_≡_, sym, ap, _∙_, List, ℕ}
 use Rattle.refusals.proofs.Inverse.{numberOf-injective, numberOf-positive}
 use Rattle.text.specs.Paper.{Reading, reading}
-use Rattle.text_reader.specs.Coded.{readingOf}
-use Rattle.text_reader.specs.declared.Got.{Got}
-use Rattle.text_reader.specs.declared.Got.the-variants.{Characters, Refused}
+use Rattle.text_reader.specs as defs
+use defs.Coded.{readingOf}
+use defs.declared.Got.{Got}
+use defs.declared.Got.the-variants.{Characters, Refused}
 
 reading-injective : (r s : Got) (t u : List ℕ) → readingOf r t ≡ readingOf s u → (r ≡ s) × (t ≡ u)
 reading-injective (Characters m) (Characters n) t u e = (ap (λ (w : Reading). Characters (w .characters)) e, ap (λ (w : Reading). w .text) e)

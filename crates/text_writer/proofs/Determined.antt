@@ -4,9 +4,10 @@ use Rattle.refusals.proofs.Inverse.{numberOf-injective, numberOf-positive}
 use Rattle.page.specs.declared.Serial.{Serial}
 use Rattle.page.specs.declared.MessageId.{MessageId}
 use Rattle.text.specs.Paper.{Writing, written}
-use Rattle.text_writer.specs.Coded.{headed, writingOf}
-use Rattle.text_writer.specs.declared.Written.{Written}
-use Rattle.text_writer.specs.declared.Written.the-variants.{Used, Refused}
+use Rattle.text_writer.specs as defs
+use defs.Coded.{headed, writingOf}
+use defs.declared.Written.{Written}
+use defs.declared.Written.the-variants.{Used, Refused}
 
 writing-injective : (r s : Written) (p q : List ℕ) → writingOf r p ≡ writingOf s q → (r ≡ s) × (p ≡ q)
 writing-injective (Used u) (Used v) p q e = (ap (λ (w : Writing). Used (w .used)) e, ap (λ (w : Writing). w .page) e)

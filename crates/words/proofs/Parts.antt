@@ -5,8 +5,9 @@ use Rattle.laws.specs.Upto.{some, each}
 use Rattle.laws.proofs.Upto.{some-false, each-at}
 use Rattle.laws.proofs.Tests.{both}
 use Rattle.lines.specs.Paper.{PutLeft, ascii, behind}
-use Rattle.words.specs.Paper.{find, words, table}
-use Rattle.words.specs.Inner.{joined, allWords}
+use Rattle.words.specs as defs
+use defs.Paper.{find, words, table}
+use defs.Inner.{joined, allWords}
 
 -- where the words of each number start, as the code has it
 abbrev pub starts : List ℕ

@@ -1,8 +1,9 @@
 -- `alphabet::code_point` meets its contract: its constant is computed to be the paper's alphabet.
 use Rattle.laws.proofs.Base.{refl, needs}
 use Rattle.alphabet.specs.Paper.{alphabet}
-use Rattle.alphabet.proofs.code_point.Statement.{statement}
-use Rattle.alphabet.proofs.code_point.Tie as tie
+use Rattle.alphabet.proofs.code_point as own
+use own.Statement.{statement}
+use own.Tie as tie
 
 code-point-by-requires : tie.Need-code-point-by-requires
 unfolding alphabet

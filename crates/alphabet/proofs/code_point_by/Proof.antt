@@ -1,8 +1,9 @@
 -- `alphabet::code_point_by` meets its contract: the table lent is the paper's alphabet.
 use Rattle.laws.proofs.Base.{needs}
 use Rattle.alphabet.specs.Paper.{codePoint}
-use Rattle.alphabet.proofs.code_point_by.Statement.{statement}
-use Rattle.alphabet.proofs.code_point_by.Tie as tie
+use Rattle.alphabet.proofs.code_point_by as own
+use own.Statement.{statement}
+use own.Tie as tie
 
 returns : tie.Need-returns
 unfolding codePoint

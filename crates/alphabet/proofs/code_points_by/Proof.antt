@@ -3,17 +3,15 @@ use Rattle.laws.proofs.Base.{_≡_, refl, _∙_, _≤_, _<_, _-_, min, arith, n
 use Rattle.laws.specs.Table.{onto}
 use Rattle.laws.proofs.Table.{onto-turn, onto-end}
 use Rattle.alphabet.specs.Paper.{codePoint}
-use Rattle.alphabet.proofs.code_points_by.Statement.{statement}
-use Rattle.alphabet.proofs.code_points_by.Tie as tie
+use Rattle.alphabet.proofs.code_points_by as own
+use own.Statement.{statement}
+use own.Tie as tie
 
 abbrev Inv-loop : tie.InvT-loop
 Inv-loop table septets out₀ n i₀ out i = (i ≤ n) × (n ≡ min (length septets) (length out₀)) × (length out ≡ length out₀) × (out ≡ onto codePoint (take i septets) out₀)
 
 abbrev μ-loop : tie.MeasureT-loop
 μ-loop table septets out₀ n i₀ out i = n - i
-
-loop-holds : tie.Need-loop-holds Inv-loop μ-loop
-loop-holds c = (search needs, c .least .ensures, refl, refl)
 
 loop-again : tie.Need-loop-again Inv-loop μ-loop
 loop-again c =
@@ -36,6 +34,6 @@ pub code-points-by-spec : {M : Type 1} → statement M
 code-points-by-spec =
     tie.close
     (tie.spec
-    Inv-loop μ-loop (λ c κs. search needs) loop-holds (λ c. search needs) (λ c κs. search needs)
-    (λ c. search needs) (λ c. search needs) (λ c. search needs) (λ c. search needs) loop-again
-    (λ c. search needs) returns)
+    Inv-loop μ-loop (λ c κs. search needs) (λ c. (search needs, c .least .ensures, refl, refl))
+    (λ c. search needs) (λ c κs. search needs) (λ c. search needs) (λ c. search needs)
+    (λ c. search needs) (λ c. search needs) loop-again (λ c. search needs) returns)

@@ -1,8 +1,9 @@
 -- `alphabet::septets` meets its contract: its constant is computed to be the list of what each code point is found as.
 use Rattle.laws.proofs.Base.{refl, needs}
 use Rattle.alphabet.specs.Paper.{alphabet, septetOf}
-use Rattle.alphabet.proofs.septets.Statement.{statement}
-use Rattle.alphabet.proofs.septets.Tie as tie
+use Rattle.alphabet.proofs.septets as own
+use own.Statement.{statement}
+use own.Tie as tie
 
 septets-by-requires : tie.Need-septets-by-requires
 unfolding septetOf alphabet

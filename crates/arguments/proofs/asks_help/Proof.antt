@@ -2,9 +2,10 @@
 use Rattle.laws.proofs.Base.{needs, eq-eqb, ne-eqb}
 use Rattle.lines.specs.Paper.{ascii}
 use Rattle.arguments.specs.Paper.{helpAsked}
-use Rattle.arguments.proofs.Same.{same-exactly}
-use Rattle.arguments.proofs.asks_help.Statement.{statement}
-use Rattle.arguments.proofs.asks_help.Tie as tie
+use Rattle.arguments.proofs as own
+use own.Same.{same-exactly}
+use own.asks_help.Statement.{statement}
+use own.asks_help.Tie as tie
 
 returns : tie.Need-returns
 unfolding helpAsked

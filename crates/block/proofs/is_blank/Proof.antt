@@ -1,18 +1,16 @@
 -- `block::is_blank` meets its contract. The invariant: the verdict on the octets is that so far and that on those ahead.
 use Rattle.laws.proofs.Base.{_≡_, refl, _&&_, ⊎-elim, _-_, length, drop, needs}
 use Rattle.block.specs.Paper.{allBlank}
-use Rattle.block.proofs.Blank.{allBlank-end, allBlank-same, allBlank-other}
-use Rattle.block.proofs.is_blank.Statement.{statement}
-use Rattle.block.proofs.is_blank.Tie as tie
+use Rattle.block.proofs as own
+use own.Blank.{allBlank-end, allBlank-same, allBlank-other}
+use own.is_blank.Statement.{statement}
+use own.is_blank.Tie as tie
 
 abbrev Inv-loop : tie.InvT-loop
 Inv-loop octets from blank₀ i₀ blank i = allBlank (drop from octets) ≡ (blank && allBlank (drop i octets))
 
 abbrev μ-loop : tie.MeasureT-loop
 μ-loop octets from blank₀ i₀ blank i = length octets - i
-
-loop-holds : tie.Need-loop-holds Inv-loop μ-loop
-loop-holds c = refl
 
 loop-again : tie.Need-loop-again Inv-loop μ-loop
 loop-again c =
@@ -32,4 +30,6 @@ returns c =
 pub is-blank-spec : {M : Type 1} → statement M
 is-blank-spec =
     tie.close
-    (tie.spec Inv-loop μ-loop loop-holds (λ c. search needs) (λ c. search needs) (λ c. search needs) loop-again returns)
+    (tie.spec
+    Inv-loop μ-loop (λ c. refl) (λ c. search needs) (λ c. search needs) (λ c. search needs)
+    loop-again returns)

@@ -1,8 +1,9 @@
 -- `block::is_proper` meets its contract: the tests that led to each answer decide the parts of `proper`.
 use Rattle.laws.proofs.Base.{_≤_, _<_, and-false, needs, eq-eqb, ne-eqb, le-leb, lt-leb, arith}
 use Rattle.block.specs.Paper.{proper}
-use Rattle.block.proofs.is_proper.Statement.{statement}
-use Rattle.block.proofs.is_proper.Tie as tie
+use Rattle.block.proofs.is_proper as own
+use own.Statement.{statement}
+use own.Tie as tie
 
 returns : tie.Need-returns
 unfolding proper

@@ -1,9 +1,11 @@
 -- `block::place_of` meets its contract: the tests that led to each answer decide those of `placeOf`.
 use Rattle.laws.proofs.Base.{_≡_, true, or-false, or-true, List, ℕ, _≤_, _<_, suc, length, needs, eqb, leb, eq-eqb, ne-eqb, le-leb, lt-leb, arith}
-use Rattle.block.specs.Paper.{link, code}
-use Rattle.block.specs.Inner.{placeOf}
-use Rattle.block.proofs.place_of.Statement.{statement}
-use Rattle.block.proofs.place_of.Tie as tie
+use Rattle.block.specs as defs
+use defs.Paper.{link, code}
+use defs.Inner.{placeOf}
+use Rattle.block.proofs.place_of as own
+use own.Statement.{statement}
+use own.Tie as tie
 
 returns : tie.Need-returns
 unfolding placeOf

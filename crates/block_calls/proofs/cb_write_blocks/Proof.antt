@@ -4,8 +4,9 @@ use Rattle.block.specs.Paper.{Kind}
 use Rattle.block_writer.specs.Paper.{BlocksLeft, written}
 use Rattle.block_writer.specs.Coded.{sentOf}
 use Rattle.block_calls.specs.Paper.{kindIf, blocksLeft}
-use Rattle.block_calls.proofs.cb_write_blocks.Statement.{statement}
-use Rattle.block_calls.proofs.cb_write_blocks.Tie as tie
+use Rattle.block_calls.proofs.cb_write_blocks as own
+use own.Statement.{statement}
+use own.Tie as tie
 
 -- the writer's answer is that for the kind as C tells it
 abbrev blocks : tie.After-write-blocks → BlocksLeft
@@ -18,9 +19,6 @@ writes c =
     let a = c .before .before .before .before .before .args in
     c .write-blocks .ensures ∙ ap (λ (k : Kind). written (a .message .now) k (a .used) (a .out .now)) (c .before .before .kind-of .ensures)
 
-returns : tie.Need-returns
-returns c = ap blocksLeft (rw (c .enum-told .given .1) at (writes (c .before .before .before .before)))
-
 returns-2 : tie.Need-returns-2
 returns-2 c =
     let e = rw (c .before .before .answer .given .1) at (writes (c .before .before .before .before .before .before)) in
@@ -32,5 +30,6 @@ cb-write-blocks-spec =
     tie.close
     (tie.spec
     (λ c κs. search needs) (λ c κs. search needs) (λ c. search needs) (λ c. search needs)
-    (λ c κs. search needs) (λ c. search needs) (λ c. search needs) returns (λ c. search needs)
-    returns-2)
+    (λ c κs. search needs) (λ c. search needs) (λ c. search needs)
+    (λ c. ap blocksLeft (rw (c .enum-told .given .1) at (writes (c .before .before .before .before))))
+    (λ c. search needs) returns-2)

@@ -3,10 +3,11 @@ use Rattle.laws.proofs.Base.{_≡_, List, ℕ, _++_, _*_, _+_, _-_, length, tak
 use borrow.Rule.Slice.PartMut.{putMid}
 use Rattle.block.specs.Paper.{filled}
 use Rattle.block_intake.specs.Coded.{heldOf}
-use Rattle.block_intake.proofs.Answers.{kept-parts, handed-parts}
+use Rattle.block_intake.proofs as own
+use own.Answers.{kept-parts, handed-parts}
 use Rattle.block.proofs.Filled.{filled-copy}
-use Rattle.block_intake.proofs.add.Statement.{statement}
-use Rattle.block_intake.proofs.add.Tie as tie
+use own.add.Statement.{statement}
+use own.add.Tie as tie
 
 module _ (c : tie.After-whole2) where
   abbrev start : tie.Start

@@ -6,8 +6,9 @@ use Rattle.block.specs.Inner.{placeOf}
 use Rattle.block.specs.Coded.{placed}
 use Rattle.block_intake.specs.Coded.{heldOf, leaving}
 use Rattle.block.proofs.Steps.{met, step-improper, step-by, adds-first, adds-next}
-use Rattle.block_intake.proofs.intake.Statement.{statement}
-use Rattle.block_intake.proofs.intake.Tie as tie
+use Rattle.block_intake.proofs.intake as own
+use own.Statement.{statement}
+use own.Tie as tie
 
 returns : tie.Need-returns
 returns c =

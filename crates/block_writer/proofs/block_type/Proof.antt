@@ -1,9 +1,10 @@
 -- `block_writer::block_type` meets its contract: the mark by the test, the code by its leaf.
 use Rattle.laws.proofs.Base.{ap, ℕ, suc, _+_, _/_, _≤_, _<_, arith, needs, le-leb, lt-leb}
 use Rattle.block.specs.Coded.{kindOf}
-use Rattle.block_writer.proofs.Write.{codeOf-small}
-use Rattle.block_writer.proofs.block_type.Statement.{statement}
-use Rattle.block_writer.proofs.block_type.Tie as tie
+use Rattle.block_writer.proofs as own
+use own.Write.{codeOf-small}
+use own.block_type.Statement.{statement}
+use own.block_type.Tie as tie
 
 add-result : tie.Need-add-result
 add-result c =

@@ -2,11 +2,9 @@
 use Rattle.laws.proofs.Base.{sym, ap, needs, eq-eqb, ne-eqb}
 use Rattle.block.specs.Paper.{firstCode}
 use Rattle.block.specs.Coded.{kindOf}
-use Rattle.block_writer.proofs.sequence_code.Statement.{statement}
-use Rattle.block_writer.proofs.sequence_code.Tie as tie
-
-returns : tie.Need-returns
-returns c = simp (ne-eqb _ _ (c .if1 .taken))
+use Rattle.block_writer.proofs as own
+use own.sequence_code.Statement.{statement}
+use own.sequence_code.Tie as tie
 
 returns-2 : tie.Need-returns-2
 returns-2 c =
@@ -18,4 +16,6 @@ returns-3 c =
 
 pub sequence-code-spec : {M : Type 1} → statement M
 sequence-code-spec =
-    tie.close (tie.spec (λ c. search needs) returns (λ c. search needs) (λ c. search needs) returns-2 returns-3)
+    tie.close (tie.spec
+    (λ c. search needs) (λ c. simp (ne-eqb _ _ (c .if1 .taken))) (λ c. search needs)
+    (λ c. search needs) returns-2 returns-3)

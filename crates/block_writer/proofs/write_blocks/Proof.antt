@@ -2,9 +2,10 @@
 use Rattle.laws.proofs.Base.{_≡_, _<_, refl, sym, _∙_, _++_, _+_, _*_, _-_, _≤_, length, drop, length-set, arith, needs, eq-eqb, ne-eqb, le-ltb, lt-ltb}
 use Rattle.block_writer.specs.Paper.{blocks, written}
 use Rattle.block.specs.Coded.{kindOf}
-use Rattle.block_writer.proofs.Write.{write-turn, length-written, written-all}
-use Rattle.block_writer.proofs.write_blocks.Statement.{statement}
-use Rattle.block_writer.proofs.write_blocks.Tie as tie
+use Rattle.block_writer.proofs as own
+use own.Write.{write-turn, length-written, written-all}
+use own.write_blocks.Statement.{statement}
+use own.write_blocks.Tie as tie
 
 abbrev Inv-loop : tie.InvT-loop
 Inv-loop message kind used out₀ i₀ out i =
@@ -36,9 +37,6 @@ loop-holds : tie.Need-loop-holds Inv-loop μ-loop
 unfolding blocks
 loop-holds c = (omega arith, refl, c .before .before .before .if1 .left)
 
-part-copy-end-2 : tie.Need-part-copy-end-2 Inv-loop μ-loop
-part-copy-end-2 c = simp length-set (omega arith)
-
 loop-again : tie.Need-loop-again Inv-loop μ-loop
 loop-again c =
     let w = c .before .before in
@@ -56,9 +54,6 @@ loop-again c =
     (l .loop .inv .1) (b .block-type .result) (w .copy .last .1 .0)
     (b .block-type .ensures) (w .copy .ensures .1) in
     (n, again, length-written k (s .args .used) m long (l .loop .i + 1) (s .args .out .now) _ n size again)
-
-same-length : tie.Need-same-length Inv-loop μ-loop
-same-length c = c .before .loop .inv .2 ∙ sym (c .before .before .before .before .before .if1 .left)
 
 returns-5 : tie.Need-returns-5 Inv-loop μ-loop
 unfolding written
@@ -82,5 +77,7 @@ write-blocks-spec =
     (λ c. search needs) (λ c. search needs) (λ c. search needs) (λ c. search needs)
     (λ c. search needs) (λ c. search needs) (λ c. search needs) (λ c. search needs)
     (λ c. search needs) (λ c. search needs) (λ c. search needs) (λ c. search needs)
-    (λ c. search needs) (λ c. search needs) part-copy-end-2 (λ c κs. search needs)
-    (λ c. search needs) (λ c. search needs) loop-again same-length returns-5)
+    (λ c. search needs) (λ c. search needs) (λ c. simp length-set (omega arith))
+    (λ c κs. search needs) (λ c. search needs) (λ c. search needs) loop-again
+    (λ c. c .before .loop .inv .2 ∙ sym (c .before .before .before .before .before .if1 .left))
+    returns-5)

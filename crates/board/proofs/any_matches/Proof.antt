@@ -1,11 +1,13 @@
 -- `board::any_matches` meets its contract. The invariant: none of the identifiers so far matches.
 use Rattle.laws.proofs.Base.{_≡_, refl, sym, false, _-_, _≤_, _<_, length, take, arith, needs}
 use Rattle.laws.specs.Search.{some}
-use Rattle.board.specs.Paper.{matches15}
-use Rattle.board.specs.Coded.{idsOf}
-use Rattle.board.proofs.Matching.{matches-found, matches-turn}
-use Rattle.board.proofs.any_matches.Statement.{statement}
-use Rattle.board.proofs.any_matches.Tie as tie
+use Rattle.board.specs as defs
+use defs.Paper.{matches15}
+use defs.Coded.{idsOf}
+use Rattle.board.proofs as own
+use own.Matching.{matches-found, matches-turn}
+use own.any_matches.Statement.{statement}
+use own.any_matches.Tie as tie
 
 abbrev Inv-loop : tie.InvT-loop
 Inv-loop count id ids i₀ i = (i ≤ count) × (some (matches15 id) (take i (idsOf ids)) ≡ false)

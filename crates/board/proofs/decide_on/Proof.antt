@@ -3,12 +3,14 @@ use Rattle.laws.proofs.Base.{_≡_, sym, _∙_, Bool, true, false, arith, needs
 use Rattle.board_held.specs.Coded.{lentSchedule}
 use Rattle.board_held.proofs.Cases.{tells-unknown}
 use Rattle.board_held.proofs.Telling.{telling, tells-by}
-use Rattle.board.specs.Paper.{decide}
-use Rattle.board.specs.Coded.{wantedOf}
-use Rattle.board.proofs.Cases.{decide-low, decide-high, decide-many, decided-untold}
-use Rattle.board.proofs.Deciding.{decided-slots}
-use Rattle.board.proofs.decide_on.Statement.{statement}
-use Rattle.board.proofs.decide_on.Tie as tie
+use Rattle.board.specs as defs
+use defs.Paper.{decide}
+use defs.Coded.{wantedOf}
+use Rattle.board.proofs as own
+use own.Cases.{decide-low, decide-high, decide-many, decided-untold}
+use own.Deciding.{decided-slots}
+use own.decide_on.Statement.{statement}
+use own.decide_on.Tie as tie
 
 returns-4 : tie.Need-returns-4
 returns-4 c =

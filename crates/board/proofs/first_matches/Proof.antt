@@ -1,10 +1,12 @@
 -- `board::first_matches` meets its contract.
 use Rattle.laws.proofs.Base.{sym, ap, _∙_, needs}
 use Rattle.schedule.specs.Coded.{toldOf}
-use Rattle.board.specs.Paper.{firstMatches}
-use Rattle.board.specs.Coded.{wantedOf}
-use Rattle.board.proofs.first_matches.Statement.{statement}
-use Rattle.board.proofs.first_matches.Tie as tie
+use Rattle.board.specs as defs
+use defs.Paper.{firstMatches}
+use defs.Coded.{wantedOf}
+use Rattle.board.proofs.first_matches as own
+use own.Statement.{statement}
+use own.Tie as tie
 
 returns : tie.Need-returns
 returns c =

@@ -1,8 +1,9 @@
 -- `board::is_wanted` meets its contract.
 use Rattle.laws.proofs.Base.{needs}
 use Rattle.board.specs.Paper.{isWanted}
-use Rattle.board.proofs.is_wanted.Statement.{statement}
-use Rattle.board.proofs.is_wanted.Tie as tie
+use Rattle.board.proofs.is_wanted as own
+use own.Statement.{statement}
+use own.Tie as tie
 
 returns : tie.Need-returns
 unfolding isWanted

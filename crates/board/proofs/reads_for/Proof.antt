@@ -3,12 +3,14 @@ use Rattle.laws.proofs.Base.{_≡_, ap, _∙_, _+_, arith, needs}
 use Rattle.schedule.specs.Inner.{toldBy}
 use Rattle.board_held.specs.Paper.{entryFor}
 use Rattle.board_held.proofs.Telling.{Named, entry-named}
-use Rattle.board.specs.Paper.{firstMatches}
-use Rattle.board.specs.Inner.{readsBy}
-use Rattle.board.specs.Coded.{wantedOf}
-use Rattle.board.proofs.Deciding.{reads-by-entry}
-use Rattle.board.proofs.reads_for.Statement.{statement}
-use Rattle.board.proofs.reads_for.Tie as tie
+use Rattle.board.specs as defs
+use defs.Paper.{firstMatches}
+use defs.Inner.{readsBy}
+use defs.Coded.{wantedOf}
+use Rattle.board.proofs as own
+use own.Deciding.{reads-by-entry}
+use own.reads_for.Statement.{statement}
+use own.reads_for.Tie as tie
 
 -- the slot that the page is entered under, by what is told at the slot's place
 under : (c : tie.After-entry-for) → let a = c .before .before .before .args in c .entry-for .result ≡ entryFor (a .i + 1) (toldBy (a .message .now) (a .t2) (a .i))

@@ -3,9 +3,10 @@ use Rattle.laws.proofs.Base.{_≡_, ap, arith, needs}
 use Rattle.board.specs.Paper.{Decided}
 use Rattle.board.specs.Coded.{decidedOf}
 use Rattle.board_calls.specs.Paper.{decidedFor, packedDecided}
-use Rattle.board_calls.proofs.Decided.{as-listed}
-use Rattle.board_calls.proofs.cb_decide.Statement.{statement}
-use Rattle.board_calls.proofs.cb_decide.Tie as tie
+use Rattle.board_calls.proofs as own
+use own.Decided.{as-listed}
+use own.cb_decide.Statement.{statement}
+use own.cb_decide.Tie as tie
 
 -- the board's decision is that for what C lists
 abbrev decided : tie.After-decide-on → Decided
@@ -19,12 +20,6 @@ listed c =
     let a = c .before .before .before .before .args in
     as-listed (a .known) (a .message .now) (a .received) (a .slot) (a .wanted .now) (a .held) (w .result) (w .ensures) (c .decide-on .ensures)
 
-returns : tie.Need-returns
-returns c = ap packedDecided (rw (c .enum-told .given .1) at (listed (c .before .before)))
-
-returns-2 : tie.Need-returns-2
-returns-2 c = ap packedDecided (rw (c .enum-told2 .given .1) at (listed (c .before .before)))
-
 returns-3 : tie.Need-returns-3
 returns-3 c =
     omega (arith, c .number .ensures, ap packedDecided (rw (c .before .before .answer .given .1) at (listed (c .before .before .before .before))))
@@ -34,4 +29,6 @@ cb-decide-spec =
     tie.close
     (tie.spec
     (λ c κs. search needs) (λ c κs. search needs) (λ c. search needs) (λ c. search needs)
-    (λ c. search needs) (λ c κs. search needs) (λ c. search needs) returns returns-2 returns-3)
+    (λ c. search needs) (λ c κs. search needs) (λ c. search needs)
+    (λ c. ap packedDecided (rw (c .enum-told .given .1) at (listed (c .before .before))))
+    (λ c. ap packedDecided (rw (c .enum-told2 .given .1) at (listed (c .before .before)))) returns-3)

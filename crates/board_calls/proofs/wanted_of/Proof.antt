@@ -1,18 +1,16 @@
 -- `board_calls::wanted_of` meets its contract. The invariant: the first i identifiers are those of the list.
 use Rattle.laws.proofs.Base.{_≡_, refl, _∙_, _-_, _≤_, arith, length, take, length-set, needs}
 use Rattle.board.specs.Coded.{idsOf}
-use Rattle.board_calls.proofs.Wanted.{ids-turn, ids-end}
-use Rattle.board_calls.proofs.wanted_of.Statement.{statement}
-use Rattle.board_calls.proofs.wanted_of.Tie as tie
+use Rattle.board_calls.proofs as own
+use own.Wanted.{ids-turn, ids-end}
+use own.wanted_of.Statement.{statement}
+use own.wanted_of.Tie as tie
 
 abbrev Inv-loop : tie.InvT-loop
 Inv-loop list ids₀ i₀ ids i = (i ≤ 64) × (i ≤ length list) × (take i (idsOf ids) ≡ take i list) × (length ids ≡ 64)
 
 abbrev μ-loop : tie.MeasureT-loop
 μ-loop list ids₀ i₀ ids i = 64 - i
-
-loop-holds : tie.Need-loop-holds Inv-loop μ-loop
-loop-holds c = (omega arith, omega arith, refl, refl)
 
 returns : tie.Need-returns Inv-loop μ-loop
 returns c =
@@ -40,5 +38,6 @@ pub wanted-of-spec : {M : Type 1} → statement M
 wanted-of-spec =
     tie.close
     (tie.spec
-    Inv-loop μ-loop loop-holds returns (λ c. search needs) (λ c. search needs) (λ c. search needs)
-    (λ c. search needs) (λ c. search needs) (λ c. search needs) loop-again returns-2)
+    Inv-loop μ-loop (λ c. (omega arith, omega arith, refl, refl)) returns (λ c. search needs)
+    (λ c. search needs) (λ c. search needs) (λ c. search needs) (λ c. search needs)
+    (λ c. search needs) loop-again returns-2)

@@ -1,11 +1,13 @@
 -- `board_held::entered_under_on` meets its contract: the entry is told from the places of the descriptions.
 use Rattle.laws.proofs.Base.{sym, ap, _∙_, false, arith, needs, not-true, not-false}
-use Rattle.board_held.specs.Paper.{entryFor}
-use Rattle.board_held.specs.Coded.{lentSchedule}
-use Rattle.board_held.proofs.Cases.{entered-untold, tells-unknown}
-use Rattle.board_held.proofs.Telling.{Telling, telling, tells-by, entered-slot}
-use Rattle.board_held.proofs.entered_under_on.Statement.{statement}
-use Rattle.board_held.proofs.entered_under_on.Tie as tie
+use Rattle.board_held.specs as defs
+use defs.Paper.{entryFor}
+use defs.Coded.{lentSchedule}
+use Rattle.board_held.proofs as own
+use own.Cases.{entered-untold, tells-unknown}
+use own.Telling.{Telling, telling, tells-by, entered-slot}
+use own.entered_under_on.Statement.{statement}
+use own.entered_under_on.Tie as tie
 
 returns : tie.Need-returns
 returns c =

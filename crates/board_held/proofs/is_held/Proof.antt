@@ -1,8 +1,9 @@
 -- `board_held::is_held` meets its contract: the shift divides by the power of two that the definition has.
 use Rattle.laws.proofs.Base.{sym, needs}
-use Rattle.board_held.proofs.Sets.{held-low, held-high, held-bit}
-use Rattle.board_held.proofs.is_held.Statement.{statement}
-use Rattle.board_held.proofs.is_held.Tie as tie
+use Rattle.board_held.proofs as own
+use own.Sets.{held-low, held-high, held-bit}
+use own.is_held.Statement.{statement}
+use own.is_held.Tie as tie
 
 pub is-held-spec : {M : Type 1} → statement M
 is-held-spec =

@@ -3,9 +3,10 @@ use Rattle.laws.proofs.Base.{sym, ap, _∙_, needs, le-leb, lt-leb}
 use Rattle.schedule.specs.declared.Reading.{Reading}
 use Rattle.schedule.specs.Coded.{readOf}
 use Rattle.board_held.specs.Inner.{answers}
-use Rattle.board_held.proofs.Telling.{refused-answers}
-use Rattle.board_held.proofs.tells_of.Statement.{statement}
-use Rattle.board_held.proofs.tells_of.Tie as tie
+use Rattle.board_held.proofs as own
+use own.Telling.{refused-answers}
+use own.tells_of.Statement.{statement}
+use own.tells_of.Tie as tie
 
 returns : tie.Need-returns
 returns c =

@@ -1,8 +1,9 @@
 -- `cbcheck::check_log` is safe: the log's name lies in the memory for it.
 use Rattle.laws.proofs.Base.{sym, ap, arith, length-take-le, needs}
 use Rattle.files.specs.Inner.{named}
-use Rattle.cbcheck.proofs.check_log.Statement.{statement}
-use Rattle.cbcheck.proofs.check_log.Tie as tie
+use Rattle.cbcheck.proofs.check_log as own
+use own.Statement.{statement}
+use own.Tie as tie
 
 array-share-prefix-name : tie.Need-array-share-prefix-name
 array-share-prefix-name c =

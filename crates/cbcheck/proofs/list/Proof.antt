@@ -7,9 +7,10 @@ use Rattle.lines.proofs.Texts.{puts-all}
 use Rattle.logs.proofs.Complete.{complete}
 use Rattle.logs.proofs.Listed.{Listed, taken, line-room, listed-start, listed-turn, listed-end}
 use Rattle.cbcheck.specs.Paper.{lineOf}
-use Rattle.cbcheck.proofs.Handed.{line-for, for-wide}
-use Rattle.cbcheck.proofs.list.Statement.{statement}
-use Rattle.cbcheck.proofs.list.Tie as tie
+use Rattle.cbcheck.proofs as own
+use own.Handed.{line-for, for-wide}
+use own.list.Statement.{statement}
+use own.list.Tie as tie
 
 abbrev Inv-loop : tie.InvT-loop
 Inv-loop plans state₀ first log message₀ out₀ at₀ number₀ end₀ state message out at number end =

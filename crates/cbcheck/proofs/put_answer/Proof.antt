@@ -1,8 +1,9 @@
 -- `cbcheck::put_answer` meets its contract: only the number 7 has a line.
 use Rattle.laws.proofs.Base.{_%_, needs, eq-eqb, ne-eqb}
 use Rattle.lines.specs.Paper.{allBehind}
-use Rattle.cbcheck.proofs.put_answer.Statement.{statement}
-use Rattle.cbcheck.proofs.put_answer.Tie as tie
+use Rattle.cbcheck.proofs.put_answer as own
+use own.Statement.{statement}
+use own.Tie as tie
 
 returns : tie.Need-returns
 unfolding allBehind

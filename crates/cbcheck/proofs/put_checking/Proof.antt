@@ -3,8 +3,9 @@ use Rattle.laws.proofs.Base.{needs}
 use Rattle.lines.specs.Paper.{ascii}
 use Rattle.lines.proofs.Texts.{and-last, and-others}
 use Rattle.cbcheck.specs.Paper.{numbers, said}
-use Rattle.cbcheck.proofs.put_checking.Statement.{statement}
-use Rattle.cbcheck.proofs.put_checking.Tie as tie
+use Rattle.cbcheck.proofs.put_checking as own
+use own.Statement.{statement}
+use own.Tie as tie
 
 returns : tie.Need-returns
 unfolding ascii said
@@ -13,13 +14,10 @@ returns c =
     let named = put .before .before .before .before .before in
     rw (named .before .before .enum-told .given .1) (and-others (numbers _ 0 0) _ _ _ (named .put-numbers .ensures) (and-last _ _ _ (put .put .ensures)))
 
-returns-2 : tie.Need-returns-2
-returns-2 c = rw (c .before .before .before .before .before .checking .given .1) (c .before .before .put-refused .ensures)
-
 pub put-checking-spec : {M : Type 1} → statement M
 put-checking-spec =
     tie.close
     (tie.spec
     (λ c. search needs) (λ c κs. search needs) (λ c. search needs) (λ c κs. search needs)
     (λ c. search needs) (λ c κs. search needs) (λ c. search needs) returns (λ c. search needs)
-    returns-2)
+    (λ c. rw (c .before .before .before .before .before .checking .given .1) (c .before .before .put-refused .ensures)))

@@ -2,8 +2,9 @@
 use Rattle.laws.proofs.Base.{needs}
 use Rattle.lines.specs.Paper.{marked}
 use Rattle.lines.proofs.Texts.{and-others}
-use Rattle.cbcheck.proofs.put_numbers.Statement.{statement}
-use Rattle.cbcheck.proofs.put_numbers.Tie as tie
+use Rattle.cbcheck.proofs.put_numbers as own
+use own.Statement.{statement}
+use own.Tie as tie
 
 returns : tie.Need-returns
 returns c =

@@ -3,8 +3,9 @@ use Rattle.laws.proofs.Base.{needs, eq-eqb, ne-eqb}
 use Rattle.lines.specs.Paper.{ascii}
 use Rattle.lines.proofs.Texts.{and-then, and-last}
 use Rattle.cbcheck.specs.Paper.{reason}
-use Rattle.cbcheck.proofs.put_reason.Statement.{statement}
-use Rattle.cbcheck.proofs.put_reason.Tie as tie
+use Rattle.cbcheck.proofs.put_reason as own
+use own.Statement.{statement}
+use own.Tie as tie
 
 returns : tie.Need-returns
 unfolding reason

@@ -3,8 +3,9 @@ use Rattle.laws.proofs.Base.{needs, ne-eqb}
 use Rattle.refusals.proofs.Inverse.{numberOf-positive}
 use Rattle.lines.proofs.Texts.{and-last, and-others}
 use Rattle.cbcheck.specs.Paper.{numbers, reason, said}
-use Rattle.cbcheck.proofs.put_refused.Statement.{statement}
-use Rattle.cbcheck.proofs.put_refused.Tie as tie
+use Rattle.cbcheck.proofs.put_refused as own
+use own.Statement.{statement}
+use own.Tie as tie
 
 returns : tie.Need-returns
 unfolding said

@@ -3,9 +3,10 @@ use Rattle.laws.proofs.Base.{_-_, arith, length, needs}
 use Rattle.lines.proofs.Texts.{puts-all}
 use Rattle.logs.proofs.Listed.{Listed, taken, line-room, listed-start, listed-turn, listed-end}
 use Rattle.cblist.specs.Paper.{lineOf}
-use Rattle.cblist.proofs.Wide.{line-wide}
-use Rattle.cblist.proofs.list.Statement.{statement}
-use Rattle.cblist.proofs.list.Tie as tie
+use Rattle.cblist.proofs as own
+use own.Wide.{line-wide}
+use own.list.Statement.{statement}
+use own.list.Tie as tie
 
 abbrev Inv-loop : tie.InvT-loop
 Inv-loop state₀ first log message₀ text₀ at₀ number₀ end₀ state message text at number end =

@@ -2,8 +2,9 @@
 use Rattle.laws.proofs.Base.{needs}
 use Rattle.lines.specs.Paper.{marked}
 use Rattle.lines.proofs.Texts.{and-others}
-use Rattle.cblist.proofs.put_line.Statement.{statement}
-use Rattle.cblist.proofs.put_line.Tie as tie
+use Rattle.cblist.proofs.put_line as own
+use own.Statement.{statement}
+use own.Tie as tie
 
 returns : tie.Need-returns
 returns c =

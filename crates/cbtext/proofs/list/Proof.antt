@@ -4,9 +4,10 @@ use Rattle.block.specs.Paper as block
 use Rattle.logs.proofs.Complete.{complete}
 use Rattle.logs.proofs.Listed.{Listed, Taken, answerAt, taken, line-room, listed-start, listed-turn, listed-end}
 use Rattle.cbtext.specs.Paper.{lineOf}
-use Rattle.cbtext.proofs.Handed.{handed, line-for}
-use Rattle.cbtext.proofs.list.Statement.{statement}
-use Rattle.cbtext.proofs.list.Tie as tie
+use Rattle.cbtext.proofs as own
+use own.Handed.{handed, line-for}
+use own.list.Statement.{statement}
+use own.list.Tie as tie
 
 abbrev Inv-loop : tie.InvT-loop
 Inv-loop state₀ first log page₀ out₀ at₀ number₀ end₀ state page out at number end =

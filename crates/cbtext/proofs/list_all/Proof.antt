@@ -2,8 +2,9 @@
 use Rattle.laws.proofs.Base.{sym, ap, _∙_, _-_, arith, length, length-take-le, needs, not-false}
 use Rattle.logs.proofs.Turns.{Going, going-start, may-list, goes-higher, turn-told, turn-going}
 use Rattle.cbtext.specs.Paper.{lineOf}
-use Rattle.cbtext.proofs.list_all.Statement.{statement}
-use Rattle.cbtext.proofs.list_all.Tie as tie
+use Rattle.cbtext.proofs.list_all as own
+use own.Statement.{statement}
+use own.Tie as tie
 
 abbrev Inv-loop : tie.InvT-loop
 Inv-loop program name fd state₀ out₀ log₀ page₀ number₀ end₀ state out log page number end = Going lineOf 366592 state out log page number end
@@ -54,16 +55,16 @@ same-length c =
     let l = read k .before .before .before in
     k .list .kept .0 ∙ l .loop .inv .state-size ∙ sym (ap length (l .before .before .before .before .before .pre .0))
 
-same-length-3 : tie.Need-same-length-3 Inv-loop μ-loop
-same-length-3 c = c .before .loop .inv .state-size ∙ sym (ap length (c .before .before .before .before .before .before .pre .0))
-
 pub list-all-spec : {M : Type 1} → statement M
 list-all-spec =
     tie.close
     (tie.spec
-    Inv-loop μ-loop (λ c. going-start lineOf 366592 (c .before .before .before .before .pre) (search needs) (search needs))
-    (λ c κs. search needs) array-share-prefix-log (λ c. sym (length-take-le _ _ (array-share-prefix-log (c .before))))
-    (λ c. search needs) list-requires slice-reshare-prefix-write-chunk
+    Inv-loop μ-loop
+    (λ c. going-start lineOf 366592 (c .before .before .before .before .pre) (search needs) (search needs))
+    (λ c κs. search needs) array-share-prefix-log
+    (λ c. sym (length-take-le _ _ (array-share-prefix-log (c .before)))) (λ c. search needs)
+    list-requires slice-reshare-prefix-write-chunk
     (λ c. sym (length-take-le _ _ (slice-reshare-prefix-write-chunk (c .before))))
     (λ c κs. search needs) same-length (λ c. search needs) returns loop-less loop-again
-    same-length-3 (λ c. search needs) (λ c. c .before .loop .inv .told))
+    (λ c. c .before .loop .inv .state-size ∙ sym (ap length (c .before .before .before .before .before .before .pre .0)))
+    (λ c. search needs) (λ c. c .before .loop .inv .told))

@@ -1,8 +1,9 @@
 -- `cbtext::list_named` is safe: the log's name lies in the memory for it.
 use Rattle.laws.proofs.Base.{sym, ap, arith, length-take-le, needs}
 use Rattle.files.specs.Inner.{named}
-use Rattle.cbtext.proofs.list_named.Statement.{statement}
-use Rattle.cbtext.proofs.list_named.Tie as tie
+use Rattle.cbtext.proofs.list_named as own
+use own.Statement.{statement}
+use own.Tie as tie
 
 array-share-prefix-name : tie.Need-array-share-prefix-name
 array-share-prefix-name c =

@@ -1,8 +1,9 @@
 -- `cbtext::put_answer` meets its contract: only the number 0 has a line.
 use Rattle.laws.proofs.Base.{_%_, arith, needs, eq-eqb, ne-eqb, now}
 use Rattle.lines.proofs.Behind.{puts-none, puts-wider}
-use Rattle.cbtext.proofs.put_answer.Statement.{statement}
-use Rattle.cbtext.proofs.put_answer.Tie as tie
+use Rattle.cbtext.proofs.put_answer as own
+use own.Statement.{statement}
+use own.Tie as tie
 
 returns : tie.Need-returns
 returns c =
@@ -15,8 +16,7 @@ put-page-requires c κs =
     let whole = s .pre .0 (c .before .if1 .left) in
     (whole .0, whole .1, s .pre .1)
 
-returns-2 : tie.Need-returns-2
-returns-2 c = rw (eq-eqb (_ % 256) 0 (c .before .before .before .before .if1 .left)) (c .before .before .put-page .ensures)
-
 pub put-answer-spec : {M : Type 1} → statement M
-put-answer-spec = tie.close (tie.spec returns (λ c. search needs) put-page-requires (λ c. search needs) returns-2)
+put-answer-spec = tie.close (tie.spec
+    returns (λ c. search needs) put-page-requires (λ c. search needs)
+    (λ c. rw (eq-eqb (_ % 256) 0 (c .before .before .before .before .if1 .left)) (c .before .before .put-page .ensures)))

@@ -10,9 +10,10 @@ use Rattle.text_reader.specs.Coded.{readingOf}
 use Rattle.text_reader.specs.declared.Got.{Got}
 use Rattle.lines.proofs.Behind.{puts-wider}
 use Rattle.cbtext.specs.Paper.{hexPart, body}
-use Rattle.cbtext.proofs.Body.{Reads, reads-text, reads-none}
-use Rattle.cbtext.proofs.put_body.Statement.{statement}
-use Rattle.cbtext.proofs.put_body.Tie as tie
+use Rattle.cbtext.proofs as own
+use own.Body.{Reads, reads-text, reads-none}
+use own.put_body.Statement.{statement}
+use own.put_body.Tie as tie
 
 -- the array of code points as it is made
 abbrev zeros : List ℕ
@@ -77,9 +78,6 @@ few c =
     let s = other (c .before) in
     rw (handed c, length-take) (omega (arith, min-le-left (s .args .received - 6) (length (drop 6 (s .args .page .now))), whole-bounds (s .args .received) (s .pre .1)))
 
-put-content-requires : tie.Need-put-content-requires
-put-content-requires c κs = omega (arith, few (c .before), other (c .before .before) .pre .2)
-
 returns-2 : tie.Need-returns-2
 returns-2 c =
     let h = c .before .before .before .before in
@@ -90,5 +88,7 @@ put-body-spec =
     tie.close
     (tie.spec
     (λ c. search needs) (λ c κs. search needs) (λ c. search needs) (λ c. inside (c .before))
-    (λ c. sym (shown-size (c .before .before))) put-text-requires (λ c. search needs) returns (λ c. search needs)
-    (λ c κs. search needs) put-content-requires (λ c. search needs) returns-2)
+    (λ c. sym (shown-size (c .before .before))) put-text-requires (λ c. search needs) returns
+    (λ c. search needs) (λ c κs. search needs)
+    (λ c κs. omega (arith, few (c .before), other (c .before .before) .pre .2)) (λ c. search needs)
+    returns-2)

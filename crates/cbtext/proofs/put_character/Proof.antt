@@ -1,19 +1,14 @@
 -- `cbtext::put_character` meets its contract: the tests that led to each answer decide those of `character`.
 use Rattle.laws.proofs.Base.{arith, length-set, needs}
-use Rattle.cbtext.proofs.Characters.{puts-two, character-lf, character-cr, character-other}
-use Rattle.cbtext.proofs.put_character.Statement.{statement}
-use Rattle.cbtext.proofs.put_character.Tie as tie
-
-slice-write-out-2 : tie.Need-slice-write-out-2
-slice-write-out-2 c = simp length-set (omega arith)
+use Rattle.cbtext.proofs as own
+use own.Characters.{puts-two, character-lf, character-cr, character-other}
+use own.put_character.Statement.{statement}
+use own.put_character.Tie as tie
 
 returns : tie.Need-returns
 returns c =
     let s = c .before .before in
     rw (character-lf (s .args .point) (c .if1 .taken)) (puts-two (s .args .at) (s .args .out .now) (s .pre) 92 110)
-
-slice-write-out-4 : tie.Need-slice-write-out-4
-slice-write-out-4 c = simp length-set (omega arith)
 
 returns-2 : tie.Need-returns-2
 returns-2 c =
@@ -29,7 +24,7 @@ pub put-character-spec : {M : Type 1} → statement M
 put-character-spec =
     tie.close
     (tie.spec
-    (λ c. search needs) (λ c. search needs) slice-write-out-2 (λ c. search needs)
-    (λ c. search needs) returns (λ c. search needs) (λ c. search needs) slice-write-out-4
-    (λ c. search needs) (λ c. search needs) returns-2 (λ c κs. search needs) (λ c. search needs)
-    returns-3)
+    (λ c. search needs) (λ c. search needs) (λ c. simp length-set (omega arith)) (λ c. search needs)
+    (λ c. search needs) returns (λ c. search needs) (λ c. search needs)
+    (λ c. simp length-set (omega arith)) (λ c. search needs) (λ c. search needs) returns-2
+    (λ c κs. search needs) (λ c. search needs) returns-3)

@@ -1,9 +1,10 @@
 -- `cbtext::put_characters` meets its contract. The invariant: the characters so far are put.
 use Rattle.laws.proofs.Base.{_-_, arith, length, needs}
 use Rattle.cbtext.specs.Paper.{character}
-use Rattle.cbtext.proofs.Characters.{Joins, joins-start, joins-turn, joins-end}
-use Rattle.cbtext.proofs.put_characters.Statement.{statement}
-use Rattle.cbtext.proofs.put_characters.Tie as tie
+use Rattle.cbtext.proofs as own
+use own.Characters.{Joins, joins-start, joins-turn, joins-end}
+use own.put_characters.Statement.{statement}
+use own.put_characters.Tie as tie
 
 abbrev Inv-loop : tie.InvT-loop
 Inv-loop points out₀ at i₀ end₀ out i end = Joins character 3 points out₀ out at i end

@@ -1,8 +1,9 @@
 -- `cbtext::put_content` meets its contract: the word is put, and the rest behind it.
 use Rattle.laws.proofs.Base.{arith, needs}
 use Rattle.lines.proofs.Behind.{put-room, put-then}
-use Rattle.cbtext.proofs.put_content.Statement.{statement}
-use Rattle.cbtext.proofs.put_content.Tie as tie
+use Rattle.cbtext.proofs.put_content as own
+use own.Statement.{statement}
+use own.Tie as tie
 
 put-octets-requires : tie.Need-put-octets-requires
 put-octets-requires c κs = let word = c .before .before .before in put-room _ _ _ (word .put .ensures) _ (word .before .before .before .before .before .pre)

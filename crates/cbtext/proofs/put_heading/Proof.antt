@@ -2,9 +2,10 @@
 use Rattle.laws.proofs.Base.{_∙_, needs}
 use Rattle.lines.proofs.Texts.{and-then, and-others}
 use Rattle.cbtext.specs.Paper.{names}
-use Rattle.cbtext.proofs.Body.{header-front}
-use Rattle.cbtext.proofs.put_heading.Statement.{statement}
-use Rattle.cbtext.proofs.put_heading.Tie as tie
+use Rattle.cbtext.proofs as own
+use own.Body.{header-front}
+use own.put_heading.Statement.{statement}
+use own.put_heading.Tie as tie
 
 returns : tie.Need-returns
 returns c =

@@ -2,8 +2,9 @@
 use Rattle.laws.proofs.Base.{needs}
 use Rattle.lines.specs.Paper.{marked}
 use Rattle.lines.proofs.Texts.{and-then, and-last, and-others}
-use Rattle.cbtext.proofs.put_names.Statement.{statement}
-use Rattle.cbtext.proofs.put_names.Tie as tie
+use Rattle.cbtext.proofs.put_names as own
+use own.Statement.{statement}
+use own.Tie as tie
 
 returns : tie.Need-returns
 returns c =

@@ -3,18 +3,16 @@ use Rattle.laws.proofs.Base.{_-_, _+_, _≤_, arith, length, getD, needs}
 use Rattle.lines.specs.Paper.{hexadecimal}
 use Rattle.lines.proofs.Behind.{puts-behind}
 use Rattle.lines.proofs.Numbers.{length-hexadecimal}
-use Rattle.cbtext.proofs.Characters.{Joins, joins-start, joins-turn, joins-end}
-use Rattle.cbtext.proofs.put_octets.Statement.{statement}
-use Rattle.cbtext.proofs.put_octets.Tie as tie
+use Rattle.cbtext.proofs as own
+use own.Characters.{Joins, joins-start, joins-turn, joins-end}
+use own.put_octets.Statement.{statement}
+use own.put_octets.Tie as tie
 
 abbrev Inv-loop : tie.InvT-loop
 Inv-loop content out₀ at i₀ end₀ out i end = Joins (hexadecimal 2) 2 content out₀ out at i end
 
 abbrev μ-loop : tie.MeasureT-loop
 μ-loop content out₀ at i₀ end₀ out i end = length content - i
-
-cast-put-hex : tie.Need-cast-put-hex Inv-loop μ-loop
-cast-put-hex c = omega (arith, c .shared-slice-known2 .given (c .before .before .loop .i) .fits)
 
 loop-again : tie.Need-loop-again Inv-loop μ-loop
 loop-again c =
@@ -30,6 +28,7 @@ pub put-octets-spec : {M : Type 1} → statement M
 put-octets-spec =
     tie.close
     (tie.spec
-    Inv-loop μ-loop (λ c. joins-start) (λ c. search needs) cast-put-hex (λ c κs. search needs)
-    (λ c. search needs) (λ c. search needs) loop-again (λ c. search needs)
+    Inv-loop μ-loop (λ c. joins-start) (λ c. search needs)
+    (λ c. omega (arith, c .shared-slice-known2 .given (c .before .before .loop .i) .fits))
+    (λ c κs. search needs) (λ c. search needs) (λ c. search needs) loop-again (λ c. search needs)
     (λ c. joins-end (c .before .loop .inv) (c .loop-test .left)))

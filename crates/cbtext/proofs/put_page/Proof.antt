@@ -5,9 +5,10 @@ use Rattle.lines.specs.Inner.{Puts}
 use Rattle.lines.proofs.Behind.{puts-none, puts-then, puts-marked}
 use Rattle.lines.proofs.Texts.{puts-all}
 use Rattle.cbtext.specs.Paper.{heading}
-use Rattle.cbtext.proofs.Wide.{heading-wide}
-use Rattle.cbtext.proofs.put_page.Statement.{statement}
-use Rattle.cbtext.proofs.put_page.Tie as tie
+use Rattle.cbtext.proofs as own
+use own.Wide.{heading-wide}
+use own.put_page.Statement.{statement}
+use own.put_page.Tie as tie
 
 abbrev start : tie.After-put-heading → tie.Start
 start c = c .before .before .before .before

@@ -2,8 +2,9 @@
 use Rattle.laws.proofs.Base.{needs}
 use Rattle.lines.specs.Paper.{marked}
 use Rattle.lines.proofs.Texts.{and-last, and-others}
-use Rattle.cbtext.proofs.put_parameter.Statement.{statement}
-use Rattle.cbtext.proofs.put_parameter.Tie as tie
+use Rattle.cbtext.proofs.put_parameter as own
+use own.Statement.{statement}
+use own.Tie as tie
 
 returns : tie.Need-returns
 returns c =

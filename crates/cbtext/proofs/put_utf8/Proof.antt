@@ -1,28 +1,20 @@
 -- `cbtext::put_utf8` meets its contract: the tests that led to each answer decide those of `utf8`.
 use Rattle.laws.proofs.Base.{_+_, _/_, _%_, arith, length-set, needs}
-use Rattle.cbtext.proofs.Characters.{puts-one, puts-two, puts-three, utf8-one, utf8-two, utf8-three}
-use Rattle.cbtext.proofs.put_utf8.Statement.{statement}
-use Rattle.cbtext.proofs.put_utf8.Tie as tie
+use Rattle.cbtext.proofs as own
+use own.Characters.{puts-one, puts-two, puts-three, utf8-one, utf8-two, utf8-three}
+use own.put_utf8.Statement.{statement}
+use own.put_utf8.Tie as tie
 
 returns : tie.Need-returns
 returns c =
     let a = c .before .args in
     rw (utf8-one (a .point) (c .if1 .taken)) (puts-one (a .at) (a .out .now) (c .before .pre) (a .point))
 
-slice-write-out-3 : tie.Need-slice-write-out-3
-slice-write-out-3 c = simp length-set (omega arith)
-
 returns-2 : tie.Need-returns-2
 returns-2 c =
     let a = c .before .before .args in
     let p = a .point in
     rw (utf8-two p (c .before .if1 .left) (c .if2 .taken)) (puts-two (a .at) (a .out .now) (c .before .before .pre) (0xc0 + p / 64) (0x80 + p % 64))
-
-slice-write-out-5 : tie.Need-slice-write-out-5
-slice-write-out-5 c = simp length-set (omega arith)
-
-slice-write-out-6 : tie.Need-slice-write-out-6
-slice-write-out-6 c = simp length-set (omega arith)
 
 returns-3 : tie.Need-returns-3
 returns-3 c =
@@ -36,8 +28,8 @@ put-utf8-spec =
     (tie.spec
     (λ c. search needs) (λ c. search needs) (λ c. search needs) (λ c. search needs) returns
     (λ c. search needs) (λ c. search needs) (λ c. search needs) (λ c. search needs)
-    (λ c. search needs) (λ c. search needs) slice-write-out-3 (λ c. search needs)
+    (λ c. search needs) (λ c. search needs) (λ c. simp length-set (omega arith)) (λ c. search needs)
     (λ c. search needs) returns-2 (λ c. search needs) (λ c. search needs) (λ c. search needs)
-    (λ c. search needs) (λ c. search needs) (λ c. search needs) slice-write-out-5
-    (λ c. search needs) (λ c. search needs) (λ c. search needs) slice-write-out-6
+    (λ c. search needs) (λ c. search needs) (λ c. search needs) (λ c. simp length-set (omega arith))
+    (λ c. search needs) (λ c. search needs) (λ c. search needs) (λ c. simp length-set (omega arith))
     (λ c. search needs) (λ c. search needs) returns-3)

@@ -1,9 +1,10 @@
 -- `cbwrite::begin_of` meets its contract. The invariant: the number so far is capped, and the octets left are read on from it.
 use Rattle.laws.proofs.Base.{_≡_, sym, _∙_, _-_, _≤_, arith, length, drop, needs}
 use Rattle.cbwrite.specs.Inner.{typed, typedOn}
-use Rattle.cbwrite.proofs.Typed.{typed-none, typed-some, typed-end, typed-low, typed-high, typed-digit}
-use Rattle.cbwrite.proofs.begin_of.Statement.{statement}
-use Rattle.cbwrite.proofs.begin_of.Tie as tie
+use Rattle.cbwrite.proofs as own
+use own.Typed.{typed-none, typed-some, typed-end, typed-low, typed-high, typed-digit}
+use own.begin_of.Statement.{statement}
+use own.begin_of.Tie as tie
 
 abbrev Inv-loop : tie.InvT-loop
 Inv-loop digits number₀ i₀ number i = (number ≤ 1000) × (typed digits ≡ typedOn number (drop i digits))

@@ -1,9 +1,10 @@
 -- `cbwrite::compose` meets its contract: the schedule writer's answer decides.
 use Rattle.laws.proofs.Base.{_∙_, needs}
 use Rattle.plan.specs.Coded.{planOf}
-use Rattle.cbwrite.proofs.Composed.{written-composed, refused-composed}
-use Rattle.cbwrite.proofs.compose.Statement.{statement}
-use Rattle.cbwrite.proofs.compose.Tie as tie
+use Rattle.cbwrite.proofs as own
+use own.Composed.{written-composed, refused-composed}
+use own.compose.Statement.{statement}
+use own.compose.Tie as tie
 
 returns : tie.Need-returns
 returns c =

@@ -3,9 +3,10 @@ use Rattle.laws.proofs.Base.{sym, ap, _∙_, needs}
 use Rattle.refusals.proofs.Inverse.{numberOf-positive}
 use Rattle.plan.specs.Coded.{verdictOf}
 use Rattle.checker_plans.specs.Coded.{plansOf}
-use Rattle.checker.proofs.Answers.{plans-refused, plans-good}
-use Rattle.checker.proofs.check_beside.Statement.{statement}
-use Rattle.checker.proofs.check_beside.Tie as tie
+use Rattle.checker.proofs as own
+use own.Answers.{plans-refused, plans-good}
+use own.check_beside.Statement.{statement}
+use own.check_beside.Tie as tie
 
 returns : tie.Need-returns
 returns c =

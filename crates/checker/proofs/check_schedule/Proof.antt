@@ -3,9 +3,10 @@ use Rattle.laws.proofs.Base.{ap, _∙_, needs}
 use Rattle.plan.specs.Coded.{planOf}
 use Rattle.checker_plans.specs.Inner.{Plans}
 use Rattle.checker.specs.Inner.{checkBeside}
-use Rattle.checker.proofs.Telling.{check-beside}
-use Rattle.checker.proofs.check_schedule.Statement.{statement}
-use Rattle.checker.proofs.check_schedule.Tie as tie
+use Rattle.checker.proofs as own
+use own.Telling.{check-beside}
+use own.check_schedule.Statement.{statement}
+use own.check_schedule.Tie as tie
 
 returns : tie.Need-returns
 returns c =

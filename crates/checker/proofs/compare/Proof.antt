@@ -1,8 +1,9 @@
 -- `checker::compare` meets its contract: each answer is told from the places of the message's descriptions.
 use Rattle.laws.proofs.Base.{arith, needs}
-use Rattle.checker.proofs.Comparing.{found-refused, found-last, found-differs, found-true, found-untrue}
-use Rattle.checker.proofs.compare.Statement.{statement}
-use Rattle.checker.proofs.compare.Tie as tie
+use Rattle.checker.proofs as own
+use own.Comparing.{found-refused, found-last, found-differs, found-true, found-untrue}
+use own.compare.Statement.{statement}
+use own.compare.Tie as tie
 
 returns : tie.Need-returns
 returns c =

@@ -6,8 +6,9 @@ use Rattle.plan_slots.specs.Coded.{plannedOf}
 use Rattle.plan_slots.specs.Inner.{nothing}
 use Rattle.checker_slots.specs.Paper.{trueBy}
 use Rattle.checker.specs.Coded.{untrueBy}
-use Rattle.checker.proofs.first_untrue.Statement.{statement}
-use Rattle.checker.proofs.first_untrue.Tie as tie
+use Rattle.checker.proofs.first_untrue as own
+use own.Statement.{statement}
+use own.Tie as tie
 
 abbrev Inv-loop : tie.InvT-loop
 Inv-loop message count all places i₀ i = (i ≤ count) × ((k : ℕ) → k < i → untrueBy all message places k ≡ false)

@@ -2,9 +2,10 @@
 use Rattle.laws.proofs.Base.{sym, ap, _∙_, needs}
 use Rattle.refusals.proofs.Inverse.{numberOf-positive}
 use Rattle.plan.specs.Coded.{planOf, verdictOf}
-use Rattle.checker_plans.proofs.Answers.{current-refused, previous-refused, empty-refused, good-said}
-use Rattle.checker_plans.proofs.beside.Statement.{statement}
-use Rattle.checker_plans.proofs.beside.Tie as tie
+use Rattle.checker_plans.proofs as own
+use own.Answers.{current-refused, previous-refused, empty-refused, good-said}
+use own.beside.Statement.{statement}
+use own.beside.Tie as tie
 
 returns : tie.Need-returns
 returns c =

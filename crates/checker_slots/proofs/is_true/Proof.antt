@@ -1,7 +1,8 @@
 -- `checker_slots::is_true` meets its contract: the description decides, and else the new bit.
 use Rattle.laws.proofs.Base.{sym, _∙_, not-true, not-false, needs}
-use Rattle.checker_slots.proofs.is_true.Statement.{statement}
-use Rattle.checker_slots.proofs.is_true.Tie as tie
+use Rattle.checker_slots.proofs.is_true as own
+use own.Statement.{statement}
+use own.Tie as tie
 
 returns : tie.Need-returns
 returns c =

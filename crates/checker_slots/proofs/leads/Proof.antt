@@ -1,7 +1,8 @@
 -- `checker_slots::leads` meets its contract: another kind decides it, and else the lowest slot.
 use Rattle.laws.proofs.Base.{eq-eqb, ne-eqb}
-use Rattle.checker_slots.proofs.leads.Statement.{statement}
-use Rattle.checker_slots.proofs.leads.Tie as tie
+use Rattle.checker_slots.proofs.leads as own
+use own.Statement.{statement}
+use own.Tie as tie
 
 pub leads-spec : {M : Type 1} → statement M
 leads-spec =

@@ -1,7 +1,8 @@
 -- `checker_slots::may_tell` meets its contract: each description by the tests that led to its answer.
 use Rattle.laws.proofs.Base.{sym, _∙_, eq-eqb, ne-eqb, not-true, not-false, needs}
-use Rattle.checker_slots.proofs.may_tell.Statement.{statement}
-use Rattle.checker_slots.proofs.may_tell.Tie as tie
+use Rattle.checker_slots.proofs.may_tell as own
+use own.Statement.{statement}
+use own.Tie as tie
 
 returns : tie.Need-returns
 returns c =
@@ -25,16 +26,15 @@ returns-6 c =
     let e = sym (b .repeats .ensures) ∙ not-false (b .repeats .result) (c .before .if2 .left) in
     rw (b .before .before .description2 .given .1, e)
 
-returns-7 : tie.Need-returns-7
-returns-7 c = rw (c .before .before .before .enum-told .given .1, ne-eqb _ _ (c .before .if3 .left)) (c .repeats2 .ensures)
-
 pub may-tell-spec : {M : Type 1} → statement M
 may-tell-spec =
     tie.close
     (tie.spec
-    (λ c. search needs) (λ c κs. search needs) returns (λ c. search needs) (λ c κs. search needs) returns-2
-    (λ c. search needs) (λ c. search needs)
-    (λ c. rw (c .before .before .enum-told .given .1, eq-eqb _ _ (c .if3 .taken))) (λ c κs. search needs)
-    (λ c. search needs) (λ c. rw (c .before .before .enum-told2 .given .1, eq-eqb _ _ (c .if4 .taken)))
-    returns-5 returns-6 returns-7
+    (λ c. search needs) (λ c κs. search needs) returns (λ c. search needs) (λ c κs. search needs)
+    returns-2 (λ c. search needs) (λ c. search needs)
+    (λ c. rw (c .before .before .enum-told .given .1, eq-eqb _ _ (c .if3 .taken)))
+    (λ c κs. search needs) (λ c. search needs)
+    (λ c. rw (c .before .before .enum-told2 .given .1, eq-eqb _ _ (c .if4 .taken))) returns-5
+    returns-6
+    (λ c. rw (c .before .before .before .enum-told .given .1, ne-eqb _ _ (c .before .if3 .left)) (c .repeats2 .ensures))
     (λ c. rw (c .before .before .before .enum-told2 .given .1, ne-eqb _ _ (c .before .if4 .left))))

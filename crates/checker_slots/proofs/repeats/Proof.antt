@@ -1,7 +1,8 @@
 -- `checker_slots::repeats` meets its contract: another kind decides it, and else the lowest slot.
 use Rattle.laws.proofs.Base.{eq-eqb, ne-eqb}
-use Rattle.checker_slots.proofs.repeats.Statement.{statement}
-use Rattle.checker_slots.proofs.repeats.Tie as tie
+use Rattle.checker_slots.proofs.repeats as own
+use own.Statement.{statement}
+use own.Tie as tie
 
 pub repeats-spec : {M : Type 1} → statement M
 repeats-spec =

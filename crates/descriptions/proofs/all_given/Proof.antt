@@ -1,18 +1,16 @@
 -- `descriptions::all_given` meets its contract. The invariant: the slots given so far stand in their places, and none of the answers was the last.
 use Rattle.laws.proofs.Base.{inl, inr, _≤_, _-_, arith, needs}
-use Rattle.descriptions.proofs.Stepping.{step-gave, step-left}
-use Rattle.descriptions.proofs.Giving.{Gave, gave-none, gave-next, gave-refused, gave-all}
-use Rattle.descriptions.proofs.all_given.Statement.{statement}
-use Rattle.descriptions.proofs.all_given.Tie as tie
+use Rattle.descriptions.proofs as own
+use own.Stepping.{step-gave, step-left}
+use own.Giving.{Gave, gave-none, gave-next, gave-refused, gave-all}
+use own.all_given.Statement.{statement}
+use own.all_given.Tie as tie
 
 abbrev Inv-loop : tie.InvT-loop
 Inv-loop message received slots₀ place₀ slots place = (place ≤ 48) × Gave message received place slots
 
 abbrev μ-loop : tie.MeasureT-loop
 μ-loop message received slots₀ place₀ slots place = 48 - place
-
-loop-holds : tie.Need-loop-holds Inv-loop μ-loop
-loop-holds c = (omega arith, gave-none (c .before .args .message .now) (c .before .args .received))
 
 returns : tie.Need-returns Inv-loop μ-loop
 returns c =
@@ -57,6 +55,7 @@ pub all-given-spec : {M : Type 1} → statement M
 all-given-spec =
     tie.close
     (tie.spec
-    Inv-loop μ-loop loop-holds (λ c κs. search needs) (λ c. search needs) (λ c. search needs)
-    (λ c. search needs) (λ c. search needs) returns (λ c. search needs) returns-2 loop-less
-    loop-again returns-3)
+    Inv-loop μ-loop
+    (λ c. (omega arith, gave-none (c .before .args .message .now) (c .before .args .received)))
+    (λ c κs. search needs) (λ c. search needs) (λ c. search needs) (λ c. search needs)
+    (λ c. search needs) returns (λ c. search needs) returns-2 loop-less loop-again returns-3)

@@ -44,10 +44,11 @@ use denote.Triple.Walked.{says, Stays, stay-none, stay-none-slice, walkOf, goes-
 use denote.Exit.{yes}
 use denote.Triple.Clauses.{Clauses, ensured, lasts}
 use Rattle.schedule_given.specs.declared.Given.{Given as Answer}
-use Rattle.descriptions.specs.Paper.{stepped, Stepped as Step}
-use Rattle.descriptions.specs.Coded.{steppedOf, Called, calledOf, called}
-use Rattle.descriptions.specs.declared.Descriptions.{Descriptions}
-use Rattle.descriptions.specs.declared.Stepped.{Stepped}
+use Rattle.descriptions.specs as defs
+use defs.Paper.{stepped, Stepped as Step}
+use defs.Coded.{steppedOf, Called, calledOf, called}
+use defs.declared.Descriptions.{Descriptions}
+use defs.declared.Stepped.{Stepped}
 use Rattle.descriptions.proofs.Descriptions.Laws as T′
 use Rattle.descriptions.proofs.Held.{D, L, R, Own, number}
 use Rattle.descriptions.proofs.Stepped as U

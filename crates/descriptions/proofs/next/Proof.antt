@@ -41,10 +41,11 @@ use denote.Triple.Spec.{Meets, tripleOf}
 use denote.Triple.Table.{entered, cited}
 use denote.Triple.Walked.{says, Stays, stay-ref, walkOf, goes-ref, ends-at, walked, walk-meets}
 use denote.Triple.Clauses.{Clauses, ensured, lasts}
-use Rattle.descriptions.specs.Paper.{stepped, Stepped as Step}
-use Rattle.descriptions.specs.Coded.{steppedOf, leaves}
-use Rattle.descriptions.specs.declared.Descriptions.{Descriptions}
-use Rattle.descriptions.specs.declared.Stepped.{Stepped}
+use Rattle.descriptions.specs as defs
+use defs.Paper.{stepped, Stepped as Step}
+use defs.Coded.{steppedOf, leaves}
+use defs.declared.Descriptions.{Descriptions}
+use defs.declared.Stepped.{Stepped}
 use Rattle.descriptions.proofs.Descriptions as T
 use Rattle.descriptions.proofs.Descriptions.Laws as T′
 use Rattle.descriptions.proofs.Held.{D, L, R, Own, number}

@@ -1,8 +1,9 @@
 -- `descriptions::step_at` meets its contract: it gives what `description_at` gives, and passes what `passed` says.
 use Rattle.laws.proofs.Base.{needs}
-use Rattle.descriptions.proofs.Stepping.{step-fits, step-made}
-use Rattle.descriptions.proofs.step_at.Statement.{statement}
-use Rattle.descriptions.proofs.step_at.Tie as tie
+use Rattle.descriptions.proofs as own
+use own.Stepping.{step-fits, step-made}
+use own.step_at.Statement.{statement}
+use own.step_at.Tie as tie
 
 add-t6 : tie.Need-add-t6
 add-t6 c =

@@ -1,7 +1,8 @@
 -- `files::fill` meets its contract. The invariant: no more than the memory is filled.
 use Rattle.laws.proofs.Base.{_≡_, _-_, _≤_, length, needs}
-use Rattle.files.proofs.fill.Statement.{statement}
-use Rattle.files.proofs.fill.Tie as tie
+use Rattle.files.proofs.fill as own
+use own.Statement.{statement}
+use own.Tie as tie
 
 abbrev Inv-loop : tie.InvT-loop
 Inv-loop program name fd memory₀ have₀ memory have = (have ≤ length memory₀) × (length memory ≡ length memory₀)

@@ -1,15 +1,14 @@
 -- `files::open_log` meets its contract: the name is put within the memory for it.
 use Rattle.laws.proofs.Base.{arith, needs}
 use Rattle.lines.proofs.Behind.{ends-inside}
-use Rattle.files.proofs.open_log.Statement.{statement}
-use Rattle.files.proofs.open_log.Tie as tie
-
-returns-2 : tie.Need-returns-2
-returns-2 c = ends-inside _ _ _ (omega arith) (c .before .before .put .ensures)
+use Rattle.files.proofs.open_log as own
+use own.Statement.{statement}
+use own.Tie as tie
 
 pub open-log-spec : {M : Type 1} → statement M
 open-log-spec =
     tie.close
     (tie.spec
     (λ c κs. search needs) (λ c κs. search needs) (λ c. search needs) (λ c. search needs)
-    (λ c. search needs) (λ c κs. search needs) (λ c. search needs) returns-2)
+    (λ c. search needs) (λ c κs. search needs) (λ c. search needs)
+    (λ c. ends-inside _ _ _ (omega arith) (c .before .before .put .ensures)))

@@ -2,8 +2,9 @@
 use Rattle.laws.proofs.Base.{needs}
 use Rattle.lines.specs.Paper.{ascii}
 use Rattle.lines.proofs.Texts.{and-then, and-last}
-use Rattle.files.proofs.put_fault.Statement.{statement}
-use Rattle.files.proofs.put_fault.Tie as tie
+use Rattle.files.proofs.put_fault as own
+use own.Statement.{statement}
+use own.Tie as tie
 
 returns : tie.Need-returns
 unfolding ascii

@@ -1,8 +1,9 @@
 -- `firmware::add` meets its contract: a block that is only taken leaves the output, the last one fills it.
 use Rattle.laws.proofs.Base.{_∙_, _+_, _≤_, zero-add, arith, length, needs, eq-eqb, ne-eqb, not-true, not-false}
-use Rattle.firmware.proofs.Lent.{set-front, taken-over, complete-over}
-use Rattle.firmware.proofs.add.Statement.{statement}
-use Rattle.firmware.proofs.add.Tie as tie
+use Rattle.firmware.proofs as own
+use own.Lent.{set-front, taken-over, complete-over}
+use own.add.Statement.{statement}
+use own.add.Tie as tie
 
 returns : tie.Need-returns
 returns c =

@@ -1,8 +1,9 @@
 -- `firmware::cb_intake` meets its contract: the lengths are refused in order, and the rest is `take_in`'s.
 use Rattle.laws.proofs.Base.{needs, eq-eqb, ne-eqb}
 use Rattle.firmware.specs.Paper.{intakeCall}
-use Rattle.firmware.proofs.cb_intake.Statement.{statement}
-use Rattle.firmware.proofs.cb_intake.Tie as tie
+use Rattle.firmware.proofs.cb_intake as own
+use own.Statement.{statement}
+use own.Tie as tie
 
 returns : tie.Need-returns
 unfolding intakeCall

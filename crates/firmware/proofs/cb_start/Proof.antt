@@ -1,8 +1,9 @@
 -- `firmware::cb_start` meets its contract.
 use Rattle.laws.proofs.Base.{needs, eq-eqb, ne-eqb}
 use Rattle.firmware.specs.Paper.{startCall}
-use Rattle.firmware.proofs.cb_start.Statement.{statement}
-use Rattle.firmware.proofs.cb_start.Tie as tie
+use Rattle.firmware.proofs.cb_start as own
+use own.Statement.{statement}
+use own.Tie as tie
 
 returns : tie.Need-returns
 unfolding startCall

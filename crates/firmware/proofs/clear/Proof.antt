@@ -1,11 +1,11 @@
 -- `firmware::clear` meets its contract.
 use Rattle.laws.proofs.Base.{needs}
-use Rattle.firmware.proofs.clear.Statement.{statement}
-use Rattle.firmware.proofs.clear.Tie as tie
-
-returns : tie.Need-returns
-returns c = rw (c .before .before .fill .ensures, c .before .before .before .before .before .pre)
+use Rattle.firmware.proofs.clear as own
+use own.Statement.{statement}
+use own.Tie as tie
 
 pub clear-spec : {M : Type 1} → statement M
 clear-spec =
-    tie.close (tie.spec (λ c κs. search needs) (λ c. search needs) (λ c. search needs) (λ c. search needs) returns)
+    tie.close (tie.spec
+    (λ c κs. search needs) (λ c. search needs) (λ c. search needs) (λ c. search needs)
+    (λ c. rw (c .before .before .fill .ensures, c .before .before .before .before .before .pre)))

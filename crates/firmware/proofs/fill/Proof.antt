@@ -1,8 +1,9 @@
 -- `firmware::fill` meets its contract. The invariant: the octets so far are the given one, and the rest is as it was.
 use Rattle.laws.proofs.Base.{_≡_, _++_, append-nil, _-_, _≤_, _<_, arith, length, drop, replicate, length-set, drop-length, needs}
 use borrow.Author.Fill.{fill-none, fill-more}
-use Rattle.firmware.proofs.fill.Statement.{statement}
-use Rattle.firmware.proofs.fill.Tie as tie
+use Rattle.firmware.proofs.fill as own
+use own.Statement.{statement}
+use own.Tie as tie
 
 abbrev Inv-loop : tie.InvT-loop
 Inv-loop memory₀ octet i₀ memory i =
@@ -10,9 +11,6 @@ Inv-loop memory₀ octet i₀ memory i =
 
 abbrev μ-loop : tie.MeasureT-loop
 μ-loop memory₀ octet i₀ memory i = length memory₀ - i
-
-loop-holds : tie.Need-loop-holds Inv-loop μ-loop
-loop-holds c = (omega arith, fill-none (c .args .memory .now) (c .args .octet), search needs)
 
 loop-again : tie.Need-loop-again Inv-loop μ-loop
 loop-again c =
@@ -24,9 +22,6 @@ loop-again c =
       simp length-set (l .inv .2),
     )
 
-same-length : tie.Need-same-length Inv-loop μ-loop
-same-length c = c .before .loop .inv .2
-
 returns : tie.Need-returns Inv-loop μ-loop
 returns c =
     let l = c .before .loop in
@@ -37,4 +32,8 @@ returns c =
 pub fill-spec : {M : Type 1} → statement M
 fill-spec =
     tie.close
-    (tie.spec Inv-loop μ-loop loop-holds (λ c. search needs) (λ c. search needs) (λ c. search needs) loop-again same-length returns)
+    (tie.spec
+    Inv-loop μ-loop
+    (λ c. (omega arith, fill-none (c .args .memory .now) (c .args .octet), search needs))
+    (λ c. search needs) (λ c. search needs) (λ c. search needs) loop-again
+    (λ c. c .before .loop .inv .2) returns)

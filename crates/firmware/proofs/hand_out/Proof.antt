@@ -1,8 +1,9 @@
 -- `firmware::hand_out` meets its contract.
 use Rattle.laws.proofs.Base.{needs}
 use Rattle.block.proofs.Filled.{copied-rest}
-use Rattle.firmware.proofs.hand_out.Statement.{statement}
-use Rattle.firmware.proofs.hand_out.Tie as tie
+use Rattle.firmware.proofs.hand_out as own
+use own.Statement.{statement}
+use own.Tie as tie
 
 returns : tie.Need-returns
 returns c =

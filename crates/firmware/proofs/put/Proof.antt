@@ -1,9 +1,10 @@
 -- `firmware::put` meets its contract.
 use Rattle.laws.proofs.Base.{refl, needs}
 use Rattle.block.proofs.Filled.{copied-rest}
-use Rattle.firmware.proofs.Lent.{put-content}
-use Rattle.firmware.proofs.put.Statement.{statement}
-use Rattle.firmware.proofs.put.Tie as tie
+use Rattle.firmware.proofs as own
+use own.Lent.{put-content}
+use own.put.Statement.{statement}
+use own.put.Tie as tie
 
 returns : tie.Need-returns
 returns c =

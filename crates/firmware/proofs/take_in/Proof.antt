@@ -7,9 +7,10 @@ use Rattle.block.specs.Coded.{placed}
 use Rattle.block.proofs.Filled.{rest-of}
 use Rattle.block.proofs.Steps.{met, step-improper, adds-first, adds-next}
 use Rattle.firmware.specs.Paper.{IntakeLeft, heldIn, moved}
-use Rattle.firmware.proofs.Lent.{refused-over, moved-step}
-use Rattle.firmware.proofs.take_in.Statement.{statement}
-use Rattle.firmware.proofs.take_in.Tie as tie
+use Rattle.firmware.proofs as own
+use own.Lent.{refused-over, moved-step}
+use own.take_in.Statement.{statement}
+use own.take_in.Tie as tie
 
 returns : tie.Need-returns
 returns c =

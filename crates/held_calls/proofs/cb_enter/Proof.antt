@@ -1,11 +1,11 @@
 -- `held_calls::cb_enter` meets its contract: the set with the slot entered that the board gives.
 use Rattle.laws.proofs.Base.{ap, _∙_, needs}
 use Rattle.board_held.specs.Paper.{enter}
-use Rattle.held_calls.proofs.cb_enter.Statement.{statement}
-use Rattle.held_calls.proofs.cb_enter.Tie as tie
-
-returns : tie.Need-returns
-returns c = c .with .ensures ∙ ap (enter (c .before .before .before .args .held)) (c .before .entered-under-on .ensures)
+use Rattle.held_calls.proofs.cb_enter as own
+use own.Statement.{statement}
+use own.Tie as tie
 
 pub cb-enter-spec : {M : Type 1} → statement M
-cb-enter-spec = tie.close (tie.spec (λ c κs. search needs) (λ c κs. search needs) returns)
+cb-enter-spec = tie.close (tie.spec
+    (λ c κs. search needs) (λ c κs. search needs)
+    (λ c. c .with .ensures ∙ ap (enter (c .before .before .before .args .held)) (c .before .entered-under-on .ensures)))

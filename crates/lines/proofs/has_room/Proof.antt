@@ -1,8 +1,9 @@
 -- `lines::has_room` meets its contract: what fits behind a place is what is left of the memory there.
 use Rattle.laws.proofs.Base.{_+_, _<_, sym, arith, lt-leb}
-use Rattle.lines.proofs.Behind.{fits-left}
-use Rattle.lines.proofs.has_room.Statement.{statement}
-use Rattle.lines.proofs.has_room.Tie as tie
+use Rattle.lines.proofs as own
+use own.Behind.{fits-left}
+use own.has_room.Statement.{statement}
+use own.has_room.Tie as tie
 
 returns : tie.Need-returns
 returns c =

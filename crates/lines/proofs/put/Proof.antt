@@ -1,8 +1,9 @@
 -- `lines::put` meets its contract: octets that fit are copied over the part that is lent for them.
 use Rattle.laws.proofs.Base.{refl, sym, _∙_, _+_, _≤_, _<_, arith, length, needs, leb-true, leb-false, not-true, not-false}
-use Rattle.lines.proofs.Behind.{behind-full, behind-copy}
-use Rattle.lines.proofs.put.Statement.{statement}
-use Rattle.lines.proofs.put.Tie as tie
+use Rattle.lines.proofs as own
+use own.Behind.{behind-full, behind-copy}
+use own.put.Statement.{statement}
+use own.put.Tie as tie
 
 abbrev start : tie.After-has-room → tie.Start
 start c = c .before .before .before
@@ -17,12 +18,6 @@ returns c =
     let over : length (a .text .now) < a .at + length (a .octets .now) = leb-false _ _ (sym (c .before .has-room .ensures) ∙ not-true _ (c .if1 .taken)) in
     sym (behind-full (a .octets .now) (a .at) (a .text .now) over)
 
-add-end : tie.Need-add-end
-add-end c = omega (arith, room c)
-
-part-copy-end : tie.Need-part-copy-end
-part-copy-end c = omega (arith, room c)
-
 returns-2 : tie.Need-returns-2
 returns-2 c =
     let b = c .before .before .before .before in
@@ -34,5 +29,6 @@ pub put-spec : {M : Type 1} → statement M
 put-spec =
     tie.close
     (tie.spec
-    (λ c κs. search needs) returns add-end (λ c. search needs) (λ c. search needs) part-copy-end
-    (λ c κs. search needs) (λ c. search needs) returns-2)
+    (λ c κs. search needs) returns (λ c. omega (arith, room c)) (λ c. search needs)
+    (λ c. search needs) (λ c. omega (arith, room c)) (λ c κs. search needs) (λ c. search needs)
+    returns-2)

@@ -1,10 +1,11 @@
 -- `lines::put_hex` meets its contract. The invariant: the digits so far stand at their place, and those left are the rest's.
 use Rattle.laws.proofs.Base.{_≡_, refl, sym, _∙_, _+_, _≤_, _<_, arith, length, needs, leb-true, leb-false, not-true, not-false}
 use Rattle.lines.specs.Paper.{hexadecimal}
-use Rattle.lines.proofs.Behind.{behind-full}
-use Rattle.lines.proofs.Numbers.{Written, written-turn, written-end, length-hexadecimal}
-use Rattle.lines.proofs.put_hex.Statement.{statement}
-use Rattle.lines.proofs.put_hex.Tie as tie
+use Rattle.lines.proofs as own
+use own.Behind.{behind-full}
+use own.Numbers.{Written, written-turn, written-end, length-hexadecimal}
+use own.put_hex.Statement.{statement}
+use own.put_hex.Tie as tie
 
 abbrev Inv-loop : tie.InvT-loop
 Inv-loop number count text₀ at i₀ rest₀ text i rest = Written number count at text₀ text i rest
@@ -26,24 +27,12 @@ returns c =
     let long : length (a .text .now) < a .at + length (hexadecimal (a .count) (a .number)) = rw (length-hexadecimal (a .count) (a .number)) over in
     sym (behind-full (hexadecimal (a .count) (a .number)) (a .at) (a .text .now) long)
 
-loop-holds : tie.Need-loop-holds Inv-loop μ-loop
-loop-holds c = record { size = refl; few = omega arith; front = refl; back = refl }
-
-add-text : tie.Need-add-text Inv-loop μ-loop
-add-text c = omega (arith, room (c .before .before .before), c .before .before .loop .inv .few)
-
-slice-write-text : tie.Need-slice-write-text Inv-loop μ-loop
-slice-write-text c = omega (arith, room (c .before .before .before), c .before .before .loop .inv .few, c .before .before .loop .inv .size)
-
 loop-again : tie.Need-loop-again Inv-loop μ-loop
 loop-again c =
     let l = c .before .before .loop in
     let a = c .before .before .before .before .before .before .args in
     rw (c .hex-digit .ensures)
     (written-turn (a .number) (a .count) (a .at) (a .text .now) (l .text) (room (c .before .before .before)) (l .i) (l .rest) (l .inv) (c .before .loop-test .taken))
-
-add-result : tie.Need-add-result Inv-loop μ-loop
-add-result c = omega (arith, room (c .before .before))
 
 returns-2 : tie.Need-returns-2 Inv-loop μ-loop
 returns-2 c =
@@ -56,6 +45,10 @@ pub put-hex-spec : {M : Type 1} → statement M
 put-hex-spec =
     tie.close
     (tie.spec
-    Inv-loop μ-loop (λ c κs. search needs) returns loop-holds (λ c. search needs)
-    (λ c. search needs) (λ c κs. search needs) add-text slice-write-text (λ c. search needs)
-    loop-again add-result (λ c. search needs) returns-2)
+    Inv-loop μ-loop (λ c κs. search needs) returns
+    (λ c. record { size = refl; few = omega arith; front = refl; back = refl }) (λ c. search needs)
+    (λ c. search needs) (λ c κs. search needs)
+    (λ c. omega (arith, room (c .before .before .before), c .before .before .loop .inv .few))
+    (λ c. omega (arith, room (c .before .before .before), c .before .before .loop .inv .few, c .before .before .loop .inv .size))
+    (λ c. search needs) loop-again (λ c. omega (arith, room (c .before .before)))
+    (λ c. search needs) returns-2)

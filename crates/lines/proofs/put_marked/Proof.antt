@@ -1,8 +1,9 @@
 -- `lines::put_marked` meets its contract: two texts, one behind the other.
 use Rattle.laws.proofs.Base.{needs}
-use Rattle.lines.proofs.Texts.{and-then, and-last}
-use Rattle.lines.proofs.put_marked.Statement.{statement}
-use Rattle.lines.proofs.put_marked.Tie as tie
+use Rattle.lines.proofs as own
+use own.Texts.{and-then, and-last}
+use own.put_marked.Statement.{statement}
+use own.put_marked.Tie as tie
 
 returns : tie.Need-returns
 returns c =

@@ -1,9 +1,10 @@
 -- `lines::put_number` meets its contract: the fewest digits of a number are its decimal.
 use Rattle.laws.proofs.Base.{ap, _∙_, List, ℕ, _≤_, needs}
 use Rattle.lines.specs.Paper.{behind}
-use Rattle.lines.proofs.Numbers.{spelled-digits, twenty-digits}
-use Rattle.lines.proofs.put_number.Statement.{statement}
-use Rattle.lines.proofs.put_number.Tie as tie
+use Rattle.lines.proofs as own
+use own.Numbers.{spelled-digits, twenty-digits}
+use own.put_number.Statement.{statement}
+use own.put_number.Tie as tie
 
 -- the digits are few
 few : (c : tie.After-decimal) → c .decimal .result ≤ 20

@@ -1,9 +1,10 @@
 -- `logs::chunk_of` meets its contract, and what is numbered lies in the memory.
 use Rattle.laws.proofs.Base.{sym, ap, arith, length-take-le, needs}
 use Rattle.files.specs.Inner.{filled}
-use Rattle.logs.proofs.Read.{chunk-octets, chunk-fault}
-use Rattle.logs.proofs.chunk_of.Statement.{statement}
-use Rattle.logs.proofs.chunk_of.Tie as tie
+use Rattle.logs.proofs as own
+use own.Read.{chunk-octets, chunk-fault}
+use own.chunk_of.Statement.{statement}
+use own.chunk_of.Tie as tie
 
 slice-aggregate-moved-on : tie.Need-slice-aggregate-moved-on
 slice-aggregate-moved-on c = sym (length-take-le _ _ (omega (arith, c .before .before .before .before .before .pre, ap filled (c .before .before .got .given .1))))
@@ -11,16 +12,11 @@ slice-aggregate-moved-on c = sym (length-take-le _ _ (omega (arith, c .before .b
 slice-aggregate-moved-on-2 : tie.Need-slice-aggregate-moved-on-2
 slice-aggregate-moved-on-2 c = sym (length-take-le _ _ (omega (arith, c .before .before .before .before .before .pre, ap filled (c .before .before .got2 .given .1))))
 
-returns : tie.Need-returns
-returns c = chunk-octets _ _ _ _ _ _ (c .before .before .before .before .got .given .1) (c .before .moved-on .ensures) (c .ending-of .ensures)
-
-returns-2 : tie.Need-returns-2
-returns-2 c = chunk-fault _ _ _ _ _ (c .before .before .before .got2 .given .1) (c .moved-on2 .ensures)
-
 pub chunk-of-spec : {M : Type 1} → statement M
 chunk-of-spec =
     tie.close
     (tie.spec
     (λ c. search needs) slice-aggregate-moved-on (λ c κs. search needs) (λ c κs. search needs)
     (λ c. search needs) (λ c. search needs) slice-aggregate-moved-on-2 (λ c κs. search needs)
-    returns returns-2)
+    (λ c. chunk-octets _ _ _ _ _ _ (c .before .before .before .before .got .given .1) (c .before .moved-on .ensures) (c .ending-of .ensures))
+    (λ c. chunk-fault _ _ _ _ _ (c .before .before .before .got2 .given .1) (c .moved-on2 .ensures)))

@@ -1,7 +1,8 @@
 -- `logs::ending_of` meets its contract: only a whole chunk has the log go on.
 use Rattle.laws.proofs.Base.{arith, eq-eqb, ne-eqb}
-use Rattle.logs.proofs.ending_of.Statement.{statement}
-use Rattle.logs.proofs.ending_of.Tie as tie
+use Rattle.logs.proofs.ending_of as own
+use own.Statement.{statement}
+use own.Tie as tie
 
 pub ending-of-spec : {M : Type 1} → statement M
 ending-of-spec =

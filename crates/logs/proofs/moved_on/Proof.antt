@@ -1,9 +1,10 @@
 -- `logs::moved_on` meets its contract: the pieces are as many as `cut` makes.
 use Rattle.laws.proofs.Base.{arith, needs}
 use Rattle.logs.specs.Inner.{movedOn}
-use Rattle.logs.proofs.Pieces.{length-cut}
-use Rattle.logs.proofs.moved_on.Statement.{statement}
-use Rattle.logs.proofs.moved_on.Tie as tie
+use Rattle.logs.proofs as own
+use own.Pieces.{length-cut}
+use own.moved_on.Statement.{statement}
+use own.moved_on.Tie as tie
 
 returns : tie.Need-returns
 unfolding movedOn

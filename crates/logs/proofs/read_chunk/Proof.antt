@@ -1,8 +1,9 @@
 -- `logs::read_chunk` meets its contract: the chunk is made of what filling gave.
 use Rattle.laws.proofs.Base.{_≡_, _∙_, arith, length, needs}
-use Rattle.logs.proofs.Read.{chunk-reads}
-use Rattle.logs.proofs.read_chunk.Statement.{statement}
-use Rattle.logs.proofs.read_chunk.Tie as tie
+use Rattle.logs.proofs as own
+use own.Read.{chunk-reads}
+use own.read_chunk.Statement.{statement}
+use own.read_chunk.Tie as tie
 
 returns : tie.Need-returns
 returns c =

@@ -1,8 +1,9 @@
 -- `logs::started` meets its contract: the memory has the length that a start call asks for.
 use Rattle.laws.proofs.Base.{ap, needs}
 use Rattle.firmware.specs.Paper.{Started, startCall}
-use Rattle.logs.proofs.started.Statement.{statement}
-use Rattle.logs.proofs.started.Tie as tie
+use Rattle.logs.proofs.started as own
+use own.Statement.{statement}
+use own.Tie as tie
 
 returns : tie.Need-returns
 unfolding startCall

@@ -3,8 +3,9 @@ use Rattle.laws.proofs.Base.{_≡_, _∙_, List, ℕ, _+_, _-_, _*_, _^_, _≤_
 use Rattle.laws.specs.Radix.{value}
 use Rattle.packing.specs.Inner.{Word}
 use Rattle.laws.proofs.Radix.{value-back, value-drop-lt}
-use Rattle.packing.proofs.number.Statement.{statement}
-use Rattle.packing.proofs.number.Tie as tie
+use Rattle.packing.proofs.number as own
+use own.Statement.{statement}
+use own.Tie as tie
 
 abbrev Inv-loop : tie.InvT-loop
 Inv-loop base list sum₀ i₀ sum i = (i ≤ length list) × (sum ≡ value base (drop i list))

@@ -3,9 +3,10 @@ use Rattle.laws.proofs.Base.{_≡_, refl, sym, ap, _∙_, ℕ, _+_, _*_, _-_, _
 use Rattle.laws.specs.Radix.{value, digits}
 use Rattle.laws.proofs.Radix.{group-turn, group-end}
 use Rattle.laws.proofs.Parts.{length-part}
-use Rattle.packing.proofs.Words.{part-word}
-use Rattle.packing.proofs.pack.Statement.{statement}
-use Rattle.packing.proofs.pack.Tie as tie
+use Rattle.packing.proofs as own
+use own.Words.{part-word}
+use own.pack.Statement.{statement}
+use own.pack.Tie as tie
 
 abbrev Inv-loop : tie.InvT-loop
 Inv-loop septets octets₀ g₀ octets g =

@@ -2,8 +2,9 @@
 use Rattle.laws.proofs.Base.{_≡_, refl, ap, _∙_, _++_, append-nil, ℕ, _≤_, _<_, _-_, _/_, _^_, arith, mod-lt, lt-of-lt-of-le, pow-zero, div-one, needs, now, length, length-set, drop, drop-length}
 use Rattle.laws.specs.Radix.{digits}
 use Rattle.laws.proofs.Radix.{digits-store, div-more}
-use Rattle.packing.proofs.put.Statement.{statement}
-use Rattle.packing.proofs.put.Tie as tie
+use Rattle.packing.proofs.put as own
+use own.Statement.{statement}
+use own.Tie as tie
 
 abbrev Inv-loop : tie.InvT-loop
 Inv-loop word base out₀ rest₀ i₀ out rest i =
@@ -15,9 +16,6 @@ abbrev μ-loop : tie.MeasureT-loop
 loop-holds : tie.Need-loop-holds Inv-loop μ-loop
 unfolding digits
 loop-holds c = (search needs, refl, rw (pow-zero, div-one), refl)
-
-cast-out : tie.Need-cast-out Inv-loop μ-loop
-cast-out c = record { fits = lt-of-lt-of-le (mod-lt (c .before .loop .rest) (c .before .before .pre .0)) (c .before .before .pre .1) }
 
 loop-again : tie.Need-loop-again Inv-loop μ-loop
 loop-again c =
@@ -42,5 +40,7 @@ pub put-spec : {M : Type 1} → statement M
 put-spec =
     tie.close
     (tie.spec
-    Inv-loop μ-loop loop-holds (λ c. search needs) cast-out (λ c. search needs) (λ c. search needs)
-    (λ c. search needs) (λ c. search needs) loop-again (λ c. search needs) returns)
+    Inv-loop μ-loop loop-holds (λ c. search needs)
+    (λ c. record { fits = lt-of-lt-of-le (mod-lt (c .before .loop .rest) (c .before .before .pre .0)) (c .before .before .pre .1) })
+    (λ c. search needs) (λ c. search needs) (λ c. search needs) (λ c. search needs) loop-again
+    (λ c. search needs) returns)

@@ -3,9 +3,10 @@ use Rattle.laws.proofs.Base.{_≡_, refl, ap, _∙_, ℕ, _+_, _*_, _-_, _/_, _
 use Rattle.laws.specs.Radix.{value, digits}
 use Rattle.laws.proofs.Radix.{group-turn, group-end}
 use Rattle.laws.proofs.Parts.{length-part}
-use Rattle.packing.proofs.Words.{part-word}
-use Rattle.packing.proofs.unpack.Statement.{statement}
-use Rattle.packing.proofs.unpack.Tie as tie
+use Rattle.packing.proofs as own
+use own.Words.{part-word}
+use own.unpack.Statement.{statement}
+use own.unpack.Tie as tie
 
 abbrev Inv-loop : tie.InvT-loop
 Inv-loop octets septets₀ groups g₀ septets g =

@@ -2,11 +2,13 @@
 use Rattle.laws.proofs.Base.{_≡_, sym, _∙_, true, _≤_, arith, needs, not-true, not-false, now}
 use Rattle.sizes.specs.Paper.{wholeBlocks}
 use Rattle.sizes.proofs.Received.{whole-bounds}
-use Rattle.page.specs.Paper.{emptyPart, contentPart, handedPart}
-use Rattle.page.specs.Coded.{partOf}
-use Rattle.page.proofs.Received.{refused-length, refused-received, handed}
-use Rattle.page.proofs.content.Statement.{statement}
-use Rattle.page.proofs.content.Tie as tie
+use Rattle.page.specs as defs
+use defs.Paper.{emptyPart, contentPart, handedPart}
+use defs.Coded.{partOf}
+use Rattle.page.proofs as own
+use own.Received.{refused-length, refused-received, handed}
+use own.content.Statement.{statement}
+use own.content.Tie as tie
 
 returns : tie.Need-returns
 unfolding handedPart

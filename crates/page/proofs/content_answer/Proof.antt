@@ -1,9 +1,10 @@
 -- `page::content_answer` meets its contract: each return is the first test that holds.
 use Rattle.laws.proofs.Base.{sym, _∙_, needs, not-true, not-false, now}
 use Rattle.page.specs.Paper.{handedNumber}
-use Rattle.page.proofs.Received.{refused-length, refused-received, handed}
-use Rattle.page.proofs.content_answer.Statement.{statement}
-use Rattle.page.proofs.content_answer.Tie as tie
+use Rattle.page.proofs as own
+use own.Received.{refused-length, refused-received, handed}
+use own.content_answer.Statement.{statement}
+use own.content_answer.Tie as tie
 
 returns : tie.Need-returns
 unfolding handedNumber

@@ -1,8 +1,9 @@
 -- `page::header_octets` meets its contract: the array is made as the paper's list.
 use Rattle.laws.proofs.Base.{refl, needs}
 use Rattle.page.specs.Paper.{headerOctets}
-use Rattle.page.proofs.header_octets.Statement.{statement}
-use Rattle.page.proofs.header_octets.Tie as tie
+use Rattle.page.proofs.header_octets as own
+use own.Statement.{statement}
+use own.Tie as tie
 
 returns : tie.Need-returns
 unfolding headerOctets

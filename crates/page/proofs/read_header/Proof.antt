@@ -1,8 +1,9 @@
 -- `page::read_header` meets its contract: two numbers are each joined of two octets.
 use Rattle.laws.proofs.Base.{needs}
 use Rattle.page.specs.Paper.{header}
-use Rattle.page.proofs.read_header.Statement.{statement}
-use Rattle.page.proofs.read_header.Tie as tie
+use Rattle.page.proofs.read_header as own
+use own.Statement.{statement}
+use own.Tie as tie
 
 returns : tie.Need-returns
 unfolding header

@@ -1,11 +1,9 @@
 -- `page_calls::cb_content` meets its contract: the page room's answer, as a number.
 use Rattle.laws.proofs.Base.{sym, ap, _∙_, needs}
 use Rattle.page.specs.Coded.{numberOfHanding}
-use Rattle.page_calls.proofs.cb_content.Statement.{statement}
-use Rattle.page_calls.proofs.cb_content.Tie as tie
-
-returns : tie.Need-returns
-returns c = sym (ap numberOfHanding (c .enum-told .given .1)) ∙ c .before .before .content-answer .ensures
+use Rattle.page_calls.proofs.cb_content as own
+use own.Statement.{statement}
+use own.Tie as tie
 
 returns-2 : tie.Need-returns-2
 returns-2 c =
@@ -16,4 +14,6 @@ cb-content-spec =
     tie.close
     (tie.spec
     (λ c κs. search needs) (λ c. search needs) (λ c. search needs) (λ c κs. search needs)
-    (λ c. search needs) returns returns-2)
+    (λ c. search needs)
+    (λ c. sym (ap numberOfHanding (c .enum-told .given .1)) ∙ c .before .before .content-answer .ensures)
+    returns-2)

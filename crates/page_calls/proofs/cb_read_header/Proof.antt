@@ -1,11 +1,9 @@
 -- `page_calls::cb_read_header` meets its contract: the header's numbers, packed.
 use Rattle.laws.proofs.Base.{arith, needs}
-use Rattle.page_calls.proofs.Headed.{refuses-header, reads-header}
-use Rattle.page_calls.proofs.cb_read_header.Statement.{statement}
-use Rattle.page_calls.proofs.cb_read_header.Tie as tie
-
-returns : tie.Need-returns
-returns c = refuses-header (c .before .before .before .args .page .now) (c .number .result) (c .number .ensures) (λ e. omega arith)
+use Rattle.page_calls.proofs as own
+use own.Headed.{refuses-header, reads-header}
+use own.cb_read_header.Statement.{statement}
+use own.cb_read_header.Tie as tie
 
 returns-2 : tie.Need-returns-2
 returns-2 c =
@@ -17,8 +15,10 @@ pub cb-read-header-spec : {M : Type 1} → statement M
 cb-read-header-spec =
     tie.close
     (tie.spec
-    (λ c κs. search needs) (λ c. search needs) returns (λ c. search needs) (λ c. search needs)
+    (λ c κs. search needs) (λ c. search needs)
+    (λ c. refuses-header (c .before .before .before .args .page .now) (c .number .result) (c .number .ensures) (λ e. omega arith))
     (λ c. search needs) (λ c. search needs) (λ c. search needs) (λ c. search needs)
-    (λ c κs. search needs) (λ c. search needs) (λ c. search needs) (λ c. search needs)
+    (λ c. search needs) (λ c. search needs) (λ c κs. search needs) (λ c. search needs)
     (λ c. search needs) (λ c. search needs) (λ c. search needs) (λ c. search needs)
-    (λ c. search needs) (λ c. search needs) (λ c. search needs) (λ c. search needs) returns-2)
+    (λ c. search needs) (λ c. search needs) (λ c. search needs) (λ c. search needs)
+    (λ c. search needs) (λ c. search needs) returns-2)

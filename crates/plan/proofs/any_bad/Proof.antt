@@ -2,11 +2,13 @@
 use Rattle.laws.proofs.Base.{_≡_, refl, sym, ap, _∙_, false, _-_, _≤_, _<_, length, take, arith, needs}
 use Rattle.laws.specs.Search.{some}
 use Rattle.laws.proofs.Search.{some-turn, some-found}
-use Rattle.plan.specs.Paper.{free, bad}
-use Rattle.plan.specs.Coded.{entriesOf}
-use Rattle.plan.proofs.Entries.{inside, entry-at}
-use Rattle.plan.proofs.any_bad.Statement.{statement}
-use Rattle.plan.proofs.any_bad.Tie as tie
+use Rattle.plan.specs as defs
+use defs.Paper.{free, bad}
+use defs.Coded.{entriesOf}
+use Rattle.plan.proofs as own
+use own.Entries.{inside, entry-at}
+use own.any_bad.Statement.{statement}
+use own.any_bad.Tie as tie
 
 abbrev Inv-loop : tie.InvT-loop
 Inv-loop count entries i₀ i = (i ≤ count) × (some bad (take i (entriesOf entries)) ≡ false)

@@ -1,9 +1,11 @@
 -- `plan::is_bad` meets its contract: the first test that holds decides.
 use Rattle.laws.proofs.Base.{_≡_, sym, not, _<_, le-of-lt, arith, eqb, eq-eqb, ne-eqb, lt-ltb, le-ltb}
-use Rattle.plan.specs.Paper.{Entry, bad}
-use Rattle.plan.specs.Coded.{entryOf}
-use Rattle.plan.proofs.is_bad.Statement.{statement}
-use Rattle.plan.proofs.is_bad.Tie as tie
+use Rattle.plan.specs as defs
+use defs.Paper.{Entry, bad}
+use defs.Coded.{entryOf}
+use Rattle.plan.proofs.is_bad as own
+use own.Statement.{statement}
+use own.Tie as tie
 
 by-parameter : (e : Entry) → e .kind < 2 → e .serial ≡ 0 → e .id ≡ 0 → bad e ≡ not (eqb (e .parameter) 0)
 unfolding bad

@@ -4,9 +4,10 @@ use Rattle.plan.specs.Coded.{planOf}
 use Rattle.checker.specs.Paper.{Checked}
 use Rattle.checker.specs.Coded.{checkedOf}
 use Rattle.plan_calls.specs.Paper.{checkedBeside, packedChecked}
-use Rattle.plan_calls.proofs.Answers.{refuses-both, as-beside, named-small}
-use Rattle.plan_calls.proofs.cb_check_schedule.Statement.{statement}
-use Rattle.plan_calls.proofs.cb_check_schedule.Tie as tie
+use Rattle.plan_calls.proofs as own
+use own.Answers.{refuses-both, as-beside, named-small}
+use own.cb_check_schedule.Statement.{statement}
+use own.cb_check_schedule.Tie as tie
 
 returns : tie.Need-returns
 returns c =
@@ -43,9 +44,6 @@ checks c =
     as-beside (a .current .now) (a .previous .now) (a .message .now) (a .received)
     (f .read-plans .result) (f .read-plans .ensures) (g .enum-told .given .1) (c .check-schedule .ensures)
 
-returns-2 : tie.Need-returns-2
-returns-2 c = ap packedChecked (rw (c .enum-told2 .given .1) at (checks (c .before .before)))
-
 returns-3 : tie.Need-returns-3
 returns-3 c =
     omega (arith, c .number2 .ensures, ap packedChecked (rw (c .before .before .answer .given .1) at (checks (c .before .before .before .before))))
@@ -56,5 +54,6 @@ cb-check-schedule-spec =
     (tie.spec
     (λ c κs. search needs) (λ c. search needs) (λ c κs. search needs) (λ c. search needs) returns
     (λ c. search needs) (λ c κs. search needs) (λ c. search needs) (λ c. search needs)
-    (λ c κs. search needs) (λ c. search needs) (λ c. omega (arith, few c)) (λ c. omega (arith, few c)) add-result returns-2
-    returns-3)
+    (λ c κs. search needs) (λ c. search needs) (λ c. omega (arith, few c))
+    (λ c. omega (arith, few c)) add-result
+    (λ c. ap packedChecked (rw (c .enum-told2 .given .1) at (checks (c .before .before)))) returns-3)

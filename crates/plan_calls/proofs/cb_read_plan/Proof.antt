@@ -1,8 +1,9 @@
 -- `plan_calls::cb_read_plan` meets its contract: the plan room's answer, packed.
 use Rattle.laws.proofs.Base.{_≤_, arith, needs}
-use Rattle.plan_calls.proofs.Planned.{count-small, reads-plan, refuses-plan}
-use Rattle.plan_calls.proofs.cb_read_plan.Statement.{statement}
-use Rattle.plan_calls.proofs.cb_read_plan.Tie as tie
+use Rattle.plan_calls.proofs as own
+use own.Planned.{count-small, reads-plan, refuses-plan}
+use own.cb_read_plan.Statement.{statement}
+use own.cb_read_plan.Tie as tie
 
 -- the plan's count is small
 few : (c : tie.After-read-plan) → c .read-plan .result .plan .count ≤ 48

@@ -5,9 +5,10 @@ use Rattle.plan.specs.Coded.{planOf}
 use Rattle.sender.specs.Paper.{Writing}
 use Rattle.sender.specs.Coded.{writingOf}
 use Rattle.plan_calls.specs.Paper.{writtenFrom, writtenLeft}
-use Rattle.plan_calls.proofs.Answers.{refuses-output, refuses-files, as-filed, message-small}
-use Rattle.plan_calls.proofs.cb_write_schedule.Statement.{statement}
-use Rattle.plan_calls.proofs.cb_write_schedule.Tie as tie
+use Rattle.plan_calls.proofs as own
+use own.Answers.{refuses-output, refuses-files, as-filed, message-small}
+use own.cb_write_schedule.Statement.{statement}
+use own.cb_write_schedule.Tie as tie
 
 returns : tie.Need-returns
 returns c =
@@ -43,9 +44,6 @@ writes c =
     as-filed (a .current .now) (a .previous .now) (a .begin) (a .out .now) (omega arith)
     (f .read-plans .result) (f .read-plans .ensures) (g .enum-told .given .1) (c .write-schedule .ensures)
 
-returns-3 : tie.Need-returns-3
-returns-3 c = left-done _ ∙ ap writtenLeft (rw (c .before .answer .given .1) at (writes (c .before .before .before .before .before)))
-
 returns-4 : tie.Need-returns-4
 returns-4 c =
     left-number (c .number3 .ensures)
@@ -57,5 +55,7 @@ cb-write-schedule-spec =
     (tie.spec
     (λ c κs. search needs) (λ c. search needs) returns (λ c κs. search needs) (λ c. search needs)
     (λ c κs. search needs) (λ c. search needs) returns-2 (λ c. search needs) (λ c κs. search needs)
-    (λ c. search needs) (λ c. omega (arith, few c)) (λ c. omega (arith, few c)) (λ c. search needs) (λ c κs. search needs)
-    (λ c. search needs) (λ c. search needs) returns-3 (λ c. search needs) returns-4)
+    (λ c. search needs) (λ c. omega (arith, few c)) (λ c. omega (arith, few c)) (λ c. search needs)
+    (λ c κs. search needs) (λ c. search needs) (λ c. search needs)
+    (λ c. left-done _ ∙ ap writtenLeft (rw (c .before .answer .given .1) at (writes (c .before .before .before .before .before))))
+    (λ c. search needs) returns-4)

@@ -1,8 +1,9 @@
 -- `plan_calls::read_plans` meets its contract: the current file's refusal comes first, and the plans are as read.
 use Rattle.laws.proofs.Base.{needs}
-use Rattle.plan_calls.proofs.Filed.{current-good, current-refused}
-use Rattle.plan_calls.proofs.read_plans.Statement.{statement}
-use Rattle.plan_calls.proofs.read_plans.Tie as tie
+use Rattle.plan_calls.proofs as own
+use own.Filed.{current-good, current-refused}
+use own.read_plans.Statement.{statement}
+use own.read_plans.Tie as tie
 
 returns : tie.Need-returns
 returns c =

@@ -3,9 +3,10 @@ use Rattle.laws.proofs.Base.{_≡_, sym, ap, _∙_, _++_, _-_, _≤_, length, d
 use Rattle.plan.specs.Paper.{Plan, free}
 use Rattle.plan_read.specs.Paper.{entriesIn}
 use Rattle.plan.specs.Coded.{entryOf, entriesOf}
-use Rattle.plan_read.proofs.Entries.{entries-turn}
-use Rattle.plan_read.proofs.entries_of.Statement.{statement}
-use Rattle.plan_read.proofs.entries_of.Tie as tie
+use Rattle.plan_read.proofs as own
+use own.Entries.{entries-turn}
+use own.entries_of.Statement.{statement}
+use own.entries_of.Tie as tie
 
 abbrev Inv-loop : tie.InvT-loop
 Inv-loop file count entries₀ i₀ entries i =

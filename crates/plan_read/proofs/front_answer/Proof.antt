@@ -1,15 +1,13 @@
 -- `plan_read::front_answer` meets its contract: each return is the first test that holds.
 use Rattle.laws.proofs.Base.{_≡_, sym, _∙_, true, List, ℕ, arith, needs, not-true, not-false}
 use Rattle.plan_read.specs.Paper.{sixteen, marked}
-use Rattle.plan_read.proofs.Answers.{front-short, front-mark, front-version, front-count, front-length, front-good}
-use Rattle.plan_read.proofs.front_answer.Statement.{statement}
-use Rattle.plan_read.proofs.front_answer.Tie as tie
+use Rattle.plan_read.proofs as own
+use own.Answers.{front-short, front-mark, front-version, front-count, front-length, front-good}
+use own.front_answer.Statement.{statement}
+use own.front_answer.Tie as tie
 
 abbrev file : tie.Else1 → List ℕ
 file l = l .before .before .args .file .now
-
-returns : tie.Need-returns
-returns c = sym (front-short (c .before .before .args .file .now) (c .if1 .taken))
 
 returns-2 : tie.Need-returns-2
 returns-2 c =
@@ -29,9 +27,6 @@ returns-3 c =
 -- the version that was seen
 version : (v : tie.Else3) → sixteen (file (v .before .before .before .before)) 4 ≡ 1
 version v = sym (v .before .sixteen-at .ensures) ∙ v .if3 .left
-
-cast-count : tie.Need-cast-count
-cast-count c = omega (arith, c .shared-slice-known2 .given 5 .fits)
 
 returns-4 : tie.Need-returns-4
 returns-4 c =
@@ -58,5 +53,7 @@ pub front-answer-spec : {M : Type 1} → statement M
 front-answer-spec =
     tie.close
     (tie.spec
-    returns (λ c κs. search needs) returns-2 (λ c κs. search needs) returns-3 (λ c. search needs)
-    cast-count returns-4 (λ c. search needs) (λ c. search needs) returns-5 returns-6)
+    (λ c. sym (front-short (c .before .before .args .file .now) (c .if1 .taken)))
+    (λ c κs. search needs) returns-2 (λ c κs. search needs) returns-3 (λ c. search needs)
+    (λ c. omega (arith, c .shared-slice-known2 .given 5 .fits)) returns-4 (λ c. search needs)
+    (λ c. search needs) returns-5 returns-6)

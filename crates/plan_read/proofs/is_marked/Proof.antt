@@ -1,11 +1,9 @@
 -- `plan_read::is_marked` meets its contract: the first octet that differs decides.
 use Rattle.laws.proofs.Base.{_≡_, false, List, ℕ, getD, eqb, needs, eq-eqb, ne-eqb}
 use Rattle.plan_read.specs.Paper.{marked}
-use Rattle.plan_read.proofs.is_marked.Statement.{statement}
-use Rattle.plan_read.proofs.is_marked.Tie as tie
-
-returns : tie.Need-returns
-returns c = simp (ne-eqb _ _ (c .if1 .taken))
+use Rattle.plan_read.proofs.is_marked as own
+use own.Statement.{statement}
+use own.Tie as tie
 
 -- after the first octet, or two, the others decide
 second : (f : List ℕ) → getD f 0 0 ≡ 0x43 → (getD f 1 0 ≡ 0x42 → ⊥) → false ≡ marked f
@@ -14,11 +12,9 @@ second f p q = rw (eq-eqb (getD f 0 0) 0x43 p, ne-eqb (getD f 1 0) 0x42 q)
 third : (f : List ℕ) → getD f 0 0 ≡ 0x43 → getD f 1 0 ≡ 0x42 → eqb (getD f 2 0) 0x50 ≡ marked f
 third f p q = rw (eq-eqb (getD f 0 0) 0x43 p, eq-eqb (getD f 1 0) 0x42 q)
 
-returns-2 : tie.Need-returns-2
-returns-2 c = second (c .before .before .before .before .args .file .now) (c .before .before .if1 .left) (c .if2 .taken)
-
-returns-3 : tie.Need-returns-3
-returns-3 c = third (c .before .before .before .before .before .args .file .now) (c .before .before .before .if1 .left) (c .before .if2 .left)
-
 pub is-marked-spec : {M : Type 1} → statement M
-is-marked-spec = tie.close (tie.spec (λ c. search needs) returns (λ c. search needs) returns-2 (λ c. search needs) returns-3)
+is-marked-spec = tie.close (tie.spec
+    (λ c. search needs) (λ c. simp (ne-eqb _ _ (c .if1 .taken))) (λ c. search needs)
+    (λ c. second (c .before .before .before .before .args .file .now) (c .before .before .if1 .left) (c .if2 .taken))
+    (λ c. search needs)
+    (λ c. third (c .before .before .before .before .before .args .file .now) (c .before .before .before .if1 .left) (c .before .if2 .left)))

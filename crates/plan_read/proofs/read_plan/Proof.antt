@@ -4,9 +4,10 @@ use Rattle.refusals.specs.Number.{numberOf}
 use Rattle.refusals.proofs.Inverse.{numberOf-positive}
 use Rattle.plan.specs.Coded.{verdictOf}
 use Rattle.plan_read.specs.Inner.{frontNumber}
-use Rattle.plan_read.proofs.Answers.{front-refuses, front-counts, plan-refuses, plan-passes}
-use Rattle.plan_read.proofs.read_plan.Statement.{statement}
-use Rattle.plan_read.proofs.read_plan.Tie as tie
+use Rattle.plan_read.proofs as own
+use own.Answers.{front-refuses, front-counts, plan-refuses, plan-passes}
+use own.read_plan.Statement.{statement}
+use own.read_plan.Tie as tie
 
 abbrev file : tie.After-enum-told → List ℕ
 file g = g .before .before .before .before .args .file .now
@@ -24,9 +25,6 @@ front g = sym (g .before .before .front-answer .ensures) ∙ ap verdictOf (g .en
 
 shared-slice-read-count : tie.Need-shared-slice-read-count
 shared-slice-read-count c = let n = front-counts (file (c .before)) (front (c .before)) in omega arith
-
-cast-count : tie.Need-cast-count
-cast-count c = omega (arith, c .shared-slice-known2 .given 5 .fits)
 
 entries-of-requires : tie.Need-entries-of-requires
 entries-of-requires c κs = let n = front-counts (file (c .before)) (front (c .before)) in (n .0, omega arith)
@@ -53,5 +51,6 @@ read-plan-spec =
     tie.close
     (tie.spec
     (λ c κs. search needs) (λ c. search needs) (λ c κs. search needs) returns (λ c. search needs)
-    shared-slice-read-count cast-count entries-of-requires (λ c κs. search needs)
-    (λ c. search needs) (λ c κs. search needs) returns-2 (λ c. search needs) returns-3)
+    shared-slice-read-count (λ c. omega (arith, c .shared-slice-known2 .given 5 .fits))
+    entries-of-requires (λ c κs. search needs) (λ c. search needs) (λ c κs. search needs) returns-2
+    (λ c. search needs) returns-3)

@@ -1,9 +1,10 @@
 -- `plan_slots::all_planned` meets its contract: the slots are said by the searches for their marks, within the counts.
 use Rattle.laws.proofs.Base.{_≡_, length, take, length-take, length-take-le, arith, needs}
 use Rattle.plan.specs.Coded.{planOf}
-use Rattle.plan_slots.proofs.Said.{searched-said, says-all}
-use Rattle.plan_slots.proofs.all_planned.Statement.{statement}
-use Rattle.plan_slots.proofs.all_planned.Tie as tie
+use Rattle.plan_slots.proofs as own
+use own.Said.{searched-said, says-all}
+use own.all_planned.Statement.{statement}
+use own.all_planned.Tie as tie
 
 returns : tie.Need-returns
 returns c =

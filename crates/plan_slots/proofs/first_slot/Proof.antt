@@ -2,8 +2,9 @@
 use Rattle.laws.proofs.Base.{_≡_, refl, sym, ap, _∙_, ℕ, _+_, _-_, _≤_, _<_, eqb, length, getD, drop, arith, needs, eq-eqb, ne-eqb}
 use Rattle.laws.specs.Search.{firstFrom}
 use Rattle.laws.proofs.Search.{first-next, first-here, first-end}
-use Rattle.plan_slots.proofs.first_slot.Statement.{statement}
-use Rattle.plan_slots.proofs.first_slot.Tie as tie
+use Rattle.plan_slots.proofs.first_slot as own
+use own.Statement.{statement}
+use own.Tie as tie
 
 abbrev Inv-loop : tie.InvT-loop
 Inv-loop marks mark slot₀ slot =
@@ -11,9 +12,6 @@ Inv-loop marks mark slot₀ slot =
 
 abbrev μ-loop : tie.MeasureT-loop
 μ-loop marks mark slot₀ slot = length marks + 1 - slot
-
-loop-holds : tie.Need-loop-holds Inv-loop μ-loop
-loop-holds c = (omega arith, omega arith, refl)
 
 returns : tie.Need-returns Inv-loop μ-loop
 returns c =
@@ -53,5 +51,5 @@ pub first-slot-spec : {M : Type 1} → statement M
 first-slot-spec =
     tie.close
     (tie.spec
-    Inv-loop μ-loop loop-holds (λ c. search needs) (λ c. search needs) (λ c. search needs) returns
-    (λ c. search needs) (λ c. search needs) loop-again returns-2)
+    Inv-loop μ-loop (λ c. (omega arith, omega arith, refl)) (λ c. search needs) (λ c. search needs)
+    (λ c. search needs) returns (λ c. search needs) (λ c. search needs) loop-again returns-2)

@@ -2,9 +2,10 @@
 use Rattle.laws.proofs.Base.{_≡_, _-_, _≤_, _<_, length, arith, needs}
 use Rattle.plan.specs.Coded.{entriesOf}
 use Rattle.plan_slots.specs.Inner.{Marks}
-use Rattle.plan_slots.proofs.Marks.{marks-none, marks-more}
-use Rattle.plan_slots.proofs.marks_of.Statement.{statement}
-use Rattle.plan_slots.proofs.marks_of.Tie as tie
+use Rattle.plan_slots.proofs as own
+use own.Marks.{marks-none, marks-more}
+use own.marks_of.Statement.{statement}
+use own.marks_of.Tie as tie
 
 abbrev Inv-loop : tie.InvT-loop
 Inv-loop entries marks₀ i₀ marks i = (i ≤ 48) × Marks marks (entriesOf entries) i

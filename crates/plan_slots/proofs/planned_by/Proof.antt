@@ -1,9 +1,10 @@
 -- `plan_slots::planned_by` meets its contract: an entry with a page and one without.
 use Rattle.laws.proofs.Base.{_%_, needs, eq-eqb, ne-eqb}
 use Rattle.plan_slots.specs.Inner.{saidBy}
-use Rattle.plan_slots.proofs.Marks.{lacks-mark}
-use Rattle.plan_slots.proofs.planned_by.Statement.{statement}
-use Rattle.plan_slots.proofs.planned_by.Tie as tie
+use Rattle.plan_slots.proofs as own
+use own.Marks.{lacks-mark}
+use own.planned_by.Statement.{statement}
+use own.planned_by.Tie as tie
 
 returns : tie.Need-returns
 unfolding saidBy

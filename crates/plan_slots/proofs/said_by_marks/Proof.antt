@@ -3,18 +3,16 @@ use Rattle.laws.proofs.Base.{_≡_, _-_, _≤_, _<_, length, arith, needs}
 use Rattle.plan.specs.Coded.{entriesOf}
 use Rattle.plan.proofs.Entries.{entry-at}
 use Rattle.plan_slots.specs.Inner.{searched, Says}
-use Rattle.plan_slots.proofs.Said.{says-none, says-more}
-use Rattle.plan_slots.proofs.said_by_marks.Statement.{statement}
-use Rattle.plan_slots.proofs.said_by_marks.Tie as tie
+use Rattle.plan_slots.proofs as own
+use own.Said.{says-none, says-more}
+use own.said_by_marks.Statement.{statement}
+use own.said_by_marks.Tie as tie
 
 abbrev Inv-loop : tie.InvT-loop
 Inv-loop current previous entries planned₀ i₀ planned i = (i ≤ length current) × Says (searched (entriesOf entries) current previous) planned i
 
 abbrev μ-loop : tie.MeasureT-loop
 μ-loop current previous entries planned₀ i₀ planned i = length current - i
-
-loop-holds : tie.Need-loop-holds Inv-loop μ-loop
-loop-holds c = (omega arith, says-none _ (c .none-planned .result) (c .none-planned .ensures))
 
 loop-again : tie.Need-loop-again Inv-loop μ-loop
 loop-again c =
@@ -34,6 +32,8 @@ pub said-by-marks-spec : {M : Type 1} → statement M
 said-by-marks-spec =
     tie.close
     (tie.spec
-    Inv-loop μ-loop (λ c κs. search needs) loop-holds (λ c. search needs) (λ c. search needs)
-    (λ c. search needs) (λ c. search needs) (λ c κs. search needs) (λ c. search needs)
-    (λ c. search needs) (λ c. search needs) (λ c. search needs) loop-again returns)
+    Inv-loop μ-loop (λ c κs. search needs)
+    (λ c. (omega arith, says-none _ (c .none-planned .result) (c .none-planned .ensures)))
+    (λ c. search needs) (λ c. search needs) (λ c. search needs) (λ c. search needs)
+    (λ c κs. search needs) (λ c. search needs) (λ c. search needs) (λ c. search needs)
+    (λ c. search needs) loop-again returns)

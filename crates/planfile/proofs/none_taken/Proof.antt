@@ -2,11 +2,11 @@
 use Rattle.laws.proofs.Base.{ap, false, needs}
 use Rattle.plan.specs.Paper.{Plan}
 use Rattle.planfile.specs.Inner.{Taken}
-use Rattle.planfile.proofs.none_taken.Statement.{statement}
-use Rattle.planfile.proofs.none_taken.Tie as tie
-
-returns : tie.Need-returns
-returns c = ap {B = Taken} (λ (p : Plan). record { good = false; plan = p }) (c .empty-plan .ensures)
+use Rattle.planfile.proofs.none_taken as own
+use own.Statement.{statement}
+use own.Tie as tie
 
 pub none-taken-spec : {M : Type 1} → statement M
-none-taken-spec = tie.close (tie.spec (λ c κs. search needs) returns)
+none-taken-spec = tie.close (tie.spec
+    (λ c κs. search needs)
+    (λ c. ap {B = Taken} (λ (p : Plan). record { good = false; plan = p }) (c .empty-plan .ensures)))

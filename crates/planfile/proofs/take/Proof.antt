@@ -2,9 +2,10 @@
 use Rattle.laws.proofs.Base.{sym, ap, arith, length-take-le, needs}
 use Rattle.files.specs.Inner.{named}
 use Rattle.planfile.specs.Inner.{takenOf}
-use Rattle.planfile.proofs.Good.{untaken-good}
-use Rattle.planfile.proofs.take.Statement.{statement}
-use Rattle.planfile.proofs.take.Tie as tie
+use Rattle.planfile.proofs as own
+use own.Good.{untaken-good}
+use own.take.Statement.{statement}
+use own.take.Tie as tie
 
 -- the file's name lies in the memory for it
 array-share-prefix-path : tie.Need-array-share-prefix-path
@@ -12,13 +13,12 @@ array-share-prefix-path c =
     let call = c .before .before .before .before .open-named in
     omega (arith, call .ensures, ap named (c .before .opened .given .1), call .kept .1 .1 .0)
 
-returns-2 : tie.Need-returns-2
-returns-2 c = untaken-good (takenOf (c .none-taken .result)) (c .none-taken .ensures)
-
 pub take-spec : {M : Type 1} → statement M
 take-spec =
     tie.close
     (tie.spec
     (λ c κs. search needs) (λ c. search needs) (λ c κs. search needs) (λ c. search needs)
-    array-share-prefix-path (λ c. sym (length-take-le _ _ (array-share-prefix-path (c .before)))) (λ c κs. search needs) (λ c κs. search needs)
-    (λ c. search needs) (λ c κs. search needs) (λ c. search needs) returns-2)
+    array-share-prefix-path (λ c. sym (length-take-le _ _ (array-share-prefix-path (c .before))))
+    (λ c κs. search needs) (λ c κs. search needs) (λ c. search needs) (λ c κs. search needs)
+    (λ c. search needs)
+    (λ c. untaken-good (takenOf (c .none-taken .result)) (c .none-taken .ensures)))

@@ -1,8 +1,9 @@
 -- `planfile::take_octets` meets its contract: good and the plan are what reading the file gives.
 use Rattle.laws.proofs.Base.{needs}
-use Rattle.planfile.proofs.Good.{takes-good, takes-refused}
-use Rattle.planfile.proofs.take_octets.Statement.{statement}
-use Rattle.planfile.proofs.take_octets.Tie as tie
+use Rattle.planfile.proofs as own
+use own.Good.{takes-good, takes-refused}
+use own.take_octets.Statement.{statement}
+use own.take_octets.Tie as tie
 
 returns : tie.Need-returns
 returns c = let r = c .before .before .before .read-plan in takes-good _ (r .result) (r .ensures) (c .enum-told .given .1)

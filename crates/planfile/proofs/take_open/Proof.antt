@@ -2,9 +2,10 @@
 use Rattle.laws.proofs.Base.{_≡_, sym, ap, ℕ, arith, length, replicate, length-replicate, length-take-le, needs}
 use Rattle.files.specs.Inner.{filled}
 use Rattle.planfile.specs.Inner.{takenOf}
-use Rattle.planfile.proofs.Good.{untaken-good, taken-good}
-use Rattle.planfile.proofs.take_open.Statement.{statement}
-use Rattle.planfile.proofs.take_open.Tie as tie
+use Rattle.planfile.proofs as own
+use own.Good.{untaken-good, taken-good}
+use own.take_open.Statement.{statement}
+use own.take_open.Tie as tie
 
 -- the memory as it is made
 zeros-size : length {A = ℕ} (replicate 295 0) ≡ 295

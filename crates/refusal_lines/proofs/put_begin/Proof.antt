@@ -3,8 +3,9 @@ use Rattle.laws.proofs.Base.{needs}
 use Rattle.lines.specs.Paper.{ascii}
 use Rattle.lines.proofs.Texts.{and-then, and-last, and-others}
 use Rattle.refusal_lines.specs.Paper.{numbered}
-use Rattle.refusal_lines.proofs.put_begin.Statement.{statement}
-use Rattle.refusal_lines.proofs.put_begin.Tie as tie
+use Rattle.refusal_lines.proofs.put_begin as own
+use own.Statement.{statement}
+use own.Tie as tie
 
 returns : tie.Need-returns
 unfolding ascii

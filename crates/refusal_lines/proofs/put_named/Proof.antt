@@ -2,8 +2,9 @@
 use Rattle.laws.proofs.Base.{needs}
 use Rattle.lines.specs.Paper.{ascii}
 use Rattle.lines.proofs.Texts.{and-then, and-last}
-use Rattle.refusal_lines.proofs.put_named.Statement.{statement}
-use Rattle.refusal_lines.proofs.put_named.Tie as tie
+use Rattle.refusal_lines.proofs.put_named as own
+use own.Statement.{statement}
+use own.Tie as tie
 
 returns : tie.Need-returns
 unfolding ascii

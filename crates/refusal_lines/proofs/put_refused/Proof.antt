@@ -4,8 +4,9 @@ use Rattle.refusals.specs.Number.{numberOf}
 use Rattle.lines.specs.Paper.{ascii}
 use Rattle.lines.proofs.Texts.{and-then, and-last, and-others}
 use Rattle.refusal_lines.specs.Paper.{numbered}
-use Rattle.refusal_lines.proofs.put_refused.Statement.{statement}
-use Rattle.refusal_lines.proofs.put_refused.Tie as tie
+use Rattle.refusal_lines.proofs.put_refused as own
+use own.Statement.{statement}
+use own.Tie as tie
 
 returns : tie.Need-returns
 unfolding ascii

@@ -1,8 +1,9 @@
 -- `refusal_lines::say_begin` meets its contract: the line is that of `put_begin`, and ends within the memory for it.
 use Rattle.laws.proofs.Base.{sym, arith, length-take-le, needs}
 use Rattle.lines.proofs.Texts.{ends-all}
-use Rattle.refusal_lines.proofs.say_begin.Statement.{statement}
-use Rattle.refusal_lines.proofs.say_begin.Tie as tie
+use Rattle.refusal_lines.proofs.say_begin as own
+use own.Statement.{statement}
+use own.Tie as tie
 
 slice-reshare-prefix-write-all : tie.Need-slice-reshare-prefix-write-all
 slice-reshare-prefix-write-all c = let put = c .before .before .put-begin in omega (arith, ends-all _ _ _ (omega arith) (put .ensures), put .kept)

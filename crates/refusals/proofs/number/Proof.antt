@@ -1,9 +1,11 @@
 -- `refusals::number` meets its contract: each arm of the match tells which variant it is, and `numberOf` computes there.
 use Rattle.laws.proofs.Base.{_≡_, sym, ap, needs}
-use Rattle.refusals.specs.declared.Refusal.{Refusal}
-use Rattle.refusals.specs.Number.{numberOf}
-use Rattle.refusals.proofs.number.Statement.{statement}
-use Rattle.refusals.proofs.number.Tie as tie
+use Rattle.refusals.specs as defs
+use defs.declared.Refusal.{Refusal}
+use defs.Number.{numberOf}
+use Rattle.refusals.proofs.number as own
+use own.Statement.{statement}
+use own.Tie as tie
 
 told : {r s : Refusal} → r ≡ s → numberOf s ≡ numberOf r
 told e = sym (ap numberOf e)

@@ -3,18 +3,16 @@ use Rattle.laws.proofs.Base.{_≡_, sym, _∙_, false, true, ℕ, _≤_, _<_, _
 use borrow.Author.Count.{below-more}
 use Rattle.laws.proofs.Upto.{some-none, some-at}
 use Rattle.schedule.specs.Paper.{newPast, end as endOf}
-use Rattle.schedule.proofs.News.{newPast-below, newPast-from}
-use Rattle.schedule.proofs.has_new_past.Statement.{statement}
-use Rattle.schedule.proofs.has_new_past.Tie as tie
+use Rattle.schedule.proofs as own
+use own.News.{newPast-below, newPast-from}
+use own.has_new_past.Statement.{statement}
+use own.has_new_past.Tie as tie
 
 abbrev Inv-loop : tie.InvT-loop
 Inv-loop message end i₀ i = (end ≤ i) × (i ≤ 48) × ((k : ℕ) → k < i → newPast message k ≡ false)
 
 abbrev μ-loop : tie.MeasureT-loop
 μ-loop message end i₀ i = 48 - i
-
-loop-holds : tie.Need-loop-holds Inv-loop μ-loop
-loop-holds c = (omega arith, omega arith, λ k h. newPast-below (c .before .args .message .now) k (omega arith))
 
 returns : tie.Need-returns Inv-loop μ-loop
 returns c =
@@ -39,5 +37,6 @@ pub has-new-past-spec : {M : Type 1} → statement M
 has-new-past-spec =
     tie.close
     (tie.spec
-    Inv-loop μ-loop loop-holds (λ c κs. search needs) returns (λ c. search needs)
-    (λ c. search needs) loop-again returns-2)
+    Inv-loop μ-loop
+    (λ c. (omega arith, omega arith, λ k h. newPast-below (c .before .args .message .now) k (omega arith)))
+    (λ c κs. search needs) returns (λ c. search needs) (λ c. search needs) loop-again returns-2)

@@ -1,10 +1,8 @@
 -- `schedule::is_in_bounds` meets its contract: the tests that led to each answer decide those of `bounded`.
 use Rattle.laws.proofs.Base.{and-false, _≤_, _<_, arith, le-leb, lt-leb}
-use Rattle.schedule.proofs.is_in_bounds.Statement.{statement}
-use Rattle.schedule.proofs.is_in_bounds.Tie as tie
-
-returns : tie.Need-returns
-returns c = simp (c .if1 .taken)
+use Rattle.schedule.proofs.is_in_bounds as own
+use own.Statement.{statement}
+use own.Tie as tie
 
 returns-2 : tie.Need-returns-2
 returns-2 c =
@@ -18,4 +16,5 @@ returns-3 c =
     simp (le-leb _ _ some, le-leb _ _ (c .if2 .left))
 
 pub is-in-bounds-spec : {M : Type 1} → statement M
-is-in-bounds-spec = tie.close (tie.spec returns returns-2 returns-3)
+is-in-bounds-spec = tie.close (tie.spec
+    (λ c. simp (c .if1 .taken)) returns-2 returns-3)

@@ -1,11 +1,9 @@
 -- `schedule::is_new` meets its contract: the shift divides by the power of two that the definition has.
 use Rattle.laws.proofs.Base.{ap, _∙_, ℕ, _-_, _/_, _%_, _^_, eqb, needs}
-use Rattle.schedule.proofs.News.{new-octet, new-beyond}
-use Rattle.schedule.proofs.is_new.Statement.{statement}
-use Rattle.schedule.proofs.is_new.Tie as tie
-
-returns : tie.Need-returns
-returns c = new-beyond _ _ (c .if1 .taken)
+use Rattle.schedule.proofs as own
+use own.News.{new-octet, new-beyond}
+use own.is_new.Statement.{statement}
+use own.is_new.Tie as tie
 
 returns-2 : tie.Need-returns-2
 returns-2 c =
@@ -15,4 +13,6 @@ returns-2 c =
 pub is-new-spec : {M : Type 1} → statement M
 is-new-spec =
     tie.close
-    (tie.spec returns (λ c. search needs) (λ c κs. search needs) (λ c. search needs) (λ c. search needs) (λ c. search needs) returns-2)
+    (tie.spec
+    (λ c. new-beyond _ _ (c .if1 .taken)) (λ c. search needs) (λ c κs. search needs)
+    (λ c. search needs) (λ c. search needs) (λ c. search needs) returns-2)

@@ -2,9 +2,10 @@
 use Rattle.laws.proofs.Base.{_≡_, true, sym, _∙_, arith, not-true, not-false, needs}
 use Rattle.sizes.specs.Paper.{wholeBlocks}
 use Rattle.schedule.specs.Paper.{inBounds}
-use Rattle.schedule.proofs.Header.{within, within-low, head-length, head-received, head-type, head-range, head-new, head-good}
-use Rattle.schedule.proofs.read_header.Statement.{statement}
-use Rattle.schedule.proofs.read_header.Tie as tie
+use Rattle.schedule.proofs as own
+use own.Header.{within, within-low, head-length, head-received, head-type, head-range, head-new, head-good}
+use own.read_header.Statement.{statement}
+use own.read_header.Tie as tie
 
 -- past the second test the octets received are whole blocks
 sent : (c : tie.Else2) → wholeBlocks (c .before .before .before .before .args .received) ≡ true
@@ -14,18 +15,6 @@ sent c = sym (c .before .whole-blocks .ensures) ∙ not-false _ (c .if2 .left)
 bounds : (c : tie.After-is-in-bounds)
     → c .is-in-bounds .result ≡ inBounds (c .before .before .before .before .before .before .before .before .args .message .now)
 bounds c = c .is-in-bounds .ensures ∙ within-low (c .before .before .before .before .before .before .before .before .args .message .now) (c .before .if3 .left)
-
-returns : tie.Need-returns
-returns c = head-length _ _ (c .if1 .taken)
-
-returns-2 : tie.Need-returns-2
-returns-2 c = head-received _ _ (c .before .before .if1 .left) (sym (c .before .whole-blocks .ensures) ∙ not-true _ (c .if2 .taken))
-
-cast-begin : tie.Need-cast-begin
-cast-begin c = omega (arith, c .shared-slice-known2 .given 0 .fits)
-
-cast-end : tie.Need-cast-end
-cast-end c = omega (arith, c .shared-slice-known3 .given 1 .fits)
 
 returns-3 : tie.Need-returns-3
 returns-3 c = let s = c .before .before .before in head-type _ _ (s .before .before .if1 .left) (sent s) (c .if3 .taken)
@@ -62,5 +51,8 @@ pub read-header-spec : {M : Type 1} → statement M
 read-header-spec =
     tie.close
     (tie.spec
-    returns (λ c κs. search needs) returns-2 (λ c. search needs) cast-begin (λ c. search needs)
-    cast-end returns-3 (λ c κs. search needs) returns-4 has-new-past-requires returns-5 returns-6)
+    (λ c. head-length _ _ (c .if1 .taken)) (λ c κs. search needs)
+    (λ c. head-received _ _ (c .before .before .if1 .left) (sym (c .before .whole-blocks .ensures) ∙ not-true _ (c .if2 .taken)))
+    (λ c. search needs) (λ c. omega (arith, c .shared-slice-known2 .given 0 .fits))
+    (λ c. search needs) (λ c. omega (arith, c .shared-slice-known3 .given 1 .fits)) returns-3
+    (λ c κs. search needs) returns-4 has-new-past-requires returns-5 returns-6)

@@ -1,9 +1,10 @@
 -- `schedule::told_at` meets its contract: the octet that is met decides between one octet and two.
 use Rattle.laws.proofs.Base.{ap, _∙_, arith, needs}
 use Rattle.schedule.specs.Paper.{long}
-use Rattle.schedule.proofs.Places.{octet-inside, told-is-short, told-is-long}
-use Rattle.schedule.proofs.told_at.Statement.{statement}
-use Rattle.schedule.proofs.told_at.Tie as tie
+use Rattle.schedule.proofs as own
+use own.Places.{octet-inside, told-is-short, told-is-long}
+use own.told_at.Statement.{statement}
+use own.told_at.Tie as tie
 
 returns : tie.Need-returns
 returns c =

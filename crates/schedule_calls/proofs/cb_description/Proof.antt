@@ -3,9 +3,10 @@ use Rattle.laws.proofs.Base.{ap, _∙_, _≤_, _<_, arith, needs}
 use mir.Val.{boolByte}
 use Rattle.calls.proofs.Packed.{bit-byte, bit-small}
 use Rattle.schedule_calls.specs.Paper.{packedGiven}
-use Rattle.schedule_calls.proofs.Given.{given-small}
-use Rattle.schedule_calls.proofs.cb_description.Statement.{statement}
-use Rattle.schedule_calls.proofs.cb_description.Tie as tie
+use Rattle.schedule_calls.proofs as own
+use own.Given.{given-small}
+use own.cb_description.Statement.{statement}
+use own.cb_description.Tie as tie
 
 -- the slot's number is small, and its new bit
 few : (c : tie.After-struct-known) → c .before .before .before .answer .given .0 .0 < 64
@@ -23,9 +24,6 @@ returns c =
     omega
     (arith, bit-byte (k .0 .1 .0 .new), c .before .code .ensures, ap packedGiven (rw (k .1) at (c .before .before .before .before .before .description-at .ensures)))
 
-returns-2 : tie.Need-returns-2
-returns-2 c = ap packedGiven (rw (c .enum-told .given .1) at (c .before .before .description-at .ensures))
-
 returns-3 : tie.Need-returns-3
 returns-3 c =
     c .number .ensures ∙ ap packedGiven (rw (c .before .before .answer2 .given .1) at (c .before .before .before .before .description-at .ensures))
@@ -35,6 +33,8 @@ cb-description-spec =
     tie.close
     (tie.spec
     (λ c κs. search needs) (λ c. search needs) (λ c κs. search needs) (λ c. search needs)
-    (λ c. search needs) (λ c. search needs) (λ c. omega (arith, bit c)) (λ c. omega (arith, bit c)) (λ c. omega (arith, few c))
-    (λ c. omega (arith, few c, bit c)) (λ c. search needs) (λ c. search needs) (λ c κs. search needs) (λ c. search needs) returns
-    returns-2 returns-3)
+    (λ c. search needs) (λ c. search needs) (λ c. omega (arith, bit c)) (λ c. omega (arith, bit c))
+    (λ c. omega (arith, few c)) (λ c. omega (arith, few c, bit c)) (λ c. search needs)
+    (λ c. search needs) (λ c κs. search needs) (λ c. search needs) returns
+    (λ c. ap packedGiven (rw (c .enum-told .given .1) at (c .before .before .description-at .ensures)))
+    returns-3)

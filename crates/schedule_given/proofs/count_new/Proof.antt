@@ -4,17 +4,15 @@ use Rattle.laws.proofs.Upto.{count-none, count-yes, count-no, count-le}
 use Rattle.laws.specs.Upto.{count}
 use Rattle.schedule.specs.Paper.{grouped}
 use Rattle.schedule.proofs.News.{grouped-told}
-use Rattle.schedule_given.proofs.count_new.Statement.{statement}
-use Rattle.schedule_given.proofs.count_new.Tie as tie
+use Rattle.schedule_given.proofs.count_new as own
+use own.Statement.{statement}
+use own.Tie as tie
 
 abbrev Inv-loop : tie.InvT-loop
 Inv-loop message end n₀ i₀ n i = (i ≤ end) × (n ≡ count (grouped message true) i)
 
 abbrev μ-loop : tie.MeasureT-loop
 μ-loop message end n₀ i₀ n i = end - i
-
-loop-holds : tie.Need-loop-holds Inv-loop μ-loop
-loop-holds c = (omega arith, sym (count-none _))
 
 add-n : tie.Need-add-n Inv-loop μ-loop
 add-n c = omega (arith, count-le (grouped (c .before .before .before .before .before .args .message .now) true) (c .before .before .before .loop .i))
@@ -38,4 +36,6 @@ returns c = let e : c .before .loop .i ≡ c .before .before .before .args .end 
 pub count-new-spec : {M : Type 1} → statement M
 count-new-spec =
     tie.close
-    (tie.spec Inv-loop μ-loop loop-holds (λ c κs. search needs) add-n (λ c. search needs) (λ c. search needs) loop-again returns)
+    (tie.spec
+    Inv-loop μ-loop (λ c. (omega arith, sym (count-none _))) (λ c κs. search needs) add-n
+    (λ c. search needs) (λ c. search needs) loop-again returns)

@@ -3,17 +3,15 @@ use Rattle.laws.proofs.Base.{ap, _<_, arith, needs}
 use Rattle.schedule.specs.Coded.{readOf}
 use Rattle.schedule_places.specs.Coded.{placedOf}
 use Rattle.schedule_places.proofs.Known.{Good, given-good}
-use Rattle.schedule_given.proofs.Givens.{given-refused, given-none, given-next}
-use Rattle.schedule_given.proofs.description_at.Statement.{statement}
-use Rattle.schedule_given.proofs.description_at.Tie as tie
+use Rattle.schedule_given.proofs as own
+use own.Givens.{given-refused, given-none, given-next}
+use own.description_at.Statement.{statement}
+use own.description_at.Tie as tie
 
 -- what is known of a message that was read
 good : (c : tie.After-answer2) → let a = c .before .before .before .before .args in let t = c .before .before .read-places in
     Good (a .message .now) (a .received) (placedOf (t .result)) (t .ensures) (c .answer2 .given .0 .1 .0)
 good c = given-good _ _ _ _ _ _ (ap readOf (c .answer2 .given .1))
-
-returns : tie.Need-returns
-returns c = given-none _ _ _ _ _ _ (good (c .before .before)) (omega (arith, c .if1 .taken))
 
 slot-at-requires : tie.Need-slot-at-requires
 slot-at-requires c κs = let g = good (c .before .before) in (g .long, g .ends, g .last, omega (arith, c .if1 .left))
@@ -34,6 +32,7 @@ pub description-at-spec : {M : Type 1} → statement M
 description-at-spec =
     tie.close
     (tie.spec
-    (λ c κs. search needs) (λ c. search needs) (λ c. search needs) returns slot-at-requires
-    (λ c. omega (arith, low c)) (λ c. omega (arith, low c)) (λ c. omega (arith, low c)) (λ c κs. search needs)
-    returns-2 returns-3)
+    (λ c κs. search needs) (λ c. search needs) (λ c. search needs)
+    (λ c. given-none _ _ _ _ _ _ (good (c .before .before)) (omega (arith, c .if1 .taken)))
+    slot-at-requires (λ c. omega (arith, low c)) (λ c. omega (arith, low c))
+    (λ c. omega (arith, low c)) (λ c κs. search needs) returns-2 returns-3)

@@ -4,17 +4,15 @@ use Rattle.laws.proofs.Upto.{count-none, count-yes, count-no}
 use Rattle.laws.specs.Upto.{count}
 use Rattle.schedule.specs.Paper.{grouped}
 use Rattle.schedule.proofs.News.{grouped-told}
-use Rattle.schedule_given.proofs.pick.Statement.{statement}
-use Rattle.schedule_given.proofs.pick.Tie as tie
+use Rattle.schedule_given.proofs.pick as own
+use own.Statement.{statement}
+use own.Tie as tie
 
 abbrev Inv-loop : tie.InvT-loop
 Inv-loop message end new place left₀ i₀ left i = (i ≤ end) × (count (grouped message new) i + left ≡ place)
 
 abbrev μ-loop : tie.MeasureT-loop
 μ-loop message end new place left₀ i₀ left i = end - i
-
-loop-holds : tie.Need-loop-holds Inv-loop μ-loop
-loop-holds c = (omega arith, omega (arith, count-none (grouped (c .before .args .message .now) (c .before .args .new))))
 
 returns : tie.Need-returns Inv-loop μ-loop
 returns c =
@@ -48,5 +46,7 @@ pub pick-spec : {M : Type 1} → statement M
 pick-spec =
     tie.close
     (tie.spec
-    Inv-loop μ-loop loop-holds (λ c κs. search needs) returns (λ c. search needs)
-    (λ c. search needs) (λ c. search needs) loop-again returns-2)
+    Inv-loop μ-loop
+    (λ c. (omega arith, omega (arith, count-none (grouped (c .before .args .message .now) (c .before .args .new)))))
+    (λ c κs. search needs) returns (λ c. search needs) (λ c. search needs) (λ c. search needs)
+    loop-again returns-2)

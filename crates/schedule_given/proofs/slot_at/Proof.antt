@@ -3,8 +3,9 @@ use Rattle.laws.proofs.Base.{true, false, _≡_, sym, _∙_, _+_, _-_, zero-add
 use Rattle.laws.specs.Upto.{count}
 use Rattle.schedule.specs.Paper.{grouped, end as endOf}
 use Rattle.schedule.proofs.Order.{groups-whole, order-picks}
-use Rattle.schedule_given.proofs.slot_at.Statement.{statement}
-use Rattle.schedule_given.proofs.slot_at.Tie as tie
+use Rattle.schedule_given.proofs.slot_at as own
+use own.Statement.{statement}
+use own.Tie as tie
 
 returns : tie.Need-returns
 returns c =

@@ -2,10 +2,11 @@
 use Rattle.laws.proofs.Base.{_≡_, refl, sym, ap, _∙_, ⊎-elim, _≤_, _-_, _<_, arith, length, length-set, needs}
 use Rattle.schedule.specs.Paper.{end as endOf}
 use Rattle.schedule_places.specs.Inner.{Finds, steppedOf}
-use Rattle.schedule_places.proofs.Finds.{finds-none, finds-skip, finds-take, finds-short}
+use Rattle.schedule_places.proofs as own
+use own.Finds.{finds-none, finds-skip, finds-take, finds-short}
 use Rattle.schedule.proofs.News.{grouped-told}
-use Rattle.schedule_places.proofs.find_group.Statement.{statement}
-use Rattle.schedule_places.proofs.find_group.Tie as tie
+use own.find_group.Statement.{statement}
+use own.find_group.Tie as tie
 
 abbrev Inv-loop : tie.InvT-loop
 Inv-loop message received end new from found₀ marked₀ at₀ i₀ found marked at i =

@@ -5,17 +5,15 @@ use Rattle.laws.proofs.Upto.{some-none, some-at}
 use Rattle.schedule.specs.Paper.{Told, again, falseRepeat}
 use Rattle.schedule.specs.Inner.{toldBy}
 use Rattle.schedule.proofs.Repeats.{false-zero, false-late, false-other, true-repeat, told-repeat, no-repeat}
-use Rattle.schedule_places.proofs.has_false_repeat.Statement.{statement}
-use Rattle.schedule_places.proofs.has_false_repeat.Tie as tie
+use Rattle.schedule_places.proofs.has_false_repeat as own
+use own.Statement.{statement}
+use own.Tie as tie
 
 abbrev Inv-loop : tie.InvT-loop
 Inv-loop message end places firsts i₀ i = (i ≤ end) × ((k : ℕ) → k < i → falseRepeat (toldBy message places) k ≡ false)
 
 abbrev μ-loop : tie.MeasureT-loop
 μ-loop message end places firsts i₀ i = end - i
-
-loop-holds : tie.Need-loop-holds Inv-loop μ-loop
-loop-holds c = (omega arith, below-none _)
 
 -- what the places tell, and a slot whose description begins below 40: it is told as a repeat
 abbrev tells : tie.Then1 Inv-loop μ-loop → ℕ → Told
@@ -72,6 +70,6 @@ pub has-false-repeat-spec : {M : Type 1} → statement M
 has-false-repeat-spec =
     tie.close
     (tie.spec
-    Inv-loop μ-loop loop-holds (λ c. search needs) (λ c. search needs) (λ c κs. search needs)
-    (λ c. search needs) returns returns-2 (λ c. search needs) (λ c. search needs) returns-3
-    (λ c. search needs) (λ c. search needs) loop-again returns-4)
+    Inv-loop μ-loop (λ c. (omega arith, below-none _)) (λ c. search needs) (λ c. search needs)
+    (λ c κs. search needs) (λ c. search needs) returns returns-2 (λ c. search needs)
+    (λ c. search needs) returns-3 (λ c. search needs) (λ c. search needs) loop-again returns-4)

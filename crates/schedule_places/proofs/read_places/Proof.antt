@@ -4,9 +4,10 @@ use Rattle.schedule.specs.Paper.{place}
 use Rattle.schedule.specs.Coded.{readOf}
 use Rattle.schedule.specs.declared.Reading.{Reading}
 use Rattle.schedule_places.specs.Inner.{unplacedBy}
-use Rattle.schedule_places.proofs.Placing.{Headed, head-read, head-refused, readable, placed-short-new, placed-short-rest, all-firsts, placed-false, placed-good}
-use Rattle.schedule_places.proofs.read_places.Statement.{statement}
-use Rattle.schedule_places.proofs.read_places.Tie as tie
+use Rattle.schedule_places.proofs as own
+use own.Placing.{Headed, head-read, head-refused, readable, placed-short-new, placed-short-rest, all-firsts, placed-false, placed-good}
+use own.read_places.Statement.{statement}
+use own.read_places.Tie as tie
 
 returns : tie.Need-returns
 returns c =

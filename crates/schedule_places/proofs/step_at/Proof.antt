@@ -2,9 +2,10 @@
 use Rattle.laws.proofs.Base.{_≤_, arith, le-leb, needs}
 use Rattle.schedule.specs.Paper.{octetAt}
 use Rattle.schedule.proofs.Places.{width-some}
-use Rattle.schedule_places.proofs.Steps.{step-is-past, step-is-short, step-is-long}
-use Rattle.schedule_places.proofs.step_at.Statement.{statement}
-use Rattle.schedule_places.proofs.step_at.Tie as tie
+use Rattle.schedule_places.proofs as own
+use own.Steps.{step-is-past, step-is-short, step-is-long}
+use own.step_at.Statement.{statement}
+use own.step_at.Tie as tie
 
 returns : tie.Need-returns
 returns c =

@@ -1,10 +1,11 @@
 -- `sender::compose` meets its contract.
 use Rattle.laws.proofs.Base.{arith, needs}
 use Rattle.sender.specs.Coded.{shownIn}
-use Rattle.sender.proofs.Groups.{length-descriptions}
-use Rattle.sender.proofs.Message.{message-put}
-use Rattle.sender.proofs.compose.Statement.{statement}
-use Rattle.sender.proofs.compose.Tie as tie
+use Rattle.sender.proofs as own
+use own.Groups.{length-descriptions}
+use own.Message.{message-put}
+use own.compose.Statement.{statement}
+use own.compose.Tie as tie
 
 put-group-requires : tie.Need-put-group-requires
 put-group-requires c κs =

@@ -1,11 +1,13 @@
 -- `sender::header` meets its contract. The invariant: Begin, End and the octets of new bits so far are put over a message of 2B.
 use Rattle.laws.proofs.Base.{_≡_, refl, [], _∷_, _++_, ℕ, _≤_, _-_, arith, needs, replicate, sets}
 use Rattle.laws.specs.Upto.{each}
-use Rattle.sender.specs.Paper.{newBits}
-use Rattle.sender.specs.Coded.{shownIn}
-use Rattle.sender.proofs.Padded.{sets-turn}
-use Rattle.sender.proofs.header.Statement.{statement}
-use Rattle.sender.proofs.header.Tie as tie
+use Rattle.sender.specs as defs
+use defs.Paper.{newBits}
+use defs.Coded.{shownIn}
+use Rattle.sender.proofs as own
+use own.Padded.{sets-turn}
+use own.header.Statement.{statement}
+use own.header.Tie as tie
 
 abbrev Inv-loop : tie.InvT-loop
 Inv-loop slots count begin octets₀ j₀ octets j = (j ≤ 6) × (octets ≡ sets (replicate 88 43) 0 ((begin ∷ count ∷ []) ++ each (λ (k : ℕ). newBits (shownIn slots) count k 8) j))

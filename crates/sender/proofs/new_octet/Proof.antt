@@ -1,10 +1,12 @@
 -- `sender::new_octet` meets its contract. The invariant: the bits so far.
 use Rattle.laws.proofs.Base.{_≡_, refl, sym, _+_, _*_, _≤_, _-_, arith, needs}
-use Rattle.sender.specs.Paper.{newBit, newBits}
-use Rattle.sender.specs.Coded.{shownIn}
-use Rattle.sender.proofs.News.{newBit-few, newBits-room, newBits-next}
-use Rattle.sender.proofs.new_octet.Statement.{statement}
-use Rattle.sender.proofs.new_octet.Tie as tie
+use Rattle.sender.specs as defs
+use defs.Paper.{newBit, newBits}
+use defs.Coded.{shownIn}
+use Rattle.sender.proofs as own
+use own.News.{newBit-few, newBits-room, newBits-next}
+use own.new_octet.Statement.{statement}
+use own.new_octet.Tie as tie
 
 abbrev Inv-loop : tie.InvT-loop
 Inv-loop count j slots bits₀ k₀ bits k = (k ≤ 8) × (bits ≡ newBits (shownIn slots) count j k)

@@ -4,9 +4,10 @@ use Rattle.refusals.specs.Number.{numberOf}
 use Rattle.refusals.proofs.Inverse.{numberOf-positive}
 use Rattle.plan.specs.Paper.{Plan, planNumber}
 use Rattle.plan.specs.Coded.{planOf, verdictOf}
-use Rattle.sender.proofs.Cases.{plans-current, plans-previous, plans-35, plans-21, plans-0}
-use Rattle.sender.proofs.plans_answer.Statement.{statement}
-use Rattle.sender.proofs.plans_answer.Tie as tie
+use Rattle.sender.proofs as own
+use own.Cases.{plans-current, plans-previous, plans-35, plans-21, plans-0}
+use own.plans_answer.Statement.{statement}
+use own.plans_answer.Tie as tie
 
 abbrev current : tie.Start → Plan
 current s = planOf (s .args .current)

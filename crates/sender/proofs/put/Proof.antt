@@ -1,8 +1,9 @@
 -- `sender::put` meets its contract.
 use Rattle.laws.proofs.Base.{refl, ap, _≤_, _<_, _+_, add-one, arith, needs}
 use Rattle.schedule.specs.Coded.{toldOf}
-use Rattle.sender.proofs.put.Statement.{statement}
-use Rattle.sender.proofs.put.Tie as tie
+use Rattle.sender.proofs.put as own
+use own.Statement.{statement}
+use own.Tie as tie
 
 add-filled : tie.Need-add-filled
 add-filled c =
@@ -22,23 +23,15 @@ put-octet-requires-2 c κs = let room = rw (ap toldOf (c .enum-told .given .1)) 
 put-octet-requires-3 : tie.Need-put-octet-requires-3
 put-octet-requires-3 c κs = let room = rw (ap toldOf (c .enum-told2 .given .1)) at (c .before .before .pre .1) in omega arith
 
-returns : tie.Need-returns
-returns c = rw (ap toldOf (c .before .description .given .1)) (rw add-one, refl)
-
-returns-2 : tie.Need-returns-2
-returns-2 c = rw (ap toldOf (c .before .before .description2 .given .1)) (c .put-octet .ensures)
-
-returns-3 : tie.Need-returns-3
-returns-3 c = rw (ap toldOf (c .before .enum-told .given .1)) (c .put-octet2 .ensures)
-
-returns-4 : tie.Need-returns-4
-returns-4 c = rw (ap toldOf (c .before .enum-told2 .given .1)) (c .put-octet3 .ensures)
-
 pub put-spec : {M : Type 1} → statement M
 put-spec =
     tie.close
     (tie.spec
-    (λ c. search needs) (λ c. search needs) add-filled (λ c. omega (arith, room-for-two c)) (λ c. search needs)
-    (λ c. search needs) (λ c. omega (arith, room-for-two c)) (λ c. search needs) (λ c. search needs)
-    put-octet-requires (λ c. search needs) put-octet-requires-2 (λ c. search needs)
-    put-octet-requires-3 returns returns-2 returns-3 returns-4)
+    (λ c. search needs) (λ c. search needs) add-filled (λ c. omega (arith, room-for-two c))
+    (λ c. search needs) (λ c. search needs) (λ c. omega (arith, room-for-two c)) (λ c. search needs)
+    (λ c. search needs) put-octet-requires (λ c. search needs) put-octet-requires-2
+    (λ c. search needs) put-octet-requires-3
+    (λ c. rw (ap toldOf (c .before .description .given .1)) (rw add-one, refl))
+    (λ c. rw (ap toldOf (c .before .before .description2 .given .1)) (c .put-octet .ensures))
+    (λ c. rw (ap toldOf (c .before .enum-told .given .1)) (c .put-octet2 .ensures))
+    (λ c. rw (ap toldOf (c .before .enum-told2 .given .1)) (c .put-octet3 .ensures)))

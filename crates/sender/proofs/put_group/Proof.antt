@@ -1,9 +1,10 @@
 -- `sender::put_group` meets its contract. The invariant: the descriptions passed are put one after the other.
 use Rattle.laws.proofs.Base.{_≡_, refl, ⊎-elim, _≤_, _-_, _+_, arith, needs, length, sets}
 use Rattle.sender.specs.Coded.{shownIn}
-use Rattle.sender.proofs.Groups.{told, told-none, told-out, told-room, put-in}
-use Rattle.sender.proofs.put_group.Statement.{statement}
-use Rattle.sender.proofs.put_group.Tie as tie
+use Rattle.sender.proofs as own
+use own.Groups.{told, told-none, told-out, told-room, put-in}
+use own.put_group.Statement.{statement}
+use own.put_group.Tie as tie
 
 abbrev Inv-loop : tie.InvT-loop
 Inv-loop at count new slots filled₀ i₀ filled i = (i ≤ count) × (filled .octets ≡ sets (filled₀ .octets) at (told (shownIn slots) new i)) × (filled .at ≡ at + length (told (shownIn slots) new i))

@@ -1,9 +1,10 @@
 -- `sender::tell` meets its contract: each return is a case of what is told.
 use Rattle.laws.proofs.Base.{sym, _∙_, add-one, arith, needs}
 use Rattle.plan_slots.specs.Coded.{plannedOf}
-use Rattle.sender.proofs.Tells.{tells-advised, tells-optional, tells-first, tells-again}
-use Rattle.sender.proofs.tell.Statement.{statement}
-use Rattle.sender.proofs.tell.Tie as tie
+use Rattle.sender.proofs as own
+use own.Tells.{tells-advised, tells-optional, tells-first, tells-again}
+use own.tell.Statement.{statement}
+use own.tell.Tie as tie
 
 returns : tie.Need-returns
 returns c =
@@ -20,13 +21,13 @@ returns-3 c =
     let a = c .before .before .before .before .before .before .args in
     tells-first (plannedOf (a .said)) (a .i) (c .before .before .if2 .left) (c .if3 .taken ∙ add-one _)
 
-cast-t8 : tie.Need-cast-t8
-cast-t8 c = omega (arith, c .before .before .before .before .before .before .before .pre .1)
-
 returns-4 : tie.Need-returns-4
 returns-4 c =
     let a = c .before .before .before .before .before .before .before .args in
     tells-again (plannedOf (a .said)) (a .i) (c .before .before .before .if2 .left) (λ e. c .before .if3 .left (e ∙ sym (add-one _)))
 
 pub tell-spec : {M : Type 1} → statement M
-tell-spec = tie.close (tie.spec returns returns-2 (λ c. search needs) returns-3 cast-t8 returns-4)
+tell-spec = tie.close (tie.spec
+    returns returns-2 (λ c. search needs) returns-3
+    (λ c. omega (arith, c .before .before .before .before .before .before .before .pre .1))
+    returns-4)

@@ -4,11 +4,13 @@ use borrow.Author.Count.{below-none}
 use Rattle.plan.specs.Coded.{planOf}
 use Rattle.plan_slots.specs.Coded.{plannedOf}
 use Rattle.plan_slots.specs.Inner.{nothing}
-use Rattle.sender.specs.Coded.{shownIn}
-use Rattle.sender.specs.Inner.{shownBy}
-use Rattle.sender.proofs.Tells.{all-counted, all-told, told-more}
-use Rattle.sender.proofs.telling.Statement.{statement}
-use Rattle.sender.proofs.telling.Tie as tie
+use Rattle.sender.specs as defs
+use defs.Coded.{shownIn}
+use defs.Inner.{shownBy}
+use Rattle.sender.proofs as own
+use own.Tells.{all-counted, all-told, told-more}
+use own.telling.Statement.{statement}
+use own.telling.Tie as tie
 
 abbrev Inv-loop : tie.InvT-loop
 Inv-loop slots₀ all count i₀ slots i =
@@ -16,9 +18,6 @@ Inv-loop slots₀ all count i₀ slots i =
 
 abbrev μ-loop : tie.MeasureT-loop
 μ-loop slots₀ all count i₀ slots i = count - i
-
-loop-holds : tie.Need-loop-holds Inv-loop μ-loop
-loop-holds c = (omega arith, refl, below-none _)
 
 tell-requires : tie.Need-tell-requires Inv-loop μ-loop
 tell-requires c κs =
@@ -51,6 +50,6 @@ pub telling-spec : {M : Type 1} → statement M
 telling-spec =
     tie.close
     (tie.spec
-    Inv-loop μ-loop (λ c κs. search needs) loop-holds (λ c. search needs) (λ c. search needs)
-    tell-requires (λ c. search needs) (λ c. search needs) (λ c. search needs) (λ c. search needs)
-    loop-again returns)
+    Inv-loop μ-loop (λ c κs. search needs) (λ c. (omega arith, refl, below-none _))
+    (λ c. search needs) (λ c. search needs) tell-requires (λ c. search needs) (λ c. search needs)
+    (λ c. search needs) (λ c. search needs) loop-again returns)

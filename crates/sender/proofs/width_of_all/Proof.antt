@@ -1,19 +1,18 @@
 -- `sender::width_of_all` meets its contract. The invariant: the octets of the descriptions passed, at most two for each slot.
 use Rattle.laws.proofs.Base.{_≡_, sym, _≤_, _-_, _*_, arith, needs, length}
-use Rattle.sender.specs.Paper.{octetsOf, descriptions}
-use Rattle.sender.specs.Coded.{shownIn}
-use Rattle.sender.proofs.Groups.{octetsOf-few, descriptions-none, descriptions-next}
-use Rattle.sender.proofs.width_of_all.Statement.{statement}
-use Rattle.sender.proofs.width_of_all.Tie as tie
+use Rattle.sender.specs as defs
+use defs.Paper.{octetsOf, descriptions}
+use defs.Coded.{shownIn}
+use Rattle.sender.proofs as own
+use own.Groups.{octetsOf-few, descriptions-none, descriptions-next}
+use own.width_of_all.Statement.{statement}
+use own.width_of_all.Tie as tie
 
 abbrev Inv-loop : tie.InvT-loop
 Inv-loop count slots width₀ i₀ width i = (i ≤ count) × (width ≡ length (descriptions (shownIn slots) i)) × (width ≤ 2 * i)
 
 abbrev μ-loop : tie.MeasureT-loop
 μ-loop count slots width₀ i₀ width i = count - i
-
-loop-holds : tie.Need-loop-holds Inv-loop μ-loop
-loop-holds c = (omega arith, sym (descriptions-none (shownIn (c .args .t1))), omega arith)
 
 add-width : tie.Need-add-width Inv-loop μ-loop
 add-width c =
@@ -38,5 +37,7 @@ pub width-of-all-spec : {M : Type 1} → statement M
 width-of-all-spec =
     tie.close
     (tie.spec
-    Inv-loop μ-loop loop-holds (λ c. search needs) (λ c. search needs) (λ c κs. search needs)
-    add-width (λ c. search needs) (λ c. search needs) loop-again returns)
+    Inv-loop μ-loop
+    (λ c. (omega arith, sym (descriptions-none (shownIn (c .args .t1))), omega arith))
+    (λ c. search needs) (λ c. search needs) (λ c κs. search needs) add-width (λ c. search needs)
+    (λ c. search needs) loop-again returns)

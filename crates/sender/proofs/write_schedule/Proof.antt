@@ -6,14 +6,16 @@ use Rattle.laws.proofs.Parts.{copy-whole}
 use Rattle.plan.specs.Paper.{Plan}
 use Rattle.plan.specs.Coded.{planOf, verdictOf}
 use Rattle.plan.proofs.GoodPlan.{good-counted}
-use Rattle.sender.specs.Paper.{planned, descriptions, messageOf}
-use Rattle.sender.specs.Coded.{shownIn}
-use Rattle.sender.specs.Inner.{plansNumber}
-use Rattle.sender.proofs.Agree.{low-agree, descriptions-agree, message-agree}
-use Rattle.sender.proofs.Cases.{ready, write-15, write-plans, write-34, write-0}
-use Rattle.sender.proofs.Tells.{planned-low}
-use Rattle.sender.proofs.write_schedule.Statement.{statement}
-use Rattle.sender.proofs.write_schedule.Tie as tie
+use Rattle.sender.specs as defs
+use defs.Paper.{planned, descriptions, messageOf}
+use defs.Coded.{shownIn}
+use defs.Inner.{plansNumber}
+use Rattle.sender.proofs as own
+use own.Agree.{low-agree, descriptions-agree, message-agree}
+use own.Cases.{ready, write-15, write-plans, write-34, write-0}
+use own.Tells.{planned-low}
+use own.write_schedule.Statement.{statement}
+use own.write_schedule.Tie as tie
 
 abbrev current : tie.Start → Plan
 current s = planOf (s .args .current)

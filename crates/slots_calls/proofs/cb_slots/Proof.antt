@@ -1,8 +1,9 @@
 -- `slots_calls::cb_slots` meets its contract: all slots told from the places of the message's descriptions.
 use Rattle.laws.proofs.Base.{ap, _∙_, ℕ, sym, _<_, arith, needs}
-use Rattle.slots_calls.proofs.Slots.{slots-length, refuses-slots, found-shows, found-small, tells-slots}
-use Rattle.slots_calls.proofs.cb_slots.Statement.{statement}
-use Rattle.slots_calls.proofs.cb_slots.Tie as tie
+use Rattle.slots_calls.proofs as own
+use own.Slots.{slots-length, refuses-slots, found-shows, found-small, tells-slots}
+use own.cb_slots.Statement.{statement}
+use own.cb_slots.Tie as tie
 
 returns : tie.Need-returns
 returns c =

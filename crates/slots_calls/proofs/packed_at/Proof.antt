@@ -1,9 +1,10 @@
 -- `slots_calls::packed_at` meets its contract: the code and the new bit of a slot up to End, packed.
 use Rattle.laws.proofs.Base.{_<_, arith, needs}
 use Rattle.calls.proofs.Packed.{bit-small}
-use Rattle.slots_calls.proofs.Packed.{packed-past, packed-inside, packed-fits}
-use Rattle.slots_calls.proofs.packed_at.Statement.{statement}
-use Rattle.slots_calls.proofs.packed_at.Tie as tie
+use Rattle.slots_calls.proofs as own
+use own.Packed.{packed-past, packed-inside, packed-fits}
+use own.packed_at.Statement.{statement}
+use own.packed_at.Tie as tie
 
 returns : tie.Need-returns
 returns c =
@@ -18,12 +19,6 @@ few c =
     let s = c .before .before .shown in
     packed-fits (a .message .now) (a .end) (a .i) (a .at) (s .result) (s .ensures) (c .before .code .result) (c .before .code .ensures) (λ i. b .shared-slice-known .given i .fits)
 
-mul-result : tie.Need-mul-result
-mul-result c = omega (arith, bit-small (c .before .before .shown .result .new))
-
-add-result : tie.Need-add-result
-add-result c = omega (arith, few c, bit-small (c .before .before .shown .result .new))
-
 returns-2 : tie.Need-returns-2
 returns-2 c =
     let b = c .before .before .before in
@@ -35,5 +30,6 @@ pub packed-at-spec : {M : Type 1} → statement M
 packed-at-spec =
     tie.close
     (tie.spec
-    returns (λ c κs. search needs) (λ c κs. search needs) (λ c. search needs) mul-result add-result
-    returns-2)
+    returns (λ c κs. search needs) (λ c κs. search needs) (λ c. search needs)
+    (λ c. omega (arith, bit-small (c .before .before .shown .result .new)))
+    (λ c. omega (arith, few c, bit-small (c .before .before .shown .result .new))) returns-2)

@@ -2,9 +2,10 @@
 use Rattle.laws.proofs.Base.{ap, _∙_, _≤_, arith, needs}
 use Rattle.calls.proofs.Packed.{left-number, left-done}
 use Rattle.text_calls.specs.Paper.{readLeft}
-use Rattle.text_calls.proofs.Answers.{characters-small}
-use Rattle.text_calls.proofs.cb_read_text.Statement.{statement}
-use Rattle.text_calls.proofs.cb_read_text.Tie as tie
+use Rattle.text_calls.proofs as own
+use own.Answers.{characters-small}
+use own.cb_read_text.Statement.{statement}
+use own.cb_read_text.Tie as tie
 
 -- what the answer counts is small
 few : (c : tie.After-known-told) → c .before .answer .given .0 .0 ≤ 93

@@ -1,17 +1,15 @@
 -- `text_reader::blank` meets its contract: after i turns the first i places hold 0.
 use Rattle.laws.proofs.Base.{_≡_, refl, ap, _∙_, List, _++_, append-nil, ℕ, _≤_, _<_, _-_, arith, needs, now, length, length-set, set, drop, replicate, drop-length}
 use borrow.Author.Fill.{fill-more}
-use Rattle.text_reader.proofs.blank.Statement.{statement}
-use Rattle.text_reader.proofs.blank.Tie as tie
+use Rattle.text_reader.proofs.blank as own
+use own.Statement.{statement}
+use own.Tie as tie
 
 abbrev Inv-loop : tie.InvT-loop
 Inv-loop text₀ i₀ text i = (i ≤ length text₀) × (length text ≡ length text₀) × (text ≡ replicate i 0 ++ drop i text₀)
 
 abbrev μ-loop : tie.MeasureT-loop
 μ-loop text₀ i₀ text i = length text₀ - i
-
-loop-holds : tie.Need-loop-holds Inv-loop μ-loop
-loop-holds c = (search needs, refl, refl)
 
 loop-again : tie.Need-loop-again Inv-loop μ-loop
 loop-again c =
@@ -34,5 +32,5 @@ pub blank-spec : {M : Type 1} → statement M
 blank-spec =
     tie.close
     (tie.spec
-    Inv-loop μ-loop loop-holds (λ c. search needs) (λ c. search needs) (λ c. search needs)
-    (λ c. search needs) loop-again (λ c. search needs) returns)
+    Inv-loop μ-loop (λ c. (search needs, refl, refl)) (λ c. search needs) (λ c. search needs)
+    (λ c. search needs) (λ c. search needs) loop-again (λ c. search needs) returns)

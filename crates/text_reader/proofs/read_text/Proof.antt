@@ -9,8 +9,9 @@ use Rattle.page.specs.Coded.{numberOfHanding, partOf}
 use Rattle.page.proofs.Received.{handed-content}
 use Rattle.text.specs.Paper.{wholeOf, trimmed, shown, reading}
 use Rattle.text.proofs.Cases.{reading-13, reading-0, reading-refused, handed-right}
-use Rattle.text_reader.proofs.read_text.Statement.{statement}
-use Rattle.text_reader.proofs.read_text.Tie as tie
+use Rattle.text_reader.proofs.read_text as own
+use own.Statement.{statement}
+use own.Tie as tie
 
 returns : tie.Need-returns
 unfolding reading

@@ -5,9 +5,10 @@ use Rattle.laws.specs.Table.{onto}
 use Rattle.alphabet.specs.Paper.{codePoint}
 use Rattle.text.specs.Paper.{wholeOf, trimmed, shown}
 use Rattle.text.proofs.Trim.{trim-length}
-use Rattle.text_reader.proofs.Shown.{left-count, left-front, shown-made}
-use Rattle.text_reader.proofs.show.Statement.{statement}
-use Rattle.text_reader.proofs.show.Tie as tie
+use Rattle.text_reader.proofs as own
+use own.Shown.{left-count, left-front, shown-made}
+use own.show.Statement.{statement}
+use own.show.Tie as tie
 
 abbrev content : tie.Start → List ℕ
 content s = now (s .args .content)
@@ -44,9 +45,6 @@ module _ (u : tie.After-unpack) where
       let e : length o + length o / 7 ≡ 8 * length o / 7 = omega arith in
       u .unpack .ensures ∙ ap (λ (n : ℕ). digits 128 n (value 256 o)) (room start ∙ e)
 
-array-share-prefix-septets : tie.Need-array-share-prefix-septets
-array-share-prefix-septets c = simp length-append (omega (arith, unpacked-length (c .before)))
-
 slice-aggregate-without-crs : tie.Need-slice-aggregate-without-crs
 slice-aggregate-without-crs c =
     let u = c .before .before in
@@ -71,15 +69,6 @@ module _ (c : tie.After-without-crs) where
 
   bound : left ≤ 93
   bound = omega (arith, within, unpacked-length back, start back .pre .0)
-
-array-share-prefix-septets-2 : tie.Need-array-share-prefix-septets-2
-array-share-prefix-septets-2 c = simp length-append (omega (arith, within c))
-
-slice-aggregate-code-points : tie.Need-slice-aggregate-code-points
-slice-aggregate-code-points c = count (c .before) ∙ sym (ap length (front (c .before)))
-
-mul-blank : tie.Need-mul-blank
-mul-blank c = omega (arith, bound (c .before .before .before .before .before))
 
 -- what is left fits the text, which keeps its length
 fits : (c : tie.After-code-points) → c .before .before .before .without-crs .result ≤ length (c .code-points .last .1 .0)
@@ -107,8 +96,11 @@ show-spec =
     tie.close
     (tie.spec
     (λ c. search needs) (λ c. search needs) (λ c. sym (room (c .before .before .before)))
-    (λ c κs. room (c .before .before .before)) array-share-prefix-septets
-    slice-aggregate-without-crs (λ c κs. search needs) array-share-prefix-septets-2
-    slice-aggregate-code-points (λ c κs. search needs) mul-blank
+    (λ c κs. room (c .before .before .before))
+    (λ c. simp length-append (omega (arith, unpacked-length (c .before))))
+    slice-aggregate-without-crs (λ c κs. search needs)
+    (λ c. simp length-append (omega (arith, within c)))
+    (λ c. count (c .before) ∙ sym (ap length (front (c .before)))) (λ c κs. search needs)
+    (λ c. omega (arith, bound (c .before .before .before .before .before)))
     (λ c. fits (c .before .before)) (λ c. fits (c .before .before)) (λ c. search needs)
     (λ c κs. search needs) (λ c. search needs) returns)

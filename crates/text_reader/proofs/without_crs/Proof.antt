@@ -2,17 +2,15 @@
 use Rattle.laws.proofs.Base.{_≡_, sym, ap, _∙_, _≤_, arith, needs, now, length, take, take-length, length-take-le}
 use Rattle.text.specs.Paper.{trimmed}
 use Rattle.text.proofs.Trim.{trim-back, trim-stop}
-use Rattle.text_reader.proofs.without_crs.Statement.{statement}
-use Rattle.text_reader.proofs.without_crs.Tie as tie
+use Rattle.text_reader.proofs.without_crs as own
+use own.Statement.{statement}
+use own.Tie as tie
 
 abbrev Inv-loop : tie.InvT-loop
 Inv-loop septets n₀ n = (n ≤ length septets) × (trimmed septets ≡ trimmed (take n septets))
 
 abbrev μ-loop : tie.MeasureT-loop
 μ-loop septets n₀ n = n
-
-loop-holds : tie.Need-loop-holds Inv-loop μ-loop
-loop-holds c = (search needs, rw (take-length (now (c .args .septets))))
 
 returns : tie.Need-returns Inv-loop μ-loop
 returns c =
@@ -39,5 +37,6 @@ pub without-crs-spec : {M : Type 1} → statement M
 without-crs-spec =
     tie.close
     (tie.spec
-    Inv-loop μ-loop loop-holds (λ c. search needs) (λ c. search needs) returns (λ c. search needs)
-    (λ c. search needs) loop-again returns-2)
+    Inv-loop μ-loop (λ c. (search needs, rw (take-length (now (c .args .septets)))))
+    (λ c. search needs) (λ c. search needs) returns (λ c. search needs) (λ c. search needs)
+    loop-again returns-2)

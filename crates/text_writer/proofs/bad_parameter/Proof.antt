@@ -2,8 +2,9 @@
 use Rattle.laws.proofs.Base.{_≡_, sym, _||_, ℕ, _/_, _%_, _<_, pos-of-ne-zero, arith, eqb, ltb, eq-eqb, ne-eqb, lt-ltb, eqb-true}
 use Rattle.laws.proofs.Tests.{true-or-false}
 use Rattle.text.specs.Paper.{badParameter}
-use Rattle.text_writer.proofs.bad_parameter.Statement.{statement}
-use Rattle.text_writer.proofs.bad_parameter.Tie as tie
+use Rattle.text_writer.proofs.bad_parameter as own
+use own.Statement.{statement}
+use own.Tie as tie
 
 returns : tie.Need-returns
 unfolding badParameter

@@ -1,9 +1,10 @@
 -- `text_writer::marked` meets its contract: the flag says whether the mark stands among the septets passed.
 use Rattle.laws.proofs.Base.{_≡_, refl, sym, _∙_, ⊎-elim, _≤_, _<_, _-_, arith, needs, now, length, take, take-length}
 use Rattle.text_writer.specs.Inner.{marks}
-use Rattle.text_writer.proofs.Marks.{marks-found, marks-passed}
-use Rattle.text_writer.proofs.marked.Statement.{statement}
-use Rattle.text_writer.proofs.marked.Tie as tie
+use Rattle.text_writer.proofs as own
+use own.Marks.{marks-found, marks-passed}
+use own.marked.Statement.{statement}
+use own.marked.Tie as tie
 
 abbrev Inv-loop : tie.InvT-loop
 Inv-loop septets found₀ i₀ found i = (i ≤ length septets) × (found ≡ marks (take i septets))

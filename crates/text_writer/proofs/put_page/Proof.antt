@@ -3,8 +3,9 @@ use Rattle.laws.proofs.Base.{_≡_, ap, _∙_, List, [], _++_, append-nil, _-_,
 use Rattle.page.specs.Coded.{headingOf}
 use Rattle.page.proofs.HeaderBack.{header-length}
 use Rattle.text.specs.Paper.{packed}
-use Rattle.text_writer.proofs.put_page.Statement.{statement}
-use Rattle.text_writer.proofs.put_page.Tie as tie
+use Rattle.text_writer.proofs.put_page as own
+use own.Statement.{statement}
+use own.Tie as tie
 
 made : (head p d y : List ℕ) → length head ≡ 6 → d ≡ take (length head) head ++ drop (length head) p
     → take 6 d ++ (y ++ drop (length d - 6) (drop 6 d)) ≡ head ++ y

@@ -3,13 +3,15 @@ use Rattle.laws.proofs.Base.{_≡_, _≤_, _<_, arith, sym, ap, _∙_, false, L
 use Rattle.laws.specs.Ruled.{ruled}
 use Rattle.page.specs.Paper.{Heading, headerOctets}
 use Rattle.text.specs.Paper.{septets, packed, pageOf, usedOctets, badParameter, foreign, endsInCr, written}
-use Rattle.text_writer.specs.Coded.{headed}
-use Rattle.text_writer.specs.Inner.{marks}
+use Rattle.text_writer.specs as defs
+use defs.Coded.{headed}
+use defs.Inner.{marks}
 use Rattle.text.proofs.Cases.{unwritten}
 use Rattle.text.proofs.Septets.{septets-made, septets-count, septets-below}
-use Rattle.text_writer.proofs.Marks.{marks-padded}
-use Rattle.text_writer.proofs.write_text.Statement.{statement}
-use Rattle.text_writer.proofs.write_text.Tie as tie
+use Rattle.text_writer.proofs as own
+use own.Marks.{marks-padded}
+use own.write_text.Statement.{statement}
+use own.write_text.Tie as tie
 
 returns : tie.Need-returns
 unfolding written
@@ -76,9 +78,6 @@ unfolding septets
 marked-foreign c =
     c .marked .ensures ∙ ap marks (array (c .before .before .before)) ∙ marks-padded (text (short c)) (93 - length (text (short c)))
 
-returns-5 : tie.Need-returns-5
-returns-5 c = sym (past (short (c .before)) ∙ simp (sym (marked-foreign (c .before)) ∙ c .if5 .taken))
-
 -- every character has a septet
 found : (c : tie.Else5) → foreign (text (short (c .before))) ≡ false
 found c = sym (marked-foreign (c .before)) ∙ c .if5 .left
@@ -114,6 +113,7 @@ write-text-spec =
     tie.close
     (tie.spec
     returns returns-2 (λ c κs. search needs) returns-3 returns-4 (λ c. search needs)
-    (λ c κs. search needs) (λ c. search needs) (λ c κs. search needs) returns-5
+    (λ c κs. search needs) (λ c. search needs) (λ c κs. search needs)
+    (λ c. sym (past (short (c .before)) ∙ simp (sym (marked-foreign (c .before)) ∙ c .if5 .taken)))
     (λ c κs. search needs) returns-6 (λ c. search needs) put-page-requires (λ c. search needs)
     (λ c. search needs) (λ c. search needs) (λ c. search needs) returns-7)

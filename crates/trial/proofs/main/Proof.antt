@@ -1,7 +1,8 @@
 -- `trial::main` is safe and ends. The measure is the number of arguments left.
 use Rattle.laws.proofs.Base.{_-_, needs}
-use Rattle.trial.proofs.main.Statement.{statement}
-use Rattle.trial.proofs.main.Tie as tie
+use Rattle.trial.proofs.main as own
+use own.Statement.{statement}
+use own.Tie as tie
 
 abbrev Inv-loop : tie.InvT-loop
 Inv-loop counts₀ count i₀ t4 t5 counts i = Unit {0}

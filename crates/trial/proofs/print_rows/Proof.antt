@@ -1,7 +1,8 @@
 -- `trial::print_rows` is safe and ends. The invariant: a name starts in the names.
 use Rattle.laws.proofs.Base.{_-_, _≤_, length, needs}
-use Rattle.trial.proofs.print_rows.Statement.{statement}
-use Rattle.trial.proofs.print_rows.Tie as tie
+use Rattle.trial.proofs.print_rows as own
+use own.Statement.{statement}
+use own.Tie as tie
 
 abbrev Inv-loop : tie.InvT-loop
 Inv-loop names counts at₀ row₀ t6 at row = at ≤ length names

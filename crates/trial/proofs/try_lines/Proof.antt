@@ -1,7 +1,8 @@
 -- `trial::try_lines` is safe and ends.
 use Rattle.laws.proofs.Base.{_-_, _≤_, length, needs}
-use Rattle.trial.proofs.try_lines.Statement.{statement}
-use Rattle.trial.proofs.try_lines.Tie as tie
+use Rattle.trial.proofs.try_lines as own
+use own.Statement.{statement}
+use own.Tie as tie
 
 abbrev Inv-loop : tie.InvT-loop
 Inv-loop name text counts₀ number₀ at₀ counts number at = at ≤ length text

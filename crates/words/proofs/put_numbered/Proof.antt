@@ -1,18 +1,16 @@
 -- `words::put_numbered` meets its contract: what is put is the number's part of all words.
 use Rattle.laws.proofs.Base.{ap, _∙_, List, ℕ, _<_, arith, needs}
 use Rattle.lines.specs.Paper.{behind}
-use Rattle.words.proofs.Parts.{part-is, part-inside, says-none}
-use Rattle.words.proofs.put_numbered.Statement.{statement}
-use Rattle.words.proofs.put_numbered.Tie as tie
+use Rattle.words.proofs as own
+use own.Parts.{part-is, part-inside, says-none}
+use own.put_numbered.Statement.{statement}
+use own.put_numbered.Tie as tie
 
 abbrev number : tie.Else1 → ℕ
 number c = c .before .before .before .args .number
 
 low : (c : tie.Else1) → number c < 43
 low c = omega (arith, c .if1 .left)
-
-part-put-end : tie.Need-part-put-end
-part-put-end c = rw (c .before .before .before .pre) (part-inside (number c) (low c) .1)
 
 returns-2 : tie.Need-returns-2
 returns-2 c =
@@ -24,6 +22,8 @@ pub put-numbered-spec : {M : Type 1} → statement M
 put-numbered-spec =
     tie.close
     (tie.spec
-    (λ c. says-none _ _ _ (c .if1 .taken)) (λ c. search needs) (λ c. search needs) (λ c. search needs)
-    (λ c. search needs) (λ c. search needs) (λ c. part-inside (number c) (low c) .0)
-    (λ c. part-inside (number c) (low c) .0) part-put-end (λ c κs. search needs) (λ c. search needs) returns-2)
+    (λ c. says-none _ _ _ (c .if1 .taken)) (λ c. search needs) (λ c. search needs)
+    (λ c. search needs) (λ c. search needs) (λ c. search needs)
+    (λ c. part-inside (number c) (low c) .0) (λ c. part-inside (number c) (low c) .0)
+    (λ c. rw (c .before .before .before .pre) (part-inside (number c) (low c) .1))
+    (λ c κs. search needs) (λ c. search needs) returns-2)

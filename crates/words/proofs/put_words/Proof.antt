@@ -1,10 +1,12 @@
 -- `words::put_words` meets its contract: what is put are the words of the refusal's number.
 use Rattle.laws.proofs.Base.{refl, ap, _∙_, ℕ, needs}
 use Rattle.lines.specs.Paper.{ascii, behind}
-use Rattle.words.specs.Paper.{words}
-use Rattle.words.specs.Inner.{joined}
-use Rattle.words.proofs.put_words.Statement.{statement}
-use Rattle.words.proofs.put_words.Tie as tie
+use Rattle.words.specs as defs
+use defs.Paper.{words}
+use defs.Inner.{joined}
+use Rattle.words.proofs.put_words as own
+use own.Statement.{statement}
+use own.Tie as tie
 
 put-numbered-requires : tie.Need-put-numbered-requires
 unfolding ascii joined

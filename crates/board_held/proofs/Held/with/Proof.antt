@@ -1,8 +1,9 @@
 -- `board_held::Held::with` meets its contract: a power of two is added where its bit is clear.
 use Rattle.laws.proofs.Base.{sym, _∙_, needs}
-use Rattle.board_held.proofs.Sets.{enter-low, enter-high, enter-held, enter-shifted, enter-fits}
-use Rattle.board_held.proofs.Held.with.Statement.{statement}
-use Rattle.board_held.proofs.Held.with.Tie as tie
+use Rattle.board_held.proofs as own
+use own.Sets.{enter-low, enter-high, enter-held, enter-shifted, enter-fits}
+use own.Held.with.Statement.{statement}
+use own.Held.with.Tie as tie
 
 returns-3 : tie.Need-returns-3
 returns-3 c =

@@ -1,7 +1,8 @@
 -- `trial::fields::number_in` is safe and ends.
 use Rattle.laws.proofs.Base.{_-_, length, needs}
-use Rattle.trial.proofs.fields.number_in.Statement.{statement}
-use Rattle.trial.proofs.fields.number_in.Tie as tie
+use Rattle.trial.proofs.fields.number_in as own
+use own.Statement.{statement}
+use own.Tie as tie
 
 abbrev Inv-loop : tie.InvT-loop
 Inv-loop text value₀ i₀ value i = Unit {0}

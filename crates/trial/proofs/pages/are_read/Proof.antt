@@ -1,7 +1,8 @@
 -- `trial::pages::are_read` is safe and ends.
 use Rattle.laws.proofs.Base.{_-_, length, needs}
-use Rattle.trial.proofs.pages.are_read.Statement.{statement}
-use Rattle.trial.proofs.pages.are_read.Tie as tie
+use Rattle.trial.proofs.pages.are_read as own
+use own.Statement.{statement}
+use own.Tie as tie
 
 abbrev Inv-loop : tie.InvT-loop
 Inv-loop septets text i₀ i = Unit {0}

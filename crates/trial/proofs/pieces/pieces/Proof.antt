@@ -1,7 +1,8 @@
 -- `trial::pieces::pieces` is safe and ends. The measure is the number of turns left.
 use Rattle.laws.proofs.Base.{needs}
-use Rattle.trial.proofs.pieces.pieces.Statement.{statement}
-use Rattle.trial.proofs.pieces.pieces.Tie as tie
+use Rattle.trial.proofs.pieces.pieces as own
+use own.Statement.{statement}
+use own.Tie as tie
 
 abbrev Inv-loop : tie.InvT-loop
 Inv-loop line end state₀ next₀ turns₀ state next turns = Unit {0}

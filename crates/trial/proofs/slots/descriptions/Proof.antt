@@ -1,7 +1,8 @@
 -- `trial::slots::descriptions` is safe and ends.
 use Rattle.laws.proofs.Base.{_-_, length, needs}
-use Rattle.trial.proofs.slots.descriptions.Statement.{statement}
-use Rattle.trial.proofs.slots.descriptions.Tie as tie
+use Rattle.trial.proofs.slots.descriptions as own
+use own.Statement.{statement}
+use own.Tie as tie
 
 abbrev Inv-loop : tie.InvT-loop
 Inv-loop line at message received next₀ place₀ given₀ next place given = Unit {0}

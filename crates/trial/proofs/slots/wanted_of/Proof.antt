@@ -1,7 +1,8 @@
 -- `trial::slots::wanted_of` is safe and ends. The invariant: there are 64 identifiers.
 use Rattle.laws.proofs.Base.{_≡_, refl, _-_, arith, length, length-set, needs}
-use Rattle.trial.proofs.slots.wanted_of.Statement.{statement}
-use Rattle.trial.proofs.slots.wanted_of.Tie as tie
+use Rattle.trial.proofs.slots.wanted_of as own
+use own.Statement.{statement}
+use own.Tie as tie
 
 abbrev Inv-loop : tie.InvT-loop
 Inv-loop octets count ids₀ i₀ ids i = length ids ≡ 64
@@ -9,17 +10,11 @@ Inv-loop octets count ids₀ i₀ ids i = length ids ≡ 64
 abbrev μ-loop : tie.MeasureT-loop
 μ-loop octets count ids₀ i₀ ids i = 64 - i
 
-loop-holds : tie.Need-loop-holds Inv-loop μ-loop
-loop-holds c = refl
-
-loop-again : tie.Need-loop-again Inv-loop μ-loop
-loop-again c = simp length-set (omega arith)
-
 pub wanted-of-spec : {M : Type 1} → statement M
 wanted-of-spec =
     tie.close
     (tie.spec
-    Inv-loop μ-loop loop-holds (λ c. search needs) (λ c. search needs) (λ c. search needs)
+    Inv-loop μ-loop (λ c. refl) (λ c. search needs) (λ c. search needs) (λ c. search needs)
     (λ c. search needs) (λ c. search needs) (λ c. search needs) (λ c κs. search needs)
-    (λ c. search needs) (λ c. search needs) (λ c. search needs) (λ c. search needs) loop-again
-    (λ c. search needs))
+    (λ c. search needs) (λ c. search needs) (λ c. search needs) (λ c. search needs)
+    (λ c. simp length-set (omega arith)) (λ c. search needs))

@@ -1,7 +1,8 @@
 -- `trial::told::all_octets` is safe and ends.
 use Rattle.laws.proofs.Base.{_-_, length, needs}
-use Rattle.trial.proofs.told.all_octets.Statement.{statement}
-use Rattle.trial.proofs.told.all_octets.Tie as tie
+use Rattle.trial.proofs.told.all_octets as own
+use own.Statement.{statement}
+use own.Tie as tie
 
 abbrev Inv-loop : tie.InvT-loop
 Inv-loop line at octets next₀ i₀ next i = Unit {0}
