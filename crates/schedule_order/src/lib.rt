@@ -1,1 +1,1 @@
-// The order of a schedule message's descriptions: theorems on what `schedule` reads. No code of its own.
+// The order of a schedule message's descriptions: theorems on what the rooms of schedules read. No code of its own.

@@ -2,10 +2,10 @@
 ghost use mathlib.Core.Path.{_≡_};
 ghost use Rattle.sizes.specs.Paper.{wholeBlocks};
 
-// 000 3.3.1: the octets of a block's content.
+// 000 3.1: the octets of a block's content.
 pub const CONTENT: usize = 22;
 
-// 000 3.3.1: the octets of a message, those of four blocks.
+// 000 3.1: the octets of a message, those of four blocks.
 pub const MESSAGE: usize = 88;
 
 // 01 Intake, Schedule message: what stands where nothing was received or told.

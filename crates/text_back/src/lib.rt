@@ -1,1 +1,1 @@
-// Text read back as it was written: the theorems on the writer and the reader of `text`. No code of its own.
+// Text read back as it was written: the theorems on `text_writer` and `text_reader`. No code of its own.
