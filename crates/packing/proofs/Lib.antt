@@ -1,3 +1,4 @@
 -- What `packing` proves.
 pub mod Determined
+pub mod Others
 pub mod Words

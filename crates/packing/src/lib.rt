@@ -3,7 +3,7 @@ ghost use mathlib.Core.Path.{_≡_};
 ghost use Prim.Native.Nat.{_+_, _/_, _<_, _≤_};
 ghost use lib.ListN.{length, getD};
 ghost use Rattle.laws.specs.Radix.{value, digits};
-ghost use Rattle.packing.specs.Inner.{Word, Packable};
+ghost use Rattle.packing.specs.Inner.{Word, others, Packable, packedInto, unpackedInto};
 
 // The number of some digits, lowest first.
 fn number(base: u64, list: &[u8]) -> u64
@@ -47,8 +47,39 @@ fn put(word: u64, base: u64, out: &mut [u8])
     }
 }
 
-// Eight septets are seven octets; the last five take five, with five zero bits.
+// Whether some entry is no septet. The loop has no early way out, so that the compiler can take many at once.
+fn has_other(list: &[u8]) -> bool
+    ensures { λ r. ⌜ r ≡ others (now (list .entry)) ⌝ }
+{
+    let mut found = false;
+    let mut i = 0;
+    while i < list.len() {
+        if list[i] >= 128 {
+            found = true;
+        }
+        i += 1;
+    }
+    found
+}
+
+// Packs 93 septets into 82 octets. Where there are others, or other room, nothing is written.
 pub fn pack(septets: &[u8], octets: &mut [u8])
+    ensures { λ r. ⌜ now (octets .exit) ≡ packedInto (now (septets .entry)) (now (octets .entry)) ⌝ }
+{
+    if septets.len() != 93 {
+        return;
+    }
+    if octets.len() != 82 {
+        return;
+    }
+    if has_other(septets) {
+        return;
+    }
+    pack_all(septets, octets);
+}
+
+// Eight septets are seven octets; the last five take five, with five zero bits.
+fn pack_all(septets: &[u8], octets: &mut [u8])
     requires { ⌜ Packable (now septets) (now octets) ⌝ }
     ensures { λ r. ⌜ now (octets .exit) ≡ digits 256 82 (value 128 (now (septets .entry))) ⌝ }
 {
@@ -62,8 +93,21 @@ pub fn pack(septets: &[u8], octets: &mut [u8])
     put(word, 256, &mut octets[77..]);
 }
 
-// As many septets as there is room for: one for each octet, and one more for each seven.
+// Unpacks octets into one septet for each, and one more for each seven. Where there is other room, nothing is written.
 pub fn unpack(octets: &[u8], septets: &mut [u8])
+    ensures { λ r. ⌜ now (septets .exit) ≡ unpackedInto (now (octets .entry)) (now (septets .entry)) ⌝ }
+{
+    if septets.len() < octets.len() {
+        return;
+    }
+    if septets.len() - octets.len() != octets.len() / 7 {
+        return;
+    }
+    unpack_all(octets, septets);
+}
+
+// As many septets as there is room for.
+fn unpack_all(octets: &[u8], septets: &mut [u8])
     requires { ⌜ length (now septets) ≡ length (now octets) + length (now octets) / 7 ⌝ }
     ensures { λ r. ⌜ now (septets .exit) ≡ digits 128 (length (now (septets .entry))) (value 256 (now (octets .entry))) ⌝ }
 {

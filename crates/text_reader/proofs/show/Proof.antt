@@ -3,6 +3,7 @@ use Rattle.laws.proofs.Base.{_≡_, sym, ap, _∙_, List, _++_, ℕ, _+_, _*_, 
 use Rattle.laws.specs.Radix.{value, digits}
 use Rattle.laws.specs.Table.{onto}
 use Rattle.alphabet.specs.Paper.{codePoint}
+use Rattle.packing.proofs.Others.{unpacked-into}
 use Rattle.text.specs.Paper.{wholeOf, trimmed, shown}
 use Rattle.text.proofs.Trim.{trim-length}
 use Rattle.text_reader.proofs as own
@@ -43,7 +44,7 @@ module _ (u : tie.After-unpack) where
   unpacked-whole =
       let o = content start in
       let e : length o + length o / 7 ≡ 8 * length o / 7 = omega arith in
-      u .unpack .ensures ∙ ap (λ (n : ℕ). digits 128 n (value 256 o)) (room start ∙ e)
+      u .unpack .ensures ∙ (unpacked-into o (take (whole start) zeros) (room start) ∙ ap (λ (n : ℕ). digits 128 n (value 256 o)) (room start ∙ e))
 
 slice-aggregate-without-crs : tie.Need-slice-aggregate-without-crs
 slice-aggregate-without-crs c =
@@ -96,7 +97,7 @@ show-spec =
     tie.close
     (tie.spec
     (λ c. search needs) (λ c. search needs) (λ c. sym (room (c .before .before .before)))
-    (λ c κs. room (c .before .before .before))
+    (λ c κs. search needs)
     (λ c. simp length-append (omega (arith, unpacked-length (c .before))))
     slice-aggregate-without-crs (λ c κs. search needs)
     (λ c. simp length-append (omega (arith, within c)))

@@ -1,8 +1,9 @@
 -- `text_writer::put_page` meets its contract: the header is copied over the page's beginning, and what is packed stands in the rest.
-use Rattle.laws.proofs.Base.{_≡_, ap, _∙_, List, [], _++_, append-nil, _-_, le-refl, ℕ, needs, length, take, drop, length-drop, drop-of-length-le, take-at, take-length}
+use Rattle.laws.proofs.Base.{_≡_, ap, _∙_, List, [], _++_, append-nil, _-_, le-refl, ℕ, arith, now, needs, length, take, drop, length-drop, drop-of-length-le, take-at, take-length}
 use Rattle.page.specs.Coded.{headingOf}
 use Rattle.page.proofs.HeaderBack.{header-length}
 use Rattle.text.specs.Paper.{packed}
+use Rattle.packing.proofs.Others.{packed-into}
 use Rattle.text_writer.proofs.put_page as own
 use own.Statement.{statement}
 use own.Tie as tie
@@ -20,8 +21,11 @@ returns c =
     let d = c .before .before .before .before .before .before in
     let h = d .before .before .before .header-octets in
     let a = d .before .before .before .before .before .before .args in
-    made (h .result) (a .page .now) (d .copy .last .1 .0) (c .before .before .pack .last .1 .0) (ap length (h .ensures) ∙ header-length (headingOf (a .heading))) (d .copy .ensures .1)
-    ∙ rw (h .ensures, c .before .before .pack .ensures)
+    let q = d .before .before .before .before .before .before .pre in
+    let d′ = d .copy .last .1 .0 in
+    let fits = c .before .before .pack .ensures ∙ packed-into _ _ (q .below) (q .count) (search needs) in
+    made (h .result) (a .page .now) d′ (c .before .before .pack .last .1 .0) (ap length (h .ensures) ∙ header-length (headingOf (a .heading))) (d .copy .ensures .1)
+    ∙ rw (h .ensures, fits)
 
 pub put-page-spec : {M : Type 1} → statement M
 put-page-spec =
