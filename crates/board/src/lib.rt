@@ -94,13 +94,13 @@ fn reads_by(description: Description, matches: bool, missing: bool) -> bool
 }
 
 // Whether slot i, counted from 0, is read by what is told of it and of the slot that its page is entered under.
-fn reads_for(message: &[u8], places: [usize; 48], i: usize, wanted: Wanted, held: Held) -> bool
+fn reads_for(message: &[u8], places: [u8; 48], i: usize, wanted: Wanted, held: Held) -> bool
     requires { ⌜ (i < 48) × (falseRepeat (toldBy (now message) places) i ≡ false) × (wanted .count ≤ 64) ⌝ }
     ensures { λ r. ⌜ r ≡ readsFor (toldBy (now (message .entry)) places) (wantedOf wanted) (held .0) (toldBy (now (message .entry)) places i) ⌝ }
 {
-    let description = schedule::told_at(message, places[i]);
+    let description = schedule::told_at(message, places[i] as usize);
     let under = board_held::entry_for(i + 1, description);
-    let first = schedule::told_at(message, places[under - 1]);
+    let first = schedule::told_at(message, places[under - 1] as usize);
     let matches = first_matches(first, wanted);
     let missing = unless_held(matches, held, under);
     reads_by(description, matches, missing)

@@ -88,7 +88,7 @@ pub fn entered_under_on(known: bool, message: &[u8], received: usize, slot: usiz
         return slot;
     }
     let places = found.places;
-    let description = schedule::told_at(message, places[slot - 1]);
+    let description = schedule::told_at(message, places[slot - 1] as usize);
     entry_for(slot, description)
 }
 

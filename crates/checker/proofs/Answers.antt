@@ -1,14 +1,9 @@
 -- Which test of the checker answers, each case on plain facts.
-use Rattle.laws.proofs.Base.{_≡_, List, ℕ, eq-eqb, ne-eqb}
-use Rattle.laws.specs.Upto.{lowest}
-use Rattle.schedule.specs.Paper.{end, read}
-use Rattle.plan_slots.specs.Paper.{Planned}
+use Rattle.laws.proofs.Base.{_≡_, List, ℕ, ne-eqb}
 use Rattle.checker_plans.specs.Inner.{Plans}
-use Rattle.plan.specs.Paper.{Plan, planNumber}
-use Rattle.plan_slots.specs.Inner.{allPlanned}
 use Rattle.checker.specs as defs
-use defs.Paper.{unchecked, untrueAt}
-use defs.Inner.{untrueTo, compared, checkBeside}
+use defs.Paper.{unchecked}
+use defs.Inner.{compared, checkBeside}
 
 module _ (b : Plans) (m : List ℕ) (received : ℕ) where
   pub plans-refused : (n : ℕ) → (n ≡ 0 → ⊥) → n ≡ b .number → unchecked n ≡ checkBeside b m received

@@ -8,8 +8,6 @@ use Rattle.plan.specs.declared.Plan.{Plan}
 use Rattle.plan.specs.Coded.{planOf}
 use Rattle.checker_plans.specs.declared.Plans.{Plans}
 use Rattle.checker_plans.specs.Coded.{plansOf}
-use Rattle.plan.proofs.Determined.{verdict-injective}
-use Rattle.plan_slots.proofs.Determined.{said-injective}
 use Rattle.checker.specs as defs
 use defs.declared.Checking.{Checking}
 use defs.declared.Checking.the-variants.{True, Refused}

@@ -9,7 +9,6 @@ use Rattle.schedule.specs.Inner.{toldBy}
 use Rattle.plan_slots.specs.declared.Planned.{Planned}
 use Rattle.plan_slots.specs.Coded.{plannedOf}
 use Rattle.plan_slots.specs.Inner.{nothing}
-use Rattle.plan.specs.Coded.{verdictOf}
 use Rattle.checker.specs.declared.Checking.{Checking}
 use Rattle.checker.specs.declared.Checking.the-variants.{True, Refused}
 use Rattle.checker_slots.specs.Paper.{trueBy}

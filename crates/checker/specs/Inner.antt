@@ -8,7 +8,7 @@ use Rattle.laws.specs.Ruled.{ruled, unless0}
 use Rattle.laws.specs.Upto.{lowest}
 use Rattle.schedule.specs.Paper.{shown, end, read}
 use Rattle.plan_slots.specs.Paper.{Planned}
-use Rattle.plan_slots.specs.Inner.{nonePlanned, allPlanned}
+use Rattle.plan_slots.specs.Inner.{nonePlanned}
 use Rattle.checker_slots.specs.Paper.{trueBy}
 use Rattle.checker_plans.specs.Inner.{Plans}
 use Rattle.checker.specs.Paper.{Checked, unchecked, untrueAt}

@@ -5,9 +5,9 @@ use Prim.Native.Nat.{ℕ, suc}
 use lib.Dec.{eqb}
 use Rattle.laws.specs.Ruled.{ruled, unless0}
 use Rattle.laws.specs.Upto.{lowest}
-use Rattle.schedule.specs.Paper.{Shown, shown, end, read, Told, first, again, optional, advised}
+use Rattle.schedule.specs.Paper.{Shown, shown, end, read}
 use Rattle.plan.specs.Paper.{Plan, planNumber}
-use Rattle.plan_slots.specs.Paper.{plannedAt, Planned}
+use Rattle.plan_slots.specs.Paper.{plannedAt}
 use Rattle.checker_slots.specs.Paper.{trueBy}
 
 -- 01 Truthful: a slot is told truly

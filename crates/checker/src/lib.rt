@@ -7,12 +7,9 @@ ghost use Rattle.plan.specs.Coded.{planOf};
 ghost use Rattle.plan_slots.specs.Coded.{plannedOf};
 ghost use Rattle.checker_plans.specs.Coded.{plansOf};
 ghost use Rattle.checker.specs.Paper.{check};
-ghost use Rattle.checker_slots.specs.Paper.{leads, repeats, mayTell, newFor, trueBy};
 ghost use Rattle.checker.specs.Inner.{compared, checkBeside};
-ghost use Rattle.checker_plans.specs.Inner.{beside as besideThem, unsaid};
 ghost use Rattle.checker.specs.Coded.{untrueBy, checkedOf};
 use checker_plans::Plans;
-ghost use Rattle.schedule.specs.Coded.{toldOf, shownOf};
 use plan::Plan;
 use plan::Verdict;
 use plan_slots::Planned;
@@ -27,18 +24,13 @@ pub enum Checking {
 }
 
 // The lowest slot, by its number, of the first ones that is told untruly, at its place, by what the plans say of all; 0 for none.
-fn first_untrue(
-    all: [Planned; SLOTS],
-    message: &[u8],
-    places: [usize; SLOTS],
-    count: usize,
-) -> usize
+fn first_untrue(all: [Planned; SLOTS], message: &[u8], places: [u8; SLOTS], count: usize) -> usize
     requires { ⌜ count ≤ 48 ⌝ }
     ensures { λ r. ⌜ r ≡ lowestOf (untrueBy all (now (message .entry)) places) count ⌝ }
 {
     let mut i = 0;
     while i < count {
-        let slot = schedule::shown(message, i, places[i]);
+        let slot = schedule::shown(message, i, places[i] as usize);
         let said = all[i];
         if !checker_slots::is_true(said, i + 1, slot) {
             return i + 1;

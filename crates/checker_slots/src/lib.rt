@@ -14,7 +14,7 @@ fn leads(planned: Planned, number: usize) -> bool
     if planned.kind != 2 {
         return false;
     }
-    planned.lowest == number
+    planned.lowest as usize == number
 }
 
 // Whether a slot is a later one with its page.
@@ -24,7 +24,7 @@ fn repeats(planned: Planned, number: usize) -> bool
     if planned.kind != 2 {
         return false;
     }
-    planned.lowest != number
+    planned.lowest as usize != number
 }
 
 // Whether a description may be told of a slot.
@@ -42,7 +42,7 @@ fn may_tell(planned: Planned, number: usize, description: Description) -> bool
             if !repeats(planned, number) {
                 return false;
             }
-            n as usize == planned.lowest
+            n == planned.lowest
         }
         Description::Optional => {
             if planned.kind == 0 {

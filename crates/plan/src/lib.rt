@@ -13,9 +13,9 @@ use sizes::SLOTS;
 // A slot as planned: kind 0 for optional, 1 for advised, 2 for a page.
 pub struct Entry {
     pub kind: u8,
+    pub parameter: u8,
     pub serial: Serial,
     pub id: MessageId,
-    pub parameter: u8,
 }
 
 // The slots as planned; entries past the count mean nothing.

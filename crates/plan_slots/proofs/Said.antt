@@ -1,5 +1,5 @@
 -- What is said of the slots of a plan, told from the marks of it and of the plan before.
-use Rattle.laws.proofs.Base.{_≡_, refl, sym, ap, _∙_, Bool, true, false, cond, List, map, ℕ, _+_, _≤_, _<_, min, arith, eqb, ltb, getD, take, set, replicate, getD-replicate, length-map, length-set, List·getD-map, ext-getD, getD-take, getD-set-same, getD-set-other, eqb-true, lt-ltb, ltb-true, ltb-false}
+use Rattle.laws.proofs.Base.{_≡_, refl, sym, ap, _∙_, Bool, true, false, cond, List, map, ℕ, _+_, _<_, min, arith, eqb, ltb, getD, take, set, replicate, getD-replicate, length-map, length-set, List·getD-map, ext-getD, getD-take, getD-set-same, getD-set-other, eqb-true, lt-ltb, ltb-true, ltb-false}
 use borrow.Author.Count.{below-none, below-more}
 use Rattle.laws.specs.Search.{some, firstFrom}
 use Rattle.laws.specs.Upto.{each}
@@ -8,10 +8,9 @@ use Rattle.plan_slots.specs as defs
 use defs.declared.Planned.{Planned as PlannedCode}
 use Rattle.plan.specs.Paper.{Plan, entryAt}
 use defs.Inner.{nonePlanned, saidAt, allPlanned, nothing, saidBy, Marks, searched, Says}
-use defs.Paper.{Planned, pageAt, plannedAt, lowestSlot, hasPage}
+use defs.Paper.{Planned, plannedAt, lowestSlot, hasPage}
 use defs.Coded.{plannedOf}
 use Rattle.plan_slots.proofs.Marks.{lowest-marked, some-marked}
-use Rattle.plan_slots.proofs.Slots.{lowest-counted}
 
 module _ (c p : Plan) (ms qs : List ℕ) (h : Marks ms (c .entries) 48) (before : Marks qs (p .entries) 48) where
   pub searched-said : (i : ℕ) → i < min (c .count) 48 → searched (c .entries) (take (min (c .count) 48) ms) (take (min (p .count) 48) qs) i ≡ saidAt c p i
@@ -74,13 +73,3 @@ module _ (c p : Plan) (xs : List PlannedCode) where
       sym (List·getD-map plannedOf xs i nothing)
       ∙ ap (λ (s : List Planned). getD s i (nonePlanned 0)) e
       ∙ each-at (saidAt c p) 48 i (nonePlanned 0) l
-
--- the lowest slot that is said is within the count
-pub said-counted : (c p : Plan) (i : ℕ) → saidAt c p i .lowest ≤ c .count
-unfolding saidAt
-said-counted c p i = go (ltb i (c .count)) (eqb (entryAt c i .kind) 2)
-  where
-    go : (a b : Bool) → cond a (cond b (plannedAt c p i) (nonePlanned (entryAt c i .kind))) (nonePlanned 0) .lowest ≤ c .count
-    go true true = lowest-counted c (pageAt c i)
-    go true false = omega arith
-    go false b = omega arith

@@ -1,5 +1,5 @@
 -- Laws of the slots of a page. Of the sameness of pages they use only that it is decided, an equivalence, and keeps the identifier.
-use Rattle.laws.proofs.Base.{_≡_, refl, sym, _∙_, Bool, true, false, not, false≢true, ℕ, suc, _≤_, _<_, arith, eqb, length, getD, length-take, eqb-true, eq-eqb}
+use Rattle.laws.proofs.Base.{_≡_, refl, sym, _∙_, Bool, true, false, not, false≢true, ℕ, suc, _≤_, _<_, arith, eqb, length, getD, eqb-true, eq-eqb}
 use Rattle.laws.proofs.Search.{found-some, Found, none-passes, first-passes, searched, some-agree, first-agree}
 use Rattle.laws.proofs.Tests.{both}
 use Rattle.page.specs.Paper.{Name, samePage}
@@ -71,11 +71,3 @@ module _ (p : Plan) (x : Name) where
   pub has-lowest : hasPage p x ≡ not (eqb (lowestSlot p x) 0)
   unfolding hasPage lowestSlot
   has-lowest = sym (found-some (holds x) 0 (entriesWithin p))
-
--- the lowest slot of a page is within the count
-pub lowest-counted : (p : Plan) (x : Name) → lowestSlot p x ≤ p .count
-lowest-counted p x = go (lowest-slot p x)
-  where
-    go : {s : ℕ} → Found (holds x) free 1 (entriesWithin p) s → s ≤ p .count
-    go (none-passes e none) = omega arith
-    go (first-passes k e h q none) = omega (arith, length-take (p .count) (p .entries))

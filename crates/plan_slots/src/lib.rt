@@ -19,7 +19,7 @@ pub struct Planned {
     // the low 15 bits of the page's identifier
     pub low: u16,
     // the lowest slot with the page, by its number
-    pub lowest: usize,
+    pub lowest: u8,
     // whether the previous plan lacks the page
     pub fresh: bool,
 }
@@ -53,13 +53,14 @@ fn marks_of(entries: [Entry; 48]) -> [u64; 48]
 }
 
 // The place, counted from 1, of the first of some marks that is as given; 0 for none.
-fn first_slot(marks: &[u64], mark: u64) -> usize
+fn first_slot(marks: &[u64], mark: u64) -> u8
+    requires { ⌜ length (now marks) ≤ 48 ⌝ }
     ensures { λ r. ⌜ r ≡ firstFrom (eqb mark) 1 (now (marks .entry)) ⌝ }
 {
     let mut slot = 1;
     while slot <= marks.len() {
         if marks[slot - 1] == mark {
-            return slot;
+            return slot as u8;
         }
         slot += 1;
     }
@@ -80,6 +81,7 @@ fn none_planned(kind: u8) -> Planned
 
 // What is said of a slot by its entry and that entry's mark, among the marks of the plan and of the plan before it.
 fn planned_by(entry: Entry, mark: u64, current: &[u64], previous: &[u64]) -> Planned
+    requires { ⌜ (length (now current) ≤ 48) × (length (now previous) ≤ 48) ⌝ }
     ensures { λ r. ⌜ plannedOf r ≡ saidBy (entryOf entry) (firstFrom (eqb mark) 1 (now (current .entry))) (some (eqb mark) (now (previous .entry))) ⌝ }
 {
     if entry.kind != 2 {
@@ -105,7 +107,7 @@ fn slots_of(count: usize) -> usize
 
 // What is said of each slot that has a mark, by the marks of the plan and of the plan before it; of the others, what is said of an optional one.
 fn said_by_marks(entries: [Entry; 48], current: &[u64], previous: &[u64]) -> [Planned; 48]
-    requires { ⌜ length (now current) ≤ 48 ⌝ }
+    requires { ⌜ (length (now current) ≤ 48) × (length (now previous) ≤ 48) ⌝ }
     ensures { λ r. ⌜ Says (searched (entriesOf entries) (now (current .entry)) (now (previous .entry))) r (length (now (current .entry))) ⌝ }
 {
     let unused = none_planned(0);

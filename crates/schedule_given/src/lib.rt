@@ -32,7 +32,7 @@ pub fn description_at(message: &[u8], received: usize, place: usize) -> Given
             }
             let i = slot_at(message, end, place);
             let places = found.places;
-            Given::Next(i + 1, schedule::shown(message, i, places[i]))
+            Given::Next(i + 1, schedule::shown(message, i, places[i] as usize))
         }
     }
 }

@@ -18,7 +18,7 @@ const HEADER: usize = 8;
 // Where the description of each slot starts, with the reader's answer; 0 for a slot that is not told of.
 pub struct Placed {
     pub answer: Reading,
-    pub places: [usize; 48],
+    pub places: [u8; 48],
 }
 
 // Reads Begin and End of a message.
@@ -78,7 +78,7 @@ enum Reach {
 // A group's descriptions among others: the place after them, where that of each slot starts, and which are first transmissions.
 struct Part {
     reach: Reach,
-    places: [usize; 48],
+    places: [u8; 48],
     firsts: [bool; 48],
 }
 
@@ -88,7 +88,7 @@ fn find_group(
     received: usize,
     end: usize,
     new: bool,
-    places: [usize; 48],
+    places: [u8; 48],
     firsts: [bool; 48],
     from: usize,
 ) -> Part
@@ -108,7 +108,7 @@ fn find_group(
                     firsts: marked,
                 };
             };
-            found[i] = at;
+            found[i] = at as u8;
             marked[i] = is_first(description);
             at = next;
         }
@@ -155,13 +155,13 @@ fn is_first(description: Description) -> bool
 }
 
 // Whether a slot up to End repeats what is no first transmission in a slot below it.
-fn has_false_repeat(message: &[u8], places: [usize; 48], firsts: [bool; 48], end: usize) -> bool
+fn has_false_repeat(message: &[u8], places: [u8; 48], firsts: [bool; 48], end: usize) -> bool
     requires { ⌜ (end ≤ 48) × Firsts (now message) places firsts end ⌝ }
     ensures { λ r. ⌜ r ≡ some (falseRepeat (toldBy (now (message .entry)) places)) end ⌝ }
 {
     let mut i = 0;
     while i < end {
-        let at = places[i];
+        let at = places[i] as usize;
         let n = schedule::octet_at(message, at) as usize;
         if n < 0x40 {
             if n == 0 {

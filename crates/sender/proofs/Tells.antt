@@ -10,7 +10,7 @@ use Rattle.plan.specs.Paper.{Plan, entryAt}
 use Rattle.plan_slots.specs.Inner.{nonePlanned, saidAt, allPlanned, nothing}
 use Rattle.plan_slots.specs.Paper.{Planned, lowestAt, low15At, plannedAt}
 use Rattle.plan_slots.specs.Coded.{plannedOf}
-use Rattle.plan_slots.proofs.Said.{says-at, said-counted}
+use Rattle.plan_slots.proofs.Said.{says-at}
 use Rattle.sender.specs as defs
 use defs.Paper.{plannedTold, newAt, planned}
 use defs.Coded.{shownIn}
@@ -46,13 +46,7 @@ told-said c p i l = rw (lt-ltb i (c .count) l) (go (eqb (entryAt c i .kind) 2) r
     go false k = rw (k, k)
 
 module _ (c p : Plan) (xs : List PlannedCode) (q : map plannedOf xs ≡ allPlanned c p) (few : c .count ≤ 48) (i : ℕ) (l : i < c .count) where
-  -- a slot that an array of all that the plans say names is within the count
-  pub all-counted : getD xs i nothing .lowest ≤ 48
-  all-counted =
-      let e = ap (λ (v : Planned). v .lowest) (says-at c p xs q i (omega arith)) in
-      omega (arith, said-counted c p i)
-
-  -- and what it tells is what is planned
+  -- what an array of all that the plans say tells of a slot is what is planned
   pub all-told : shownBy (plannedOf (getD xs i nothing)) i ≡ planned c p i
   all-told = ap (λ (v : Planned). shownBy v i) (says-at c p xs q i (omega arith)) ∙ told-said c p i l
 

@@ -31,7 +31,7 @@ pub enum Writing {
 
 // What is told of slot i, counted from 0, by what the plans say of it.
 fn tell(said: Planned, i: usize) -> Slot
-    requires { ⌜ (i < 48) × (said .lowest ≤ 48) ⌝ }
+    requires { ⌜ i < 48 ⌝ }
     ensures { λ r. ⌜ shownOf r ≡ shownBy (plannedOf said) i ⌝ }
 {
     if said.kind == 1 {
@@ -46,7 +46,7 @@ fn tell(said: Planned, i: usize) -> Slot
             description: Description::Optional,
         };
     }
-    if said.lowest == i + 1 {
+    if said.lowest as usize == i + 1 {
         return Slot {
             new: said.fresh,
             description: Description::First(said.low),
@@ -54,7 +54,7 @@ fn tell(said: Planned, i: usize) -> Slot
     }
     Slot {
         new: said.fresh,
-        description: Description::Repeat(said.lowest as u8),
+        description: Description::Repeat(said.lowest),
     }
 }
 

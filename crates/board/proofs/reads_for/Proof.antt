@@ -38,5 +38,5 @@ reads-for-spec =
     tie.close
     (tie.spec
     (λ c. search needs) (λ c. search needs) (λ c κs. search needs) (λ c. search needs) (λ c κs. search needs)
-    (λ c. lower c .some) (λ c. omega (arith, lower c .low)) (λ c. omega (arith, lower c .some, lower c .low))
+    (λ c. lower c .some) (λ c. omega (arith, lower c .low)) (λ c. search needs)
     (λ c κs. search needs) (λ c κs. search needs) (λ c κs. search needs) (λ c κs. search needs) returns)

@@ -43,5 +43,5 @@ entered-under-on-spec =
     tie.close
     (tie.spec
     returns (λ c κs. search needs) (λ c κs. search needs) returns-2 (λ c. tells c .some)
-    (λ c. omega (arith, tells c .low)) (λ c. omega (arith, tells c .some, tells c .low)) (λ c κs. search needs)
+    (λ c. omega (arith, tells c .low)) (λ c. search needs) (λ c κs. search needs)
     (λ c κs. search needs) returns-3)

@@ -1,5 +1,5 @@
 -- `checker_slots::leads` meets its contract: another kind decides it, and else the lowest slot.
-use Rattle.laws.proofs.Base.{eq-eqb, ne-eqb}
+use Rattle.laws.proofs.Base.{eq-eqb, ne-eqb, needs}
 use Rattle.checker_slots.proofs.leads as own
 use own.Statement.{statement}
 use own.Tie as tie
@@ -8,4 +8,4 @@ pub leads-spec : {M : Type 1} → statement M
 leads-spec =
     tie.close
     (tie.spec
-    (λ c. simp (ne-eqb _ _ (c .if1 .taken))) (λ c. simp (eq-eqb _ _ (c .before .if1 .left))))
+    (λ c. simp (ne-eqb _ _ (c .if1 .taken))) (λ c. search needs) (λ c. simp (eq-eqb _ _ (c .before .if1 .left))))

@@ -31,7 +31,7 @@ may-tell-spec =
     tie.close
     (tie.spec
     (λ c. search needs) (λ c κs. search needs) returns (λ c. search needs) (λ c κs. search needs)
-    returns-2 (λ c. search needs) (λ c. search needs)
+    returns-2 (λ c. search needs)
     (λ c. rw (c .before .before .enum-told .given .1, eq-eqb _ _ (c .if3 .taken)))
     (λ c κs. search needs) (λ c. search needs)
     (λ c. rw (c .before .before .enum-told2 .given .1, eq-eqb _ _ (c .if4 .taken))) returns-5

@@ -25,4 +25,4 @@ all-planned-spec =
     (tie.spec
     (λ c κs. search needs) (λ c κs. search needs) (λ c κs. search needs) (λ c κs. search needs)
     (λ c. search needs) (λ c. simp length-take (omega arith)) (λ c. search needs)
-    (λ c. simp length-take (omega arith)) (λ c κs. simp length-take (omega arith)) returns)
+    (λ c. simp length-take (omega arith)) (λ c κs. (simp length-take (omega arith), simp length-take (omega arith))) returns)

@@ -52,4 +52,4 @@ first-slot-spec =
     tie.close
     (tie.spec
     Inv-loop μ-loop (λ c. (omega arith, omega arith, refl)) (λ c. search needs) (λ c. search needs)
-    (λ c. search needs) returns (λ c. search needs) (λ c. search needs) loop-again returns-2)
+    (λ c. search needs) (λ c. search needs) returns (λ c. search needs) (λ c. search needs) loop-again returns-2)

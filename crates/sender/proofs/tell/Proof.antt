@@ -1,5 +1,5 @@
 -- `sender::tell` meets its contract: each return is a case of what is told.
-use Rattle.laws.proofs.Base.{sym, _∙_, add-one, arith, needs}
+use Rattle.laws.proofs.Base.{sym, _∙_, add-one, needs}
 use Rattle.plan_slots.specs.Coded.{plannedOf}
 use Rattle.sender.proofs as own
 use own.Tells.{tells-advised, tells-optional, tells-first, tells-again}
@@ -23,11 +23,8 @@ returns-3 c =
 
 returns-4 : tie.Need-returns-4
 returns-4 c =
-    let a = c .before .before .before .before .before .before .before .args in
-    tells-again (plannedOf (a .said)) (a .i) (c .before .before .before .if2 .left) (λ e. c .before .if3 .left (e ∙ sym (add-one _)))
+    let a = c .before .before .before .before .before .before .args in
+    tells-again (plannedOf (a .said)) (a .i) (c .before .before .if2 .left) (λ e. c .if3 .left (e ∙ sym (add-one _)))
 
 pub tell-spec : {M : Type 1} → statement M
-tell-spec = tie.close (tie.spec
-    returns returns-2 (λ c. search needs) returns-3
-    (λ c. omega (arith, c .before .before .before .before .before .before .before .pre .1))
-    returns-4)
+tell-spec = tie.close (tie.spec returns returns-2 (λ c. search needs) (λ c. search needs) returns-3 returns-4)

@@ -8,7 +8,7 @@ use Rattle.sender.specs as defs
 use defs.Coded.{shownIn}
 use defs.Inner.{shownBy}
 use Rattle.sender.proofs as own
-use own.Tells.{all-counted, all-told, told-more}
+use own.Tells.{all-told, told-more}
 use own.telling.Statement.{statement}
 use own.telling.Tie as tie
 
@@ -18,13 +18,6 @@ Inv-loop slots₀ all count i₀ slots i =
 
 abbrev μ-loop : tie.MeasureT-loop
 μ-loop slots₀ all count i₀ slots i = count - i
-
-tell-requires : tie.Need-tell-requires Inv-loop μ-loop
-tell-requires c κs =
-    let p = c .before .before .before in
-    let s = p .before in
-    let i = c .before .before .loop .i in
-    (omega arith, all-counted (planOf (s .args .current)) (planOf (s .args .previous)) (p .all-planned .result) (p .all-planned .ensures) (omega arith) i (c .before .loop-test .taken))
 
 loop-again : tie.Need-loop-again Inv-loop μ-loop
 loop-again c =
@@ -51,5 +44,5 @@ telling-spec =
     tie.close
     (tie.spec
     Inv-loop μ-loop (λ c κs. search needs) (λ c. (omega arith, refl, below-none _))
-    (λ c. search needs) (λ c. search needs) tell-requires (λ c. search needs) (λ c. search needs)
+    (λ c. search needs) (λ c. search needs) (λ c κs. search needs) (λ c. search needs) (λ c. search needs)
     (λ c. search needs) (λ c. search needs) loop-again returns)
