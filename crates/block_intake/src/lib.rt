@@ -8,12 +8,13 @@ use block::Place;
 use refusals::Refusal;
 use sizes::CONTENT;
 use sizes::FILLER;
+use sizes::MESSAGE;
 
 // A message of which some blocks are taken: kind 0 for none, 1 for a page, 2 for a schedule.
 pub struct State {
     pub kind: u8,
     pub taken: u8,
-    pub octets: [u8; 88],
+    pub octets: [u8; MESSAGE],
 }
 
 // The state before the first piece.
@@ -23,7 +24,7 @@ pub fn start() -> State
     State {
         kind: 0,
         taken: 0,
-        octets: [FILLER; 88],
+        octets: [FILLER; MESSAGE],
     }
 }
 
@@ -39,7 +40,7 @@ pub enum Answer {
 pub struct Reply {
     pub answer: Answer,
     pub received: usize,
-    pub octets: [u8; 88],
+    pub octets: [u8; MESSAGE],
     pub state: State,
 }
 
@@ -57,7 +58,13 @@ pub fn intake(state: State, piece: &[u8]) -> Reply
     let place = block::place_of(taken, piece);
     match place {
         Place::None(refusal) => refused(refusal, started),
-        Place::First(first, last) => add(block::kind_number(first), 0, [FILLER; 88], piece, last),
+        Place::First(first, last) => add(
+            block::kind_number(first),
+            0,
+            [FILLER; MESSAGE],
+            piece,
+            last,
+        ),
         Place::Next(last) => add(kind, taken, octets, piece, last),
     }
 }
@@ -69,13 +76,13 @@ fn refused(refusal: Refusal, state: State) -> Reply
     Reply {
         answer: Answer::Refused(refusal),
         received: 0,
-        octets: [FILLER; 88],
+        octets: [FILLER; MESSAGE],
         state,
     }
 }
 
 // The answer to a piece that is added to a message; last: it completes the message.
-fn add(kind: u8, taken: u8, octets: [u8; 88], piece: &[u8], last: bool) -> Reply
+fn add(kind: u8, taken: u8, octets: [u8; MESSAGE], piece: &[u8], last: bool) -> Reply
     requires { ⌜ Adds taken octets (now piece) ⌝ }
     ensures { λ r. ⌜ givenOf r ≡ outcome last (added (stateWith kind taken octets) (now (piece .entry))) ⌝ }
 {
@@ -86,7 +93,7 @@ fn add(kind: u8, taken: u8, octets: [u8; 88], piece: &[u8], last: bool) -> Reply
         return Reply {
             answer: Answer::Taken,
             received: 0,
-            octets: [FILLER; 88],
+            octets: [FILLER; MESSAGE],
             state: State {
                 kind,
                 taken: taken + 1,

@@ -20,12 +20,12 @@ use schedule::Description;
 use sizes::SLOTS;
 
 // 01 Numbers given, 42: the most identifiers that are wanted at a time.
-const WANTED: usize = 64;
+pub const WANTED: usize = 64;
 
 // The identifiers that are wanted; those past the count mean nothing.
 pub struct Wanted {
     pub count: usize,
-    pub ids: [MessageId; 64],
+    pub ids: [MessageId; WANTED],
 }
 
 pub enum Decision {
@@ -35,7 +35,7 @@ pub enum Decision {
 }
 
 // Whether one of the first identifiers matches in 15 bits.
-fn any_matches(ids: [MessageId; 64], count: usize, id: u16) -> bool
+fn any_matches(ids: [MessageId; WANTED], count: usize, id: u16) -> bool
     requires { ⌜ count ≤ 64 ⌝ }
     ensures { λ r. ⌜ r ≡ some (matches15 id) (take count (idsOf ids)) ⌝ }
 {
@@ -94,7 +94,7 @@ fn reads_by(description: Description, matches: bool, missing: bool) -> bool
 }
 
 // Whether slot i, counted from 0, is read by what is told of it and of the slot that its page is entered under.
-fn reads_for(message: &[u8], places: [u8; 48], i: usize, wanted: Wanted, held: Held) -> bool
+fn reads_for(message: &[u8], places: [u8; SLOTS], i: usize, wanted: Wanted, held: Held) -> bool
     requires { ⌜ (i < 48) × (falseRepeat (toldBy (now message) places) i ≡ false) × (wanted .count ≤ 64) ⌝ }
     ensures { λ r. ⌜ r ≡ readsFor (toldBy (now (message .entry)) places) (wantedOf wanted) (held .0) (toldBy (now (message .entry)) places i) ⌝ }
 {

@@ -19,6 +19,7 @@ use checker_plans::Plans;
 use files::Opened;
 use libc::STDERR_FILENO;
 use refusals::Refusal;
+use sizes::MESSAGE;
 
 // Room for the longest line of each piece of a chunk.
 const ROOM: usize = 146432;
@@ -101,7 +102,7 @@ fn list_all(
     ensures { λ r. ⌜ Continues (lineOf (plansOf plans)) (now (state .exit)) (now (out .exit)) r ⌝ }
 {
     let mut log = [0u8; logs::WHOLE];
-    let mut message = [0u8; 88];
+    let mut message = [0u8; MESSAGE];
     let mut number: u64 = 1;
     let mut end = 0;
     while number < logs::LAST {

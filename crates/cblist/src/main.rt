@@ -12,6 +12,7 @@ ghost use Rattle.cblist.specs.Paper.{line, lineOf, lines};
 use arguments::Asked;
 use files::Opened;
 use libc::STDERR_FILENO;
+use sizes::MESSAGE;
 
 fn main() {
     let mut word = io::buffer();
@@ -62,7 +63,7 @@ fn list_all(program: &[u8], name: &[u8], fd: i32, state: &mut [u8], text: &mut [
     ensures { λ r. ⌜ Continues lineOf (now (state .exit)) (now (text .exit)) r ⌝ }
 {
     let mut log = [0u8; logs::WHOLE];
-    let mut message = [0u8; 88];
+    let mut message = [0u8; MESSAGE];
     let mut number: u64 = 1;
     let mut end = 0;
     while number < logs::LAST {

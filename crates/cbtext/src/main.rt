@@ -18,6 +18,8 @@ use files::Opened;
 use libc::STDERR_FILENO;
 use page::MessageId;
 use page::Serial;
+use sizes::MESSAGE;
+use text::CHARACTERS;
 use text_reader::Got;
 
 // Room for the longest line of each piece of a chunk.
@@ -77,7 +79,7 @@ fn list_all(program: &[u8], name: &[u8], fd: i32, state: &mut [u8], out: &mut [u
     ensures { λ r. ⌜ Continues lineOf (now (state .exit)) (now (out .exit)) r ⌝ }
 {
     let mut log = [0u8; logs::WHOLE];
-    let mut page = [0u8; 88];
+    let mut page = [0u8; MESSAGE];
     let mut number: u64 = 1;
     let mut end = 0;
     while number < logs::LAST {
@@ -168,7 +170,7 @@ fn put_body(page: &[u8], received: usize, out: &mut [u8], at: usize) -> usize
     requires { ⌜ (length (now page) ≡ 88) × (wholeBlocks received ≡ true) × (at + 285 ≤ length (now out)) ⌝ }
     ensures { λ r. ⌜ Puts (body (now (page .entry)) received) 285 at (now (out .entry)) (now (out .exit)) r ⌝ }
 {
-    let mut points = [0u16; 93];
+    let mut points = [0u16; CHARACTERS];
     let got = text_reader::read_text(page, received, &mut points);
     if let Got::Characters(count) = got {
         return put_text(&points[..count], out, at);

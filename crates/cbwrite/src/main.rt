@@ -12,6 +12,7 @@ use libc::STDERR_FILENO;
 use plan::Plan;
 use refusals::Refusal;
 use sender::Writing;
+use sizes::MESSAGE;
 
 // Begin as an argument tells it.
 enum Begin {
@@ -137,7 +138,7 @@ fn say_why(refusal: Refusal, typed: &[u8], count: usize) {
 fn compose(current: Plan, previous: Plan, begin: usize, out: &mut [u8]) -> Sent
     ensures { λ r. ⌜ sentOf r (now (out .exit)) ≡ composed (planOf current) (planOf previous) begin (now (out .entry)) ⌝ }
 {
-    let mut message = [0u8; 88];
+    let mut message = [0u8; MESSAGE];
     let answer = sender::write_schedule(current, previous, begin, &mut message);
     match answer {
         Writing::Written(used) => block_writer::write_blocks(&message, Kind::Schedule, used, out),

@@ -21,7 +21,7 @@ pub struct Entry {
 // The slots as planned; entries past the count mean nothing.
 pub struct Plan {
     pub count: usize,
-    pub entries: [Entry; 48],
+    pub entries: [Entry; SLOTS],
 }
 
 // What is said of a plan.
@@ -48,7 +48,7 @@ pub fn empty_plan() -> Plan
     let unused = free_entry();
     Plan {
         count: 0,
-        entries: [unused; 48],
+        entries: [unused; SLOTS],
     }
 }
 
@@ -72,7 +72,7 @@ fn is_bad(entry: Entry) -> bool
 }
 
 // Whether one of the first entries is bad.
-fn any_bad(entries: [Entry; 48], count: usize) -> bool
+fn any_bad(entries: [Entry; SLOTS], count: usize) -> bool
     requires { ⌜ count ≤ 48 ⌝ }
     ensures { λ r. ⌜ r ≡ some bad (take count (entriesOf entries)) ⌝ }
 {

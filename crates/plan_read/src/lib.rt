@@ -98,7 +98,7 @@ fn entry_at(file: &[u8], at: usize) -> Entry
 }
 
 // The entries of a file, with optional ones after them.
-fn entries_of(file: &[u8], count: usize) -> [Entry; 48]
+fn entries_of(file: &[u8], count: usize) -> [Entry; SLOTS]
     requires { ⌜ (count ≤ 48) × (6 + 6 * count ≤ length (now file)) ⌝ }
     ensures { λ r. ⌜ entriesOf r ≡ entriesIn count (drop 6 (now (file .entry))) ++ replicate (48 - count) free ⌝ }
 {

@@ -39,10 +39,10 @@ fn mark(entry: Entry) -> u64
 }
 
 // The entries of a plan as numbers.
-fn marks_of(entries: [Entry; 48]) -> [u64; 48]
+fn marks_of(entries: [Entry; SLOTS]) -> [u64; SLOTS]
     ensures { λ r. ⌜ Marks r (entriesOf entries) 48 ⌝ }
 {
-    let mut marks = [0u64; 48];
+    let mut marks = [0u64; SLOTS];
     let mut i = 0;
     while i < SLOTS {
         let entry = entries[i];
@@ -106,12 +106,12 @@ fn slots_of(count: usize) -> usize
 }
 
 // What is said of each slot that has a mark, by the marks of the plan and of the plan before it; of the others, what is said of an optional one.
-fn said_by_marks(entries: [Entry; 48], current: &[u64], previous: &[u64]) -> [Planned; 48]
+fn said_by_marks(entries: [Entry; SLOTS], current: &[u64], previous: &[u64]) -> [Planned; SLOTS]
     requires { ⌜ (length (now current) ≤ 48) × (length (now previous) ≤ 48) ⌝ }
     ensures { λ r. ⌜ Says (searched (entriesOf entries) (now (current .entry)) (now (previous .entry))) r (length (now (current .entry))) ⌝ }
 {
     let unused = none_planned(0);
-    let mut planned = [unused; 48];
+    let mut planned = [unused; SLOTS];
     let mut i = 0;
     while i < current.len() {
         let entry = entries[i];
@@ -122,7 +122,7 @@ fn said_by_marks(entries: [Entry; 48], current: &[u64], previous: &[u64]) -> [Pl
 }
 
 // What a plan and the plan before it say of each slot; of those past the count, what is said of an optional one.
-pub fn all_planned(current: Plan, previous: Plan) -> [Planned; 48]
+pub fn all_planned(current: Plan, previous: Plan) -> [Planned; SLOTS]
     ensures { λ r. ⌜ map plannedOf r ≡ allPlanned (planOf current) (planOf previous) ⌝ }
 {
     let entries = current.entries;

@@ -11,6 +11,7 @@ ghost use Rattle.schedule_places.specs.Inner.{placed, unplacedBy, Readab
 use refusals::Refusal;
 use schedule::Description;
 use schedule::Reading;
+use sizes::SLOTS;
 
 // 000 3.5: the octets before the first description.
 const HEADER: usize = 8;
@@ -18,7 +19,7 @@ const HEADER: usize = 8;
 // Where the description of each slot starts, with the reader's answer; 0 for a slot that is not told of.
 pub struct Placed {
     pub answer: Reading,
-    pub places: [u8; 48],
+    pub places: [u8; SLOTS],
 }
 
 // Reads Begin and End of a message.
@@ -36,7 +37,15 @@ pub fn read_places(message: &[u8], received: usize) -> Placed
     let Reading::Read(_, end) = header else {
         return refused(header);
     };
-    let news = find_group(message, received, end, true, [0; 48], [false; 48], HEADER);
+    let news = find_group(
+        message,
+        received,
+        end,
+        true,
+        [0; SLOTS],
+        [false; SLOTS],
+        HEADER,
+    );
     let reach = news.reach;
     let Reach::To(next) = reach else {
         return refused(Reading::Refused(Refusal::DescriptionPastReceived));
@@ -65,7 +74,7 @@ fn refused(answer: Reading) -> Placed
 {
     Placed {
         answer,
-        places: [0; 48],
+        places: [0; SLOTS],
     }
 }
 
@@ -78,8 +87,8 @@ enum Reach {
 // A group's descriptions among others: the place after them, where that of each slot starts, and which are first transmissions.
 struct Part {
     reach: Reach,
-    places: [u8; 48],
-    firsts: [bool; 48],
+    places: [u8; SLOTS],
+    firsts: [bool; SLOTS],
 }
 
 // Finds the descriptions of the slots up to End whose new bit is as given, which start at a place.
@@ -88,8 +97,8 @@ fn find_group(
     received: usize,
     end: usize,
     new: bool,
-    places: [u8; 48],
-    firsts: [bool; 48],
+    places: [u8; SLOTS],
+    firsts: [bool; SLOTS],
     from: usize,
 ) -> Part
     requires { ⌜ Readable (now message) received end × (from ≡ placeOf (now message) (base (now message) new)) × (from ≤ received) ⌝ }
@@ -155,7 +164,7 @@ fn is_first(description: Description) -> bool
 }
 
 // Whether a slot up to End repeats what is no first transmission in a slot below it.
-fn has_false_repeat(message: &[u8], places: [u8; 48], firsts: [bool; 48], end: usize) -> bool
+fn has_false_repeat(message: &[u8], places: [u8; SLOTS], firsts: [bool; SLOTS], end: usize) -> bool
     requires { ⌜ (end ≤ 48) × Firsts (now message) places firsts end ⌝ }
     ensures { λ r. ⌜ r ≡ some (falseRepeat (toldBy (now (message .entry)) places)) end ⌝ }
 {

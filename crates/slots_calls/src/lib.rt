@@ -22,7 +22,7 @@ fn packed_at(message: &[u8], end: usize, i: usize, at: usize) -> u32
 }
 
 // Tells each slot of a message that is read, by the places of its descriptions.
-fn tell(message: &[u8], places: [u8; 48], end: usize, slots: &mut [u32])
+fn tell(message: &[u8], places: [u8; SLOTS], end: usize, slots: &mut [u32])
     requires { ⌜ (length (now slots) ≡ 48) × Shows (now message) places end ⌝ }
     ensures { λ r. ⌜ now (slots .exit) ≡ each (packedSlot (now (message .entry))) 48 ⌝ }
 {
