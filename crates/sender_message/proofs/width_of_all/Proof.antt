@@ -1,9 +1,9 @@
--- `sender::width_of_all` meets its contract. The invariant: the octets of the descriptions passed, at most two for each slot.
+-- `sender_message::width_of_all` meets its contract. The invariant: the octets of the descriptions passed, at most two for each slot.
 use Rattle.laws.proofs.Base.{_≡_, sym, _≤_, _-_, _*_, arith, needs, length}
-use Rattle.sender.specs as defs
+use Rattle.sender_message.specs as defs
 use defs.Paper.{octetsOf, descriptions}
 use defs.Coded.{shownIn}
-use Rattle.sender.proofs as own
+use Rattle.sender_message.proofs as own
 use own.Groups.{octetsOf-few, descriptions-none, descriptions-next}
 use own.width_of_all.Statement.{statement}
 use own.width_of_all.Tie as tie

@@ -1,7 +1,7 @@
--- `sender::compose` meets its contract.
+-- `sender_message::compose` meets its contract.
 use Rattle.laws.proofs.Base.{arith, needs}
-use Rattle.sender.specs.Coded.{shownIn}
-use Rattle.sender.proofs as own
+use Rattle.sender_message.specs.Coded.{shownIn}
+use Rattle.sender_message.proofs as own
 use own.Groups.{length-descriptions}
 use own.Message.{message-put}
 use own.compose.Statement.{statement}
@@ -11,18 +11,18 @@ put-group-requires : tie.Need-put-group-requires
 put-group-requires c κs =
     let a = c .before .args in
     let all = length-descriptions (shownIn (a .slots)) (a .count) in
-    (c .before .pre .1, c .before .pre .2, omega arith)
+    (c .before .pre .1, omega arith)
 
 put-group-requires-2 : tie.Need-put-group-requires-2
 put-group-requires-2 c κs =
     let a = c .before .before .before .args in
     let all = length-descriptions (shownIn (a .slots)) (a .count) in
-    (c .before .before .before .pre .1, c .before .before .before .pre .2, omega arith)
+    (c .before .before .before .pre .1, omega arith)
 
 returns : tie.Need-returns
 returns c =
     let a = c .before .before .before .before .before .args in
-    message-put (a .begin) (shownIn (a .slots)) (a .count) _ _ _ _ (c .before .before .before .before .before .pre .3) (c .before .before .before .before .header .ensures)
+    message-put (a .begin) (shownIn (a .slots)) (a .count) _ _ _ _ (c .before .before .before .before .before .pre .2) (c .before .before .before .before .header .ensures)
     (c .before .before .before .put-group .ensures .0) (c .before .before .before .put-group .ensures .1) (c .before .put-group2 .ensures .0)
 
 pub compose-spec : {M : Type 1} → statement M

@@ -1,10 +1,10 @@
--- `sender::header` meets its contract. The invariant: Begin, End and the octets of new bits so far are put over a message of 2B.
+-- `sender_message::header` meets its contract. The invariant: Begin, End and the octets of new bits so far are put over a message of 2B.
 use Rattle.laws.proofs.Base.{_≡_, refl, [], _∷_, _++_, ℕ, _≤_, _-_, arith, needs, replicate, sets}
 use Rattle.laws.specs.Upto.{each}
-use Rattle.sender.specs as defs
+use Rattle.sender_message.specs as defs
 use defs.Paper.{newBits}
 use defs.Coded.{shownIn}
-use Rattle.sender.proofs as own
+use Rattle.sender_message.proofs as own
 use own.Padded.{sets-turn}
 use own.header.Statement.{statement}
 use own.header.Tie as tie

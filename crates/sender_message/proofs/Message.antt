@@ -2,8 +2,8 @@
 use Rattle.laws.proofs.Base.{_≡_, sym, ap, _∙_, true, false, List, [], _∷_, _++_, ℕ, _+_, _≤_, arith, length, replicate, length-append, sets}
 use Rattle.laws.proofs.Upto.{each-length}
 use Rattle.schedule.specs.Paper.{Shown}
-use Rattle.sender.specs.Paper.{descriptions, newBits, bitmapOf, usedPart, messageOf}
-use Rattle.sender.proofs as own
+use Rattle.sender_message.specs.Paper.{descriptions, newBits, bitmapOf, usedPart, messageOf}
+use Rattle.sender_message.proofs as own
 use own.Groups.{told, descriptions-groups}
 use own.Padded.{sets-append, sets-padded}
 

@@ -3,7 +3,7 @@ use Rattle.laws.proofs.Base.{_≡_, sym, _∙_, List, [], _∷_, _++_, ℕ, suc
 use Rattle.laws.specs.Upto.{each}
 use Rattle.laws.proofs.Upto.{each-length}
 use Rattle.laws.proofs.Parts.{drop-replicate}
-use Rattle.sender.specs.Paper.{padded}
+use Rattle.sender_message.specs.Paper.{padded}
 
 -- what is put in two parts is put as a whole
 pub sets-append : (l : List ℕ) (i : ℕ) (xs ys : List ℕ) → sets l i (xs ++ ys) ≡ sets (sets l i xs) (i + length xs) ys
