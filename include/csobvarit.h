@@ -19,7 +19,7 @@
  *   cb_start             100    cb_intake            100    cb_write_text      1,200
  *   cb_read_text         600    cb_content           100    cb_read_header       100
  *   cb_write_blocks      100    cb_read_schedule   2,000    cb_slots           1,000
- *   cb_description     2,400    cb_read_plan       1,700    cb_write_schedule  8,100
+ *   cb_description     2,400    cb_read_plan       1,700    cb_write_schedule  8,200
  *   cb_check_schedule  9,100    cb_decide          2,600    cb_enter           1,800
  */
 #ifndef CSOBVARIT_H

@@ -5,7 +5,7 @@ ghost use mathlib.Core.List.{[], _∷_, _++_};
 ghost use Prim.Native.Nat.{_+_, _≤_, _<_};
 ghost use lib.ListN.{length, replicate};
 ghost use lib.Seq.{sets};
-ghost use Rattle.sender_message.specs.Paper.{octetsOf, octetsOfAll, group, descriptions, newBits, bitmapOf, messageOf, writeMessage};
+ghost use Rattle.sender_message.specs.Paper.{octetsOf, octetsOfAll, group, descriptions, newBits, bitmapOf, usedPart, writeMessage};
 ghost use Rattle.sender_message.specs.Coded.{toldAs, writingOf, shownIn};
 use refusals::Refusal;
 use schedule::Description;
@@ -21,34 +21,6 @@ const HEADER: usize = 8;
 pub enum Writing {
     Written(usize),
     Refused(Refusal),
-}
-
-// The octets of a description.
-fn width_of(description: Description) -> usize
-    ensures { λ r. ⌜ r ≡ length (octetsOf (toldAs description)) ⌝ }
-{
-    match description {
-        Description::First(_) => 2,
-        Description::Repeat(_) => 1,
-        Description::Optional => 1,
-        Description::Advised => 1,
-    }
-}
-
-// The octets of the descriptions of some slots.
-fn width_of_all(slots: [Slot; 48], count: usize) -> usize
-    requires { ⌜ count ≤ 48 ⌝ }
-    ensures { λ r. ⌜ r ≡ length (descriptions (shownIn slots) count) ⌝ }
-{
-    let mut width = 0;
-    let mut i = 0;
-    while i < count {
-        let slot = slots[i];
-        let description = slot.description;
-        width += width_of(description);
-        i += 1;
-    }
-    width
 }
 
 // The new bit of a slot; past the count it is 0.
@@ -81,11 +53,11 @@ fn new_octet(slots: [Slot; 48], count: usize, j: usize) -> u8
 }
 
 // Begin, End and the new bits, with nothing told after them.
-fn header(slots: [Slot; 48], count: usize, begin: usize) -> [u8; 88]
+fn header(slots: [Slot; 48], count: usize, begin: usize) -> [u8; 104]
     requires { ⌜ (begin ≤ count) × (count ≤ 48) ⌝ }
-    ensures { λ r. ⌜ r ≡ sets (replicate 88 43) 0 ((begin ∷ count ∷ []) ++ bitmapOf (shownIn slots) count) ⌝ }
+    ensures { λ r. ⌜ r ≡ sets (replicate 104 43) 0 ((begin ∷ count ∷ []) ++ bitmapOf (shownIn slots) count) ⌝ }
 {
-    let mut octets = [FILLER; 88];
+    let mut octets = [FILLER; 104];
     octets[0] = begin as u8;
     octets[1] = count as u8;
     let mut j = 0;
@@ -96,15 +68,15 @@ fn header(slots: [Slot; 48], count: usize, begin: usize) -> [u8; 88]
     octets
 }
 
-// A message filled up to a place.
+// A message filled up to a place. It has room for 48 first transmissions; one that fits has its first 88 octets.
 struct Filling {
-    octets: [u8; 88],
+    octets: [u8; 104],
     at: usize,
 }
 
 // Puts an octet at a place.
-fn put_octet(octets: [u8; 88], at: usize, octet: u8) -> Filling
-    requires { ⌜ at < 88 ⌝ }
+fn put_octet(octets: [u8; 104], at: usize, octet: u8) -> Filling
+    requires { ⌜ at < 104 ⌝ }
     ensures { λ r. ⌜ (r .octets ≡ sets octets at (octet ∷ [])) × (r .at ≡ at + 1) ⌝ }
 {
     let mut filled = octets;
@@ -116,8 +88,8 @@ fn put_octet(octets: [u8; 88], at: usize, octet: u8) -> Filling
 }
 
 // Puts a description at a place.
-fn put(octets: [u8; 88], at: usize, description: Description) -> Filling
-    requires { ⌜ at + length (octetsOf (toldAs description)) ≤ 88 ⌝ }
+fn put(octets: [u8; 104], at: usize, description: Description) -> Filling
+    requires { ⌜ at + length (octetsOf (toldAs description)) ≤ 104 ⌝ }
     ensures { λ r. ⌜ (r .octets ≡ sets octets at (octetsOf (toldAs description))) × (r .at ≡ at + length (octetsOf (toldAs description))) ⌝ }
 {
     match description {
@@ -138,8 +110,8 @@ fn put(octets: [u8; 88], at: usize, description: Description) -> Filling
 }
 
 // Puts the descriptions of the slots whose new bit is as given at a place.
-fn put_group(octets: [u8; 88], at: usize, slots: [Slot; 48], count: usize, new: bool) -> Filling
-    requires { ⌜ (count ≤ 48) × (at + length (octetsOfAll (shownIn slots) (group (shownIn slots) count new)) ≤ 88) ⌝ }
+fn put_group(octets: [u8; 104], at: usize, slots: [Slot; 48], count: usize, new: bool) -> Filling
+    requires { ⌜ (count ≤ 48) × (at + length (octetsOfAll (shownIn slots) (group (shownIn slots) count new)) ≤ 104) ⌝ }
     ensures { λ r. ⌜ (r .octets ≡ sets octets at (octetsOfAll (shownIn slots) (group (shownIn slots) count new))) × (r .at ≡ at + length (octetsOfAll (shownIn slots) (group (shownIn slots) count new))) ⌝ }
 {
     let mut filled = Filling { octets, at };
@@ -156,16 +128,14 @@ fn put_group(octets: [u8; 88], at: usize, slots: [Slot; 48], count: usize, new: 
     filled
 }
 
-// The message that tells some slots.
-fn compose(slots: [Slot; 48], count: usize, begin: usize) -> [u8; 88]
-    requires { ⌜ (begin ≤ count) × (count ≤ 48) × (length (descriptions (shownIn slots) count) ≤ 80) ⌝ }
-    ensures { λ r. ⌜ r ≡ messageOf begin (shownIn slots) count ⌝ }
+// The message that tells some slots, however long, and the place behind its last description.
+fn compose(slots: [Slot; 48], count: usize, begin: usize) -> Filling
+    requires { ⌜ (begin ≤ count) × (count ≤ 48) ⌝ }
+    ensures { λ r. ⌜ (r .octets ≡ sets (replicate 104 43) 0 (usedPart begin (shownIn slots) count)) × (r .at ≡ 8 + length (descriptions (shownIn slots) count)) ⌝ }
 {
     let front = header(slots, count, begin);
-    let news = put_group(front, HEADER, slots, count, true);
-    let told = news.octets;
-    let all = put_group(told, news.at, slots, count, false);
-    all.octets
+    let Filling { octets, at } = put_group(front, HEADER, slots, count, true);
+    put_group(octets, at, slots, count, false)
 }
 
 // Writes the message that tells some slots, or refuses to and leaves the output as it is.
@@ -184,11 +154,10 @@ pub fn write_message(slots: [Slot; 48], count: usize, begin: usize, out: &mut [u
     if count > SLOTS {
         return Writing::Refused(Refusal::BeginOrEnd);
     }
-    let width = width_of_all(slots, count);
-    if width > MESSAGE - HEADER {
+    let Filling { octets, at } = compose(slots, count, begin);
+    if at > MESSAGE {
         return Writing::Refused(Refusal::DescriptionsTooLong);
     }
-    let message = compose(slots, count, begin);
-    bytes::copy(&message, out);
-    Writing::Written(HEADER + width)
+    bytes::copy(&octets[..MESSAGE], out);
+    Writing::Written(at)
 }

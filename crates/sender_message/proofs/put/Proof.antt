@@ -6,7 +6,7 @@ use own.Statement.{statement}
 use own.Tie as tie
 
 -- a first transmission has room for its two octets
-room-for-two : (c : tie.After-known-told) → c .before .before .before .args .at + 2 ≤ 88
+room-for-two : (c : tie.After-known-told) → c .before .before .before .args .at + 2 ≤ 104
 room-for-two c = rw (ap toldAs (c .before .description .given .1)) at (c .before .before .before .pre)
 
 put-octet-requires : tie.Need-put-octet-requires

@@ -1,10 +1,13 @@
 -- `sender_message::write_message` meets its contract: each return is the first test of the order that holds, and the last writes the message.
-use Rattle.laws.proofs.Base.{_≡_, sym, _∙_, List, ℕ, _+_, arith, now, length, needs}
+use Rattle.laws.proofs.Base.{_≡_, sym, ap, _∙_, List, ℕ, _+_, _≤_, arith, now, length, take, length-take-le, needs}
 use Rattle.laws.proofs.Parts.{copy-whole}
 use Rattle.schedule.specs.Paper.{Shown}
-use Rattle.sender_message.specs.Coded.{shownIn}
+use Rattle.sender_message.specs as defs
+use defs.Paper.{descriptions}
+use defs.Coded.{shownIn}
 use Rattle.sender_message.proofs as own
 use own.Cases.{unbounded-zero, unbounded-past, unbounded-over, message-15, message-21, message-34, message-0}
+use own.Message.{message-cut}
 use own.write_message.Statement.{statement}
 use own.write_message.Tie as tie
 
@@ -40,31 +43,48 @@ returns-4 c =
 
 returns-5 : tie.Need-returns-5
 returns-5 c =
-    let e = c .before .before in
+    let made = c .before .before in
+    let e = made .before in
     let s = e .before .before .before .before .before in
-    let w = c .before .width-of-all .ensures in
+    let w = made .compose .ensures .1 in
     sym
     (message-34 (s .args .begin) (told s) (s .args .count) (out s) (e .before .before .before .if1 .left)
     (omega arith) (e .before .if3 .left) (e .if4 .left) (omega arith))
 
+-- what is copied are the first 88 octets of 104
+long : (c : tie.After-compose) → length (c .compose .result .octets) ≡ 104
+long c = search needs
+
+prefix-length : (c : tie.After-compose) → length (take 88 (c .compose .result .octets)) ≡ 88
+prefix-length c = length-take-le 88 (c .compose .result .octets) (omega (arith, long c))
+
 returns-6 : tie.Need-returns-6
 returns-6 c =
-    let made = c .before .before .before .before .before in
-    let e = made .before .before .before in
+    let made = c .before .before .before .before .before .before .before in
+    let e = made .before in
     let s = e .before .before .before .before .before in
-    let w = made .before .before .width-of-all .ensures in
-    let m = made .compose in
-    let long : length (m .result) ≡ 88 = search needs in
+    let w = made .compose .ensures .1 in
+    let few : length (descriptions (told s) (s .args .count)) ≤ 80 = omega arith in
     let copy = c .before .before .copy in
-    let copied : copy .last .1 .0 ≡ m .result = copy-whole (out s) (m .result) (copy .last .1 .0) (omega arith) (copy .ensures .1) in
-    (λ i. record { number = 0; used = 8 + w i; output = (copied ∙ m .ensures) i })
+    let whole = made .compose .result .octets in
+    let size = prefix-length made in
+    let copied : copy .last .1 .0 ≡ take 88 whole = copy-whole (out s) (take 88 whole) (copy .last .1 .0) (omega arith) (copy .ensures .1) in
+    (λ i. record {
+      number = 0;
+      used = w i;
+      output = (copied ∙ ap (take 88) (made .compose .ensures .0) ∙ message-cut (s .args .begin) (told s) (s .args .count) few) i;
+    })
     ∙ sym
     (message-0 (s .args .begin) (told s) (s .args .count) (out s) (e .before .before .before .if1 .left)
-    (omega arith) (e .before .if3 .left) (e .if4 .left) (omega arith))
+    (omega arith) (e .before .if3 .left) (e .if4 .left) few)
+
+prefix : tie.Need-array-share-prefix-octets
+prefix c = omega (arith, long (c .before .before))
 
 pub write-message-spec : {M : Type 1} → statement M
 write-message-spec =
     tie.close
     (tie.spec
-    returns returns-2 returns-3 returns-4 (λ c κs. search needs) (λ c. search needs) returns-5
-    (λ c κs. search needs) (λ c. search needs) (λ c κs. search needs) (λ c. search needs) (λ c. search needs) returns-6)
+    returns returns-2 returns-3 returns-4 (λ c κs. search needs) returns-5 prefix
+    (λ c. sym (prefix-length (c .before .before .before)))
+    (λ c κs. omega (arith, prefix-length (c .before .before .before .before))) (λ c. search needs) returns-6)
