@@ -3,7 +3,8 @@ use Rattle.laws.proofs.Base.{_≡_, refl, sym, ap, _∙_, Bool, true, false, no
 use Rattle.laws.proofs.Ruled.{NoneHolds, ruled-map, none-holds, ruled-none, unless0-numbered}
 use Rattle.plan_read.specs.Paper.{readPlan}
 use Rattle.plan_slots.specs.Paper.{lowestAt}
-use Rattle.sender.specs.Paper.{Writing, unwritten, write}
+use Rattle.sender_message.specs.Paper.{Writing, unwritten}
+use Rattle.sender.specs.Paper.{write}
 use Rattle.checker.specs.Paper.{Checked, unchecked, check}
 use Rattle.block_writer.specs.Paper.{lastUsed}
 use Rattle.board.specs.Paper.{Decided}

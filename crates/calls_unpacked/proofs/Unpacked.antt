@@ -16,6 +16,7 @@ use Rattle.plan.proofs.GoodPlan.{plan-low}
 use Rattle.schedule.specs.Paper.{end, faults, Read, unread, good, read, Given, next, noMore, refusal, givenAt, given, Shown}
 use Rattle.page.specs.Paper.{Heading}
 use Rattle.text.specs.Paper.{Writing, written, writerTests, usedOctets, pageOf, Reading, reading, readerTests, shown, trimmed, septetsReceived}
+use Rattle.sender_message.specs.Paper as told
 use Rattle.sender.specs.Paper as sender
 use Rattle.checker.specs.Paper as checker
 use Rattle.board.specs.Paper.{Wanted, Decided, undecided, reads, decide}
@@ -114,13 +115,13 @@ files-fit c p = rw (lt-ltb (readPlan c .number) 256 (plan-fits c), lt-ltb (readP
 message-fits : (c p : Plan) (b : ℕ) (o : List ℕ) → sender.write c p b o .number < 256
 unfolding sender.write
 message-fits c p b o =
-    ruled-fitting (λ (w : sender.Writing). w .number) (sender.unwritten o) (sender.faults c p b o) (sender.message c p b) (λ n l. l)
+    ruled-fitting (λ (w : told.Writing). w .number) (told.unwritten o) (sender.faults c p b o) (sender.message c p b) (λ n l. l)
     (rw (plan-small c, plan-small p)) (lit< tt)
 
 pub unpacked-write-schedule : UnpackedWriteSchedule
 unpacked-write-schedule c p b o =
     apart (writtenFrom c p b o .number) (writtenFrom c p b o .used)
-    (ruled-fitting (λ (w : sender.Writing). w .number) (sender.unwritten o) ((not (eqb (length o) 88), 15) ∷ fileFaults c p)
+    (ruled-fitting (λ (w : told.Writing). w .number) (told.unwritten o) ((not (eqb (length o) 88), 15) ∷ fileFaults c p)
     (sender.write (readPlan c .plan) (readPlan p .plan) b o) (λ n l. l) (files-fit c p) (message-fits (readPlan c .plan) (readPlan p .plan) b o))
 
 check-fits : (c p : Plan) (m : List ℕ) (n : ℕ) → checker.check c p m n .number < 256

@@ -3,10 +3,9 @@ use mathlib.Core.Bool.{cond}
 use mathlib.Core.List.{List, []}
 use Prim.Native.Nat.{ℕ, _/_, _%_}
 use lib.Dec.{eqb}
-use Rattle.checker_plans.specs.Inner.{Plans}
-use Rattle.checker.specs.Inner.{checkBeside}
+use Rattle.checker.specs.Paper.{Checked}
 use Rattle.cbcheck.specs.Paper.{line}
 
 -- the line for a returned number, beside the message
-abbrev pub lineFor : Plans → ℕ → ℕ → List ℕ → List (List ℕ)
-lineFor b n returned m = cond (eqb (returned % 256) 7) (line n (checkBeside b m (returned / 256))) []
+abbrev pub lineFor : (List ℕ → ℕ → Checked) → ℕ → ℕ → List ℕ → List (List ℕ)
+lineFor check n returned m = cond (eqb (returned % 256) 7) (line n (check m (returned / 256))) []

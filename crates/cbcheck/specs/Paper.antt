@@ -1,12 +1,10 @@
--- The lines of a log's schedule messages, checked by what two plans say.
+-- The lines of a log's schedule messages, by what checks a message of which some octets are received.
 use mathlib.Core.Bool.{cond}
 use mathlib.Core.List.{List, [], _∷_, _++_}
 use Prim.Native.Nat.{ℕ}
 use lib.Dec.{eqb}
 use Rattle.block.specs.Paper.{Held, Given}
 use Rattle.checker.specs.Paper.{Checked}
-use Rattle.checker_plans.specs.Inner.{Plans}
-use Rattle.checker.specs.Inner.{checkBeside}
 use Rattle.lines.specs.Paper.{ascii, decimal, marked, flat}
 use Rattle.logs.specs.Paper.{listing}
 use Rattle.words.specs.Paper.{words}
@@ -28,9 +26,9 @@ abbrev pub line : ℕ → Checked → List (List ℕ)
 line n k = numbers n (k .number) (k .slot) ++ said (k .number) (k .slot)
 
 -- 01 Numbers given: a schedule message complete is answered by 7 and has a line; another answer has none
-abbrev pub lineOf : Plans → ℕ → Given → List ℕ
-lineOf b n g = cond (eqb (g .number) 7) (flat (line n (checkBeside b (g .octets) (g .received)))) []
+abbrev pub lineOf : (List ℕ → ℕ → Checked) → ℕ → Given → List ℕ
+lineOf check n g = cond (eqb (g .number) 7) (flat (line n (check (g .octets) (g .received)))) []
 
 -- the lines of pieces taken in order from a state, the first of them with number n
-abbrev pub lines : Plans → Held → ℕ → List (List ℕ) → List ℕ
-lines b h n ps = listing (lineOf b) h n ps
+abbrev pub lines : (List ℕ → ℕ → Checked) → Held → ℕ → List (List ℕ) → List ℕ
+lines check h n ps = listing (lineOf check) h n ps

@@ -7,6 +7,7 @@ ghost use Rattle.block.specs.Paper.{start};
 ghost use Rattle.block_history.specs.Claims.{after, GoesOn};
 ghost use Rattle.firmware.specs.Paper.{lent, heldIn};
 ghost use Rattle.checker.specs.Coded.{checkedOf};
+ghost use Rattle.checker.specs.Inner.{checkBeside};
 ghost use Rattle.checker_plans.specs.Coded.{plansOf};
 ghost use Rattle.lines.specs.Paper.{allBehind};
 ghost use Rattle.logs.specs.Paper.{cut};
@@ -99,7 +100,7 @@ fn list_all(
     out: &mut [u8],
 ) -> usize
     requires { ⌜ (now state ≡ lent start) × (length (now out) ≡ 146432) ⌝ }
-    ensures { λ r. ⌜ Continues (lineOf (plansOf plans)) (now (state .exit)) (now (out .exit)) r ⌝ }
+    ensures { λ r. ⌜ Continues (lineOf (checkBeside (plansOf plans))) (now (state .exit)) (now (out .exit)) r ⌝ }
 {
     let mut log = [0u8; logs::WHOLE];
     let mut message = [0u8; MESSAGE];
@@ -127,7 +128,7 @@ fn list(
     out: &mut [u8],
 ) -> usize
     requires { ⌜ (length (now state) ≡ 90) × (length (now message) ≡ 88) × (length (now log) ≤ 23552) × (length (now out) ≡ 146432) × (first < 1000000000000000000) ⌝ }
-    ensures { λ r. ⌜ (take r (now (out .exit)) ≡ lines (plansOf plans) (heldIn (now (state .entry))) first (cut (now (log .entry)))) × (now (state .exit) ≡ lent (after (heldIn (now (state .entry))) (cut (now (log .entry))))) × (r ≤ 146432) ⌝ }
+    ensures { λ r. ⌜ (take r (now (out .exit)) ≡ lines (checkBeside (plansOf plans)) (heldIn (now (state .entry))) first (cut (now (log .entry)))) × (now (state .exit) ≡ lent (after (heldIn (now (state .entry))) (cut (now (log .entry))))) × (r ≤ 146432) ⌝ }
 {
     let mut at = 0;
     let mut number = first;
@@ -151,7 +152,7 @@ fn put_answer(
     out: &mut [u8],
     at: usize,
 ) -> usize
-    ensures { λ r. ⌜ record { end = r; text = now (out .exit) } ≡ allBehind (lineFor (plansOf plans) number returned (now (message .entry))) at (now (out .entry)) ⌝ }
+    ensures { λ r. ⌜ record { end = r; text = now (out .exit) } ≡ allBehind (lineFor (checkBeside (plansOf plans)) number returned (now (message .entry))) at (now (out .entry)) ⌝ }
 {
     if returned % 256 != 7 {
         return at;

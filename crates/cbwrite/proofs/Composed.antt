@@ -6,10 +6,11 @@ use Rattle.refusals.proofs.Inverse.{numberOf-positive}
 use Rattle.block.specs.Paper.{schedule}
 use Rattle.block_writer.specs.Paper.{written}
 use Rattle.plan.specs.Paper.{Plan}
-use Rattle.sender.specs.Paper.{Writing, write}
-use Rattle.sender.specs.Coded.{writingOf}
-use Rattle.sender.specs.declared.Writing.{Writing as Answer}
-use Rattle.sender.specs.declared.Writing.the-variants.{Written, Refused}
+use Rattle.sender_message.specs.Paper.{Writing}
+use Rattle.sender_message.specs.Coded.{writingOf}
+use Rattle.sender_message.specs.declared.Writing.{Writing as Answer}
+use Rattle.sender_message.specs.declared.Writing.the-variants.{Written, Refused}
+use Rattle.sender.specs.Paper.{write}
 use Rattle.cbwrite.specs.Paper.{sentBy, composed}
 
 module _ (c p : Plan) (b : ℕ) (o m : List ℕ) {answer : Answer} (wrote : writingOf answer m ≡ write c p b (replicate 88 0)) where

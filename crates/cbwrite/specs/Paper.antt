@@ -7,7 +7,8 @@ use lib.ListN.{replicate}
 use Rattle.block.specs.Paper.{schedule}
 use Rattle.block_writer.specs.Paper.{BlocksLeft, written}
 use Rattle.plan.specs.Paper.{Plan}
-use Rattle.sender.specs.Paper.{Writing, write}
+use Rattle.sender_message.specs.Paper.{Writing}
+use Rattle.sender.specs.Paper.{write}
 
 -- 01 Blocks: the four blocks of a message that was written, in place of the lent output; one that was refused leaves it as it was
 abbrev pub sentBy : Writing → List ℕ → BlocksLeft

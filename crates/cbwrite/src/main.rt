@@ -11,7 +11,7 @@ use block_writer::Sent;
 use libc::STDERR_FILENO;
 use plan::Plan;
 use refusals::Refusal;
-use sender::Writing;
+use sender_message::Writing;
 use sizes::MESSAGE;
 
 // Begin as an argument tells it.

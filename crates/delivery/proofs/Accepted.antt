@@ -10,7 +10,8 @@ use Rattle.plan.specs.Paper.{Plan, planNumber}
 use Rattle.plan.proofs.GoodPlan.{good-counted}
 use Rattle.schedule.specs.Paper.{Shown, shown, end, tells, new, falseIn, falseRepeat, newPast, Read, unread, good, read}
 use Rattle.schedule.specs.Paper as schedule
-use Rattle.sender.specs.Paper.{planned, descriptions, messageOf, Writing, write}
+use Rattle.sender_message.specs.Paper.{descriptions, messageOf, Writing}
+use Rattle.sender.specs.Paper.{planned, write}
 use Rattle.sender.proofs.Cases.{Accepts, accepts}
 use Rattle.checker.specs.Paper.{isTrue, untrue, unchecked, verdict, check}
 use Rattle.checker.specs.Paper as checker
@@ -24,10 +25,10 @@ use own.Planned.{planned-tellable, planned-true, planned-repeats}
 pub fits : (c p : Plan) (b : ℕ) (o : List ℕ) → Accepts c p b o → Fits b (planned c p) (c .count)
 fits c p b o w =
     record {
-      some = w .given .one;
-      begins = w .given .within;
-      few = good-counted c (w .given .current);
-      tellable = planned-tellable c (w .given .current);
+      some = w .one;
+      begins = w .within;
+      few = good-counted c (w .current);
+      tellable = planned-tellable c (w .current);
       short = w .few;
     }
 
@@ -92,7 +93,7 @@ module _ (c p : Plan) (b : ℕ) (o : List ℕ) (z : write c p b o .number ≡ 0)
       let f = fits c p b o w in
       let e : write c p b o .used ≡ 8 + length (descriptions (planned c p) (c .count)) = ap (λ (x : Writing). x .used) (w .writes) in
       ap (λ (x : Writing). check c p (x .output) received) (w .writes)
-      ∙ checks c p b (messageOf b (planned c p) (c .count)) (w .given .current) (w .given .previous) f (reads-back b (planned c p) (c .count) f) received whole-blocks (omega arith)
+      ∙ checks c p b (messageOf b (planned c p) (c .count)) (w .current) (w .previous) f (reads-back b (planned c p) (c .count) f) received whole-blocks (omega arith)
 
 pub ours-accepted : OursAccepted
 ours-accepted c p b o z =

@@ -10,9 +10,10 @@ use Rattle.block_history.proofs.Taken.{blocks-taken}
 use Rattle.page.specs.Paper.{Heading, header}
 use Rattle.text.specs.Paper as text
 use Rattle.text_back.proofs.Back.{written-length, used-bounds as text-used, text-back-blocks, heading-back}
-use Rattle.sender.specs.Paper.{usedPart, padded, planned, Writing, write}
+use Rattle.sender_message.specs.Paper.{usedPart, padded, Writing}
+use Rattle.sender_message.proofs.Message.{used-length}
+use Rattle.sender.specs.Paper.{planned, write}
 use Rattle.sender.proofs.Cases.{accepts}
-use Rattle.sender.proofs.Message.{used-length}
 use Rattle.checker.specs.Paper.{check}
 use Rattle.delivery.specs.Claims.{blockOf, takenAt, StartedProper, Carried, textHanded, Heard, OverTheAir, HeaderOverTheAir, OursDelivered}
 use Rattle.delivery.proofs as own

@@ -5,10 +5,10 @@ use Rattle.laws.proofs.Radix.{below-nil, below-cons, below-append, below-replic
 use Rattle.laws.proofs.Upto.{picked-agree, each-at}
 use Rattle.schedule.specs.Paper.{Told, first, again, optional, advised, Shown, octetAt, bitmap, end, new, width, told, place, order, rank, tells, grouped}
 use Rattle.schedule_order.proofs.Ranks.{length-order, order-rank, order-below, rank-below}
-use Rattle.sender.specs.Paper.{octetsOf, octetsOfAll, groupedIn, group, descriptions, newBit, newBits, bitmapOf, usedPart, padded, messageOf}
-use Rattle.sender.proofs.Groups.{octetsOfAll-append}
-use Rattle.sender.proofs.Message.{bitmap-length, used-length}
-use Rattle.sender.proofs.News.{newBit-few, newBits-lt}
+use Rattle.sender_message.specs.Paper.{octetsOf, octetsOfAll, groupedIn, group, descriptions, newBit, newBits, bitmapOf, usedPart, padded, messageOf}
+use Rattle.sender_message.proofs.Groups.{octetsOfAll-append}
+use Rattle.sender_message.proofs.Message.{bitmap-length, used-length}
+use Rattle.sender_message.proofs.News.{newBit-few, newBits-lt}
 use Rattle.delivery.specs.Claims.{Tellable, Fits, ReadsBack}
 
 -- the description that stands after some octets

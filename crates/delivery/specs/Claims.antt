@@ -6,7 +6,8 @@ use Prim.Native.Nat.{ℕ, _+_, _≤_, _<_, _*_, suc, _-_}
 use lib.ListN.{length, take, drop, replicate}
 use Rattle.laws.specs.Radix.{Below}
 use Rattle.schedule.specs.Paper.{Told, first, again, optional, advised, Shown, type, begin, end, new, tells, place}
-use Rattle.sender.specs.Paper.{descriptions, messageOf, Writing, write}
+use Rattle.sender_message.specs.Paper.{descriptions, messageOf, Writing}
+use Rattle.sender.specs.Paper.{write}
 use Rattle.plan.specs.Paper.{Plan}
 use Rattle.block.specs.Paper.{Kind, page, schedule, Held, Given, filled, start, proper, step}
 use Rattle.block_writer.specs.Paper.{lastUsed, written}

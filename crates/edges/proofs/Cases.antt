@@ -12,7 +12,8 @@ use Rattle.block_writer.specs.Paper as cut
 use Rattle.plan.specs.Paper.{bad, planNumber}
 use Rattle.plan_slots.specs.Paper.{holds, lowestSlot, hasPage}
 use Rattle.schedule.specs.Paper.{new, place, order, tells, read}
-use Rattle.sender.specs.Paper.{plannedTold, newAt, octetsOfAll, descriptions, newBits, usedPart, padded, write}
+use Rattle.sender_message.specs.Paper.{octetsOfAll, descriptions, newBits, usedPart, padded}
+use Rattle.sender.specs.Paper.{plannedTold, newAt, write}
 use Rattle.board.specs.Paper.{isWanted, reads, decide}
 use Rattle.board_held.specs.Paper.{isHeld, tellsOf}
 use Rattle.edges.specs.Claims.{Edges}

@@ -11,6 +11,7 @@ use Rattle.block.specs.Paper as block
 use Rattle.block_writer.specs.Paper as writer
 use Rattle.plan.specs.Paper.{Entry, Plan, filledPlan, empty}
 use Rattle.schedule.specs.Paper as schedule
+use Rattle.sender_message.specs.Paper.{Writing, padded}
 use Rattle.sender.specs.Paper as sender
 use Rattle.board.specs.Paper.{Decided, decide}
 
@@ -43,11 +44,11 @@ abbrev pub twoSlots : Plan
 twoSlots = filledPlan (slot 0x8001 ∷ slot 0x8001 ∷ [])
 
 -- 01 The plan: the schedule message with Begin 1 beside a previous plan
-abbrev pub scheduled : Plan → Plan → sender.Writing
+abbrev pub scheduled : Plan → Plan → Writing
 scheduled c p = sender.write c p 1 (replicate 88 0)
 
 -- 01 The plan: the writer's number, the used octets and the message
-abbrev pub whole : sender.Writing → List ℕ
+abbrev pub whole : Writing → List ℕ
 whole w = w .number ∷ w .used ∷ w .output
 
 -- 01 The plan: n page slots with k different pages, one after the other and then from the first again
@@ -60,7 +61,7 @@ fitting c = scheduled c empty .number ∷ scheduled c empty .used ∷ []
 
 -- 01 Schedule message: a message of two octets, no new bits and some descriptions, then 2B
 abbrev pub sent : ℕ → ℕ → List ℕ → List ℕ
-sent x y o = sender.padded (x ∷ y ∷ replicate 6 0 ++ o)
+sent x y o = padded (x ∷ y ∷ replicate 6 0 ++ o)
 
 -- 01 Schedule message: what reading it gives, all received: number, Begin, End
 abbrev pub readOf : List ℕ → List ℕ

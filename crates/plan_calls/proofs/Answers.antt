@@ -12,10 +12,11 @@ use Rattle.plan.specs.Paper.{Plan}
 use Rattle.plan_read.specs.Paper.{readPlan}
 use Rattle.plan.specs.Coded.{planOf}
 use Rattle.plan.proofs.GoodPlan.{good-counted}
-use Rattle.sender.specs.declared.Writing.{Writing as WritingCode}
-use Rattle.sender.specs.declared.Writing.the-variants.{Written}
-use Rattle.sender.specs.Paper.{Writing, unwritten, write}
-use Rattle.sender.specs.Coded.{writingOf}
+use Rattle.sender_message.specs.declared.Writing.{Writing as WritingCode}
+use Rattle.sender_message.specs.declared.Writing.the-variants.{Written}
+use Rattle.sender_message.specs.Paper.{Writing, unwritten}
+use Rattle.sender.specs.Paper.{write}
+use Rattle.sender_message.specs.Coded.{writingOf}
 use Rattle.sender.proofs.Cases.{accepts}
 use Rattle.checker.specs.declared.Checking.{Checking}
 use Rattle.checker.specs.declared.Checking.the-variants.{Refused}

@@ -7,7 +7,8 @@ use lib.ListN.{length}
 use Rattle.laws.specs.Ruled.{ruled, unless0}
 use Rattle.calls.specs.Paper.{CallLeft, inOne, leftWith}
 use Rattle.plan_read.specs.Paper.{readPlan}
-use Rattle.sender.specs.Paper.{Writing, unwritten, write}
+use Rattle.sender_message.specs.Paper.{Writing, unwritten}
+use Rattle.sender.specs.Paper.{write}
 use Rattle.checker.specs.Paper.{Checked, unchecked, check}
 
 -- 01 The plan; DECISIONS, Several numbers in one: the reader of plan files for C: number + 256 × count

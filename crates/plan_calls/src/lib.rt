@@ -7,7 +7,7 @@ use checker::Checking;
 use plan::Plan;
 use plan::Verdict;
 use refusals::Refusal;
-use sender::Writing;
+use sender_message::Writing;
 use sizes::MESSAGE;
 
 // Reads a plan file: number + 256 × count.

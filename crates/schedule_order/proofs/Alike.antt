@@ -1,18 +1,15 @@
 -- Messages that match in what the readers look at are read alike, but for Begin.
-use Rattle.laws.proofs.Base.{_≡_, refl, sym, ap, _∙_, Bool, true, false, cond, not, _&&_, Bool·beq, List, [], _∷_, _++_, ℕ, suc, _+_, _-_, _/_, _%_, _^_, _≤_, _<_, arith, length, getD, replicate, eqb, leb, ltb, ltb-true, ltb-false, ne-eqb}
+use Rattle.laws.proofs.Base.{_≡_, refl, sym, ap, _∙_, Bool, true, false, cond, not, _&&_, Bool·beq, List, [], _∷_, _++_, ℕ, suc, _+_, _-_, _/_, _%_, _^_, _≤_, _<_, arith, length, getD, eqb, leb, ltb, ltb-true, ltb-false, ne-eqb}
 use Rattle.sizes.specs.Paper.{wholeBlocks}
 use Rattle.laws.specs.Ruled.{ruled}
-use Rattle.laws.specs.Upto.{some, count, picked, each}
-use Rattle.laws.proofs.Ruled.{ruled-map}
+use Rattle.laws.specs.Upto.{some, count, picked}
 use Rattle.laws.proofs.Upto.{some-agree}
 use Rattle.schedule.specs.Paper.{octetAt, type, begin, end, new, told, place, rank, order, tells, falseRepeat, inBounds, faults, shown, Read, unread, good, read, next, noMore, refusal, slotOf, givenAt, given}
 use Rattle.schedule.proofs.Answers.{Answered, refused, sound, answered}
 use Rattle.schedule.proofs.News.{new-octet, new-beyond}
 use Rattle.schedule.proofs.Places.{place-mono}
 use Rattle.schedule.proofs.Repeats.{falseRepeat-agree}
-use Rattle.schedule_places.specs.Inner.{Placed, placeAt, unplaced, whole, placed}
-use Rattle.schedule_places.proofs.Known.{read-placed}
-use Rattle.schedule_order.specs.Claims.{Alike, begun, AlikeButBegin}
+use Rattle.schedule_order.specs.Claims.{starting, Alike, begun, AlikeButBegin}
 use Rattle.schedule_order.proofs.Ranks.{order-below, rank-below}
 
 -- the first description starts after eight octets
@@ -39,7 +36,7 @@ pub within-same : (m n : List ℕ) → begin m ≡ begin n → end m ≡ end n �
 within-same m n b e = λ p. leb 1 (b p) && (leb (b p) (e p) && leb (e p) 48)
 
 -- what is asked for only below a bound need be equal only there
-below-only : {A : Type 0} (i e : ℕ) (x y z : A) → (i < e → x ≡ y) → cond (ltb i e) x z ≡ cond (ltb i e) y z
+pub below-only : {A : Type 0} (i e : ℕ) (x y z : A) → (i < e → x ≡ y) → cond (ltb i e) x z ≡ cond (ltb i e) y z
 below-only i e x y z h = go (ltb i e) refl
   where
     go : (b : Bool) → ltb i e ≡ b → cond b x z ≡ cond b y z
@@ -73,11 +70,8 @@ module _ (m n : List ℕ) (a : Matching m n) where
   shown-same : (i : ℕ) → i < end m → shown m i ≡ shown n i
   shown-same i l = λ p. record { new = new-same p i; told = tells-same i l p }
 
-  placeAt-same : (i : ℕ) → placeAt m i ≡ placeAt n i
-  placeAt-same i =
-      below-only i (end m) (place m (rank m i)) (place n (rank n i)) 0
-      (λ l. let low = rank-below m i l in a .places (rank m i) (omega arith) ∙ ap (place n) (rank-same i))
-      ∙ ap (λ (e : ℕ). cond (ltb i e) (place n (rank n i)) 0) (a .last)
+  starting-same : (i : ℕ) → i < end m → starting m i ≡ starting n i
+  starting-same i l = let low = rank-below m i l in a .places (rank m i) (omega arith) ∙ ap (place n) (rank-same i)
 
   givenAt-same : (k : ℕ) → givenAt m k ≡ givenAt n k
   givenAt-same k =
@@ -111,13 +105,6 @@ module _ (m n : List ℕ) (a : Matching m n) where
     unfolding given
     gives-same k = λ p. ruled refusal (faults-same p) (givenAt-same k p)
 
-    places-same : placed m received .places ≡ placed n received .places
-    unfolding placed
-    places-same =
-        ruled-map (λ (r : Placed). r .places) unplaced (faults m received) (whole m)
-        ∙ (λ p. ruled (λ (x : ℕ). replicate 48 0) (faults-same p) (each (λ (i : ℕ). placeAt-same i p) 48))
-        ∙ sym (ruled-map (λ (r : Placed). r .places) unplaced (faults n received) (whole n))
-
     begun-same : read n received ≡ begun (begin n) (read m received)
     unfolding read
     begun-same = sym (λ p. ruled unread (faults-same p) (good n)) ∙ go (answered m received)
@@ -132,23 +119,17 @@ module _ (m n : List ℕ) (a : Matching m n) where
     alike-but-begin =
         record {
           reads = begun-same;
-          places =
-              λ p. record {
-                read = (read-placed n received ∙ begun-same ∙ ap (begun (begin n)) (sym (read-placed m received))) p;
-                places = sym places-same p;
-              };
+          places = starting-same;
           shows = shown-same;
           gives = gives-same;
         }
 
     pub alike : begin m ≡ begin n → Alike m n received
-    unfolding read placed
+    unfolding read
     alike e =
         record {
           reads = λ p. ruled unread (faults-same p) (record { number = 0; begin = e p; end = a .last p });
-          places =
-              λ p. ruled unplaced (faults-same p)
-              (record { read = record { number = 0; begin = e p; end = a .last p }; places = each (λ (i : ℕ). placeAt-same i p) 48 });
+          places = starting-same;
           shows = shown-same;
           gives = gives-same;
         }

@@ -1,6 +1,7 @@
 -- What `schedule_order` proves.
 pub mod Alike
 pub mod Once
+pub mod Placed
 pub mod Ranks
 pub mod Refused
 pub mod Slides

@@ -8,7 +8,6 @@ use lib.ListN.{length, take, set, replicate}
 use lib.Dec.{eqb}
 use Rattle.sizes.specs.Paper.{wholeBlocks}
 use Rattle.schedule.specs.Paper.{octetAt, type, begin, end, new, width, reserved, again, place, rank, tells, isFirst, Shown, shown, Read, read, next, given}
-use Rattle.schedule_places.specs.Inner.{placed}
 
 -- 01 Schedule message: slot i is given exactly once, with what is shown of it, at its rank
 pub record Once (m : List ℕ) (received i : ℕ) : Type 0 where
@@ -24,9 +23,13 @@ pub record Begins (m : List ℕ) : Type 0 where
   pub from : 1 ≤ begin m
   pub upto : begin m ≤ end m
 
+-- 01 Schedule message: where the description of slot i starts
+abbrev pub starting : List ℕ → ℕ → ℕ
+starting m i = place m (rank m i)
+
 -- 01 Schedule message: where the description of slot i ends
 abbrev pub ending : List ℕ → ℕ → ℕ
-ending m i = place m (rank m i) + width (octetAt m (place m (rank m i)))
+ending m i = starting m i + width (octetAt m (starting m i))
 
 -- 01 Order: the reader's tests before 24 pass, each by its number in the table
 pub record Reaches24 (m : List ℕ) (received : ℕ) : Type 0 where
@@ -56,10 +59,10 @@ pub record FalseRepeat (m : List ℕ) : Type 0 where
 abbrev pub RefusedBy24 : Type 0
 RefusedBy24 = (m : List ℕ) (received : ℕ) → (read m received .number ≡ 24) ↔ (Reaches24 m received × FalseRepeat m)
 
--- 01 Schedule message: two messages read alike by every reader, and showing the same of each slot up to End
+-- 01 Schedule message: two messages read alike by every reader, with the same of each slot up to End, at the same place
 pub record Alike (m n : List ℕ) (received : ℕ) : Type 0 where
   pub reads : read m received ≡ read n received
-  pub places : placed m received ≡ placed n received
+  pub places : (i : ℕ) → i < end m → starting m i ≡ starting n i
   pub shows : (i : ℕ) → i < end m → shown m i ≡ shown n i
   pub gives : (k : ℕ) → given m received k ≡ given n received k
 
@@ -67,10 +70,10 @@ pub record Alike (m n : List ℕ) (received : ℕ) : Type 0 where
 abbrev pub begun : ℕ → Read → Read
 begun b r = cond (eqb (r .number) 0) (record { number = 0; begin = b; end = r .end }) r
 
--- 01 Schedule message: n is read as m by every reader, but for Begin, which is its own, and shows the same of each slot up to End
+-- 01 Schedule message: n is read as m by every reader, but for Begin, which is its own, with the same of each slot up to End, at the same place
 pub record AlikeButBegin (m n : List ℕ) (received : ℕ) : Type 0 where
   pub reads : read n received ≡ begun (begin n) (read m received)
-  pub places : placed n received ≡ record { read = begun (begin n) (placed m received .read); places = placed m received .places }
+  pub places : (i : ℕ) → i < end m → starting m i ≡ starting n i
   pub shows : (i : ℕ) → i < end m → shown m i ≡ shown n i
   pub gives : (k : ℕ) → given m received k ≡ given n received k
 

@@ -1,22 +1,13 @@
 -- Two answers that meet a public contract of this crate are equal, lent memory included.
-use Rattle.laws.proofs.Base.{_≡_, sym, ap, _∙_, List, ℕ}
-use Rattle.refusals.proofs.Inverse.{numberOf-injective, numberOf-positive}
+use Rattle.laws.proofs.Base.{_≡_, sym, _∙_, List, ℕ}
 use Rattle.plan.specs.declared.Plan.{Plan}
 use Rattle.plan.specs.Coded.{planOf}
-use Rattle.sender.specs as defs
-use defs.Paper.{Writing, write}
-use defs.Coded.{writingOf}
-use defs.declared.Writing.{Writing as WritingCode}
-use defs.declared.Writing.the-variants.{Written, Refused}
+use Rattle.sender_message.specs.Coded.{writingOf}
+use Rattle.sender_message.specs.declared.Writing.{Writing}
+use Rattle.sender_message.proofs.Determined.{writing-injective}
+use Rattle.sender.specs.Paper.{write}
 
-writing-injective : (r s : WritingCode) (o q : List ℕ) → writingOf r o ≡ writingOf s q → (r ≡ s) × (o ≡ q)
-writing-injective (Written u) (Written v) o q e = (ap (λ (w : Writing). Written (w .used)) e, ap (λ (w : Writing). w .output) e)
-writing-injective (Written u) (Refused b) o q e = absurd (numberOf-positive b (sym (ap (λ (w : Writing). w .number) e)))
-writing-injective (Refused a) (Written v) o q e = absurd (numberOf-positive a (ap (λ (w : Writing). w .number) e))
-writing-injective (Refused a) (Refused b) o q e =
-    (ap Refused (numberOf-injective a b (ap (λ (w : Writing). w .number) e)), ap (λ (w : Writing). w .output) e)
-
-pub determined-write-schedule : (current previous : Plan) (begin : ℕ) (out : List ℕ) (r s : WritingCode) (o q : List ℕ)
+pub determined-write-schedule : (current previous : Plan) (begin : ℕ) (out : List ℕ) (r s : Writing) (o q : List ℕ)
     → writingOf r o ≡ write (planOf current) (planOf previous) begin out
     → writingOf s q ≡ write (planOf current) (planOf previous) begin out → (r ≡ s) × (o ≡ q)
 determined-write-schedule current previous begin out r s o q d e = writing-injective r s o q (d ∙ sym e)

@@ -1,9 +1,4 @@
 -- What `sender` proves.
-pub mod Agree
 pub mod Cases
 pub mod Determined
-pub mod Groups
-pub mod Message
-pub mod News
-pub mod Padded
 pub mod Tells

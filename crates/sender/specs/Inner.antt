@@ -1,11 +1,11 @@
--- What the inner functions give and need, in the paper's terms.
+-- What the inner functions give, in the paper's terms.
 use mathlib.Core.Bool.{cond}
 use mathlib.Core.List.{[]}
-use Prim.Native.Nat.{ℕ, suc, _<_}
+use Prim.Native.Nat.{ℕ, suc}
 use lib.Dec.{eqb}
 use lib.ListN.{take, drop}
 use Rattle.laws.specs.Ruled.{ruled}
-use Rattle.schedule.specs.Paper.{Told, first, again, optional, advised, Shown}
+use Rattle.schedule.specs.Paper.{first, again, optional, advised, Shown}
 use Rattle.plan.specs.Paper.{Plan}
 use Rattle.plan_slots.specs.Paper.{Planned}
 use Rattle.sender.specs.Paper.{faults}
@@ -20,17 +20,6 @@ shownBy v i =
           (cond (eqb (v .kind) 1) advised optional);
     }
 
--- a first transmission has 15 bits
-abbrev pub Low : Told → Type 0
-Low (first x) = x < 32768
-Low (again n) = Unit {0}
-Low optional = Unit {0}
-Low advised = Unit {0}
-
--- so has each that is told of n slots
-abbrev pub AllLow : (ℕ → Shown) → ℕ → Type 0
-AllLow s n = (i : ℕ) → i < n → Low (s i .told)
-
--- the number of the plans and of Begin: the tests but the first, of the output, and the last, of the message
-unfoldable pub plansNumber : Plan → Plan → ℕ → ℕ
-plansNumber c p b = ruled (λ n. n) (take 4 (drop 1 (faults c p b []))) 0
+-- the number of the plans: the tests after the first, of the output, and before those of the message
+unfoldable pub plansNumber : Plan → Plan → ℕ
+plansNumber c p = ruled (λ n. n) (take 3 (drop 1 (faults c p 0 []))) 0

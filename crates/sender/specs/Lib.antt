@@ -1,4 +1,3 @@
 -- What `sender` defines.
 pub mod Paper
-pub mod Coded
 pub mod Inner

@@ -1,33 +1,20 @@
 // Schedule messages written from a plan and the plan before it.
 ghost use mathlib.Core.Path.{_≡_};
-ghost use mathlib.Core.Bool.{cond, _&&_};
-ghost use mathlib.Core.List.{[], _∷_, _++_};
-ghost use Prim.Native.Nat.{ℕ, _+_, _≤_, _<_};
-ghost use lib.ListN.{length, replicate};
-ghost use lib.Seq.{sets};
-ghost use Rattle.schedule.specs.Coded.{toldOf, shownOf};
+ghost use Prim.Native.Nat.{ℕ, _≤_, _<_};
+ghost use Rattle.schedule.specs.Coded.{shownOf};
 ghost use Rattle.plan.specs.Coded.{planOf, verdictOf};
 ghost use Rattle.plan_slots.specs.Coded.{plannedOf};
-ghost use Rattle.sender.specs.Paper.{planned, octetsOf, octetsOfAll, group, descriptions, newBits, bitmapOf, messageOf, write};
-ghost use Rattle.sender.specs.Coded.{writingOf, shownIn};
-ghost use Rattle.sender.specs.Inner.{shownBy, Low, AllLow, plansNumber};
+ghost use Rattle.sender_message.specs.Coded.{writingOf, shownIn};
+ghost use Rattle.sender.specs.Paper.{planned, write};
+ghost use Rattle.sender.specs.Inner.{shownBy, plansNumber};
 use plan::Plan;
 use plan::Verdict;
 use plan_slots::Planned;
 use refusals::Refusal;
 use schedule::Description;
 use schedule::Slot;
-use sizes::FILLER;
+use sender_message::Writing;
 use sizes::MESSAGE;
-
-// 000 3.5: the octets before the first description.
-const HEADER: usize = 8;
-
-// What the writer answers: the used octets, or a refusal.
-pub enum Writing {
-    Written(usize),
-    Refused(Refusal),
-}
 
 // What is told of slot i, counted from 0, by what the plans say of it.
 fn tell(said: Planned, i: usize) -> Slot
@@ -78,152 +65,9 @@ fn telling(current: Plan, previous: Plan) -> [Slot; 48]
     slots
 }
 
-fn width_of(description: Description) -> usize
-    ensures { λ r. ⌜ r ≡ length (octetsOf (toldOf description)) ⌝ }
-{
-    match description {
-        Description::First(_) => 2,
-        Description::Repeat(_) => 1,
-        Description::Optional => 1,
-        Description::Advised => 1,
-    }
-}
-
-// The octets of the descriptions of some slots.
-fn width_of_all(slots: [Slot; 48], count: usize) -> usize
-    requires { ⌜ count ≤ 48 ⌝ }
-    ensures { λ r. ⌜ r ≡ length (descriptions (shownIn slots) count) ⌝ }
-{
-    let mut width = 0;
-    let mut i = 0;
-    while i < count {
-        let slot = slots[i];
-        let description = slot.description;
-        width += width_of(description);
-        i += 1;
-    }
-    width
-}
-
-// The new bit of a slot; past the count it is 0.
-fn new_bit(slot: Slot, counted: bool) -> u8
-    ensures { λ r. ⌜ r ≡ cond (counted && slot .new) 1 0 ⌝ }
-{
-    if !counted {
-        return 0;
-    }
-    if slot.new {
-        return 1;
-    }
-    0
-}
-
-// Eight new bits, those of octet j, counted from 0.
-fn new_octet(slots: [Slot; 48], count: usize, j: usize) -> u8
-    requires { ⌜ (count ≤ 48) × (j < 6) ⌝ }
-    ensures { λ r. ⌜ r ≡ newBits (shownIn slots) count j 8 ⌝ }
-{
-    let mut bits = 0u8;
-    let mut k = 0;
-    while k < 8 {
-        let i = 8 * j + k;
-        let slot = slots[i];
-        bits = 2 * bits + new_bit(slot, i < count);
-        k += 1;
-    }
-    bits
-}
-
-// Begin, End and the new bits, with nothing told after them.
-fn header(slots: [Slot; 48], count: usize, begin: usize) -> [u8; 88]
-    requires { ⌜ (begin ≤ count) × (count ≤ 48) ⌝ }
-    ensures { λ r. ⌜ r ≡ sets (replicate 88 43) 0 ((begin ∷ count ∷ []) ++ bitmapOf (shownIn slots) count) ⌝ }
-{
-    let mut octets = [FILLER; 88];
-    octets[0] = begin as u8;
-    octets[1] = count as u8;
-    let mut j = 0;
-    while j < 6 {
-        octets[2 + j] = new_octet(slots, count, j);
-        j += 1;
-    }
-    octets
-}
-
-// A message filled up to a place.
-struct Filling {
-    octets: [u8; 88],
-    at: usize,
-}
-
-// Puts an octet at a place.
-fn put_octet(octets: [u8; 88], at: usize, octet: u8) -> Filling
-    requires { ⌜ at < 88 ⌝ }
-    ensures { λ r. ⌜ (r .octets ≡ sets octets at (octet ∷ [])) × (r .at ≡ at + 1) ⌝ }
-{
-    let mut filled = octets;
-    filled[at] = octet;
-    Filling {
-        octets: filled,
-        at: at + 1,
-    }
-}
-
-// Puts a description at a place.
-fn put(octets: [u8; 88], at: usize, description: Description) -> Filling
-    requires { ⌜ Low (toldOf description) × (at + length (octetsOf (toldOf description)) ≤ 88) ⌝ }
-    ensures { λ r. ⌜ (r .octets ≡ sets octets at (octetsOf (toldOf description))) × (r .at ≡ at + length (octetsOf (toldOf description))) ⌝ }
-{
-    match description {
-        Description::First(low) => {
-            let mut filled = octets;
-            filled[at] = 0x80 + (low / 256) as u8;
-            filled[at + 1] = (low % 256) as u8;
-            Filling {
-                octets: filled,
-                at: at + 2,
-            }
-        }
-        Description::Repeat(slot) => put_octet(octets, at, slot),
-        Description::Optional => put_octet(octets, at, 0x40),
-        Description::Advised => put_octet(octets, at, 0x41),
-    }
-}
-
-// Puts the descriptions of the slots whose new bit is as given at a place.
-fn put_group(octets: [u8; 88], at: usize, slots: [Slot; 48], count: usize, new: bool) -> Filling
-    requires { ⌜ (count ≤ 48) × AllLow (shownIn slots) count × (at + length (octetsOfAll (shownIn slots) (group (shownIn slots) count new)) ≤ 88) ⌝ }
-    ensures { λ r. ⌜ (r .octets ≡ sets octets at (octetsOfAll (shownIn slots) (group (shownIn slots) count new))) × (r .at ≡ at + length (octetsOfAll (shownIn slots) (group (shownIn slots) count new))) ⌝ }
-{
-    let mut filled = Filling { octets, at };
-    let mut i = 0;
-    while i < count {
-        let slot = slots[i];
-        if slot.new == new {
-            let description = slot.description;
-            let so_far = filled.octets;
-            filled = put(so_far, filled.at, description);
-        }
-        i += 1;
-    }
-    filled
-}
-
-// The message that tells some slots.
-fn compose(slots: [Slot; 48], count: usize, begin: usize) -> [u8; 88]
-    requires { ⌜ (begin ≤ count) × (count ≤ 48) × AllLow (shownIn slots) count × (length (descriptions (shownIn slots) count) ≤ 80) ⌝ }
-    ensures { λ r. ⌜ r ≡ messageOf begin (shownIn slots) count ⌝ }
-{
-    let front = header(slots, count, begin);
-    let news = put_group(front, HEADER, slots, count, true);
-    let told = news.octets;
-    let all = put_group(told, news.at, slots, count, false);
-    all.octets
-}
-
-// What is said of the plans and of Begin before a message is made.
-fn plans_answer(current: Plan, previous: Plan, begin: usize) -> Verdict
-    ensures { λ r. ⌜ verdictOf r ≡ plansNumber (planOf current) (planOf previous) begin ⌝ }
+// What is said of the plans before a message is made.
+fn plans_answer(current: Plan, previous: Plan) -> Verdict
+    ensures { λ r. ⌜ verdictOf r ≡ plansNumber (planOf current) (planOf previous) ⌝ }
 {
     let answer = plan::plan_answer(current);
     if let Verdict::Refused(refusal) = answer {
@@ -236,12 +80,6 @@ fn plans_answer(current: Plan, previous: Plan, begin: usize) -> Verdict
     if current.count == 0 {
         return Verdict::Refused(Refusal::PlanEmpty);
     }
-    if begin == 0 {
-        return Verdict::Refused(Refusal::BeginOrEnd);
-    }
-    if begin > current.count {
-        return Verdict::Refused(Refusal::BeginOrEnd);
-    }
     Verdict::Good
 }
 
@@ -252,17 +90,10 @@ pub fn write_schedule(current: Plan, previous: Plan, begin: usize, out: &mut [u8
     if out.len() != MESSAGE {
         return Writing::Refused(Refusal::OutputLength);
     }
-    let answer = plans_answer(current, previous, begin);
+    let answer = plans_answer(current, previous);
     if let Verdict::Refused(refusal) = answer {
         return Writing::Refused(refusal);
     }
-    let count = current.count;
     let slots = telling(current, previous);
-    let width = width_of_all(slots, count);
-    if width > MESSAGE - HEADER {
-        return Writing::Refused(Refusal::DescriptionsTooLong);
-    }
-    let message = compose(slots, count, begin);
-    bytes::copy(&message, out);
-    Writing::Written(HEADER + width)
+    sender_message::write_message(slots, current.count, begin, out)
 }

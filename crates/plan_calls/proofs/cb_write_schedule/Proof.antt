@@ -2,8 +2,8 @@
 use Rattle.laws.proofs.Base.{_≡_, ap, _∙_, _≤_, arith, needs}
 use Rattle.calls.proofs.Packed.{left-number, left-done}
 use Rattle.plan.specs.Coded.{planOf}
-use Rattle.sender.specs.Paper.{Writing}
-use Rattle.sender.specs.Coded.{writingOf}
+use Rattle.sender_message.specs.Paper.{Writing}
+use Rattle.sender_message.specs.Coded.{writingOf}
 use Rattle.plan_calls.specs.Paper.{writtenFrom, writtenLeft}
 use Rattle.plan_calls.proofs as own
 use own.Answers.{refuses-output, refuses-files, as-filed, message-small}

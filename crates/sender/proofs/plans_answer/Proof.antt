@@ -1,11 +1,11 @@
 -- `sender::plans_answer` meets its contract: each return is the first test that holds.
-use Rattle.laws.proofs.Base.{_≡_, sym, ap, _∙_, false, and-false, arith, leb, lt-leb, needs}
+use Rattle.laws.proofs.Base.{_≡_, sym, ap, _∙_, needs}
 use Rattle.refusals.specs.Number.{numberOf}
 use Rattle.refusals.proofs.Inverse.{numberOf-positive}
 use Rattle.plan.specs.Paper.{Plan, planNumber}
 use Rattle.plan.specs.Coded.{planOf, verdictOf}
 use Rattle.sender.proofs as own
-use own.Cases.{plans-current, plans-previous, plans-35, plans-21, plans-0}
+use own.Cases.{plans-current, plans-previous, plans-35, plans-0}
 use own.plans_answer.Statement.{statement}
 use own.plans_answer.Tie as tie
 
@@ -20,7 +20,7 @@ returns c =
     let s = c .before .before .before .before in
     let a = c .before .answer .given in
     sym
-    (plans-current (current s) (previous s) (s .args .begin) (numberOf (a .0 .0))
+    (plans-current (current s) (previous s) (numberOf (a .0 .0))
     (sym (c .before .before .before .plan-answer .ensures) ∙ ap verdictOf (a .1)) (numberOf-positive (a .0 .0)))
 
 abbrev start : tie.After-enum-told → tie.Start
@@ -36,7 +36,7 @@ returns-2 c =
     let s = start g in
     let a = c .before .answer2 .given in
     sym
-    (plans-previous (current s) (previous s) (s .args .begin) (current-good g) (numberOf (a .0 .0))
+    (plans-previous (current s) (previous s) (current-good g) (numberOf (a .0 .0))
     (sym (c .before .before .before .plan-answer2 .ensures) ∙ ap verdictOf (a .1)) (numberOf-positive (a .0 .0)))
 
 abbrev both : tie.After-enum-told2 → tie.After-enum-told
@@ -50,35 +50,17 @@ returns-3 : tie.Need-returns-3
 returns-3 c =
     let h = c .before .before in
     let s = start (both h) in
-    sym (plans-35 (current s) (previous s) (s .args .begin) (current-good (both h)) (previous-good h) (c .if1 .taken))
+    sym (plans-35 (current s) (previous s) (current-good (both h)) (previous-good h) (c .if1 .taken))
 
 returns-4 : tie.Need-returns-4
 returns-4 c =
-    let h = c .before .before .before in
+    let h = c .before .before in
     let s = start (both h) in
-    let none : leb 1 (s .args .begin) ≡ false = lt-leb 1 (s .args .begin) (omega arith) in
-    sym (plans-21 (current s) (previous s) (s .args .begin) (current-good (both h)) (previous-good h) (c .before .if1 .left) (rw none))
-
-returns-5 : tie.Need-returns-5
-returns-5 c =
-    let e = c .before .before .before in
-    let h = e .before .before in
-    let s = start (both h) in
-    let past : leb (s .args .begin) (current s .count) ≡ false = lt-leb (s .args .begin) (current s .count) (c .if3 .taken) in
-    sym
-    (plans-21 (current s) (previous s) (s .args .begin) (current-good (both h)) (previous-good h) (e .if1 .left)
-    (rw past (and-false (leb 1 (s .args .begin)))))
-
-returns-6 : tie.Need-returns-6
-returns-6 c =
-    let e = c .before .before .before in
-    let h = e .before .before in
-    let s = start (both h) in
-    sym (plans-0 (current s) (previous s) (s .args .begin) (current-good (both h)) (previous-good h) (e .if1 .left) (omega arith) (c .if3 .left))
+    sym (plans-0 (current s) (previous s) (current-good (both h)) (previous-good h) (c .if1 .left))
 
 pub plans-answer-spec : {M : Type 1} → statement M
 plans-answer-spec =
     tie.close
     (tie.spec
     (λ c κs. search needs) (λ c. search needs) returns (λ c. search needs) (λ c κs. search needs)
-    (λ c. search needs) returns-2 (λ c. search needs) returns-3 returns-4 returns-5 returns-6)
+    (λ c. search needs) returns-2 (λ c. search needs) returns-3 returns-4)

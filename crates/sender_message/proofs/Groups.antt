@@ -1,11 +1,11 @@
 -- Laws of the octets of descriptions: group by group, slot by slot.
-use Rattle.laws.proofs.Base.{_≡_, refl, sym, ap, _∙_, Bool, true, false, cond, List, [], _∷_, _++_, append-assoc, append-nil, ⊎-elim, ℕ, zero, suc, _+_, _≤_, _<_, eq-or-lt-of-le, le-of-suc-le-suc, not-suc-le-zero, add-one, arith, length, length-append, sets}
+use Rattle.laws.proofs.Base.{_≡_, refl, sym, ap, _∙_, Bool, true, false, cond, List, [], _∷_, _++_, append-assoc, append-nil, ⊎-elim, ℕ, zero, suc, _+_, _*_, _≤_, _<_, eq-or-lt-of-le, le-of-suc-le-suc, not-suc-le-zero, add-one, arith, length, length-append, sets}
 use Rattle.laws.specs.Upto.{picked}
 use Rattle.schedule.specs.Paper.{Told, first, again, optional, advised, Shown}
-use Rattle.sender.specs.Paper.{octetsOf, octetsOfAll, groupedIn, group, descriptions}
-use Rattle.sender.proofs.Padded.{sets-append}
+use Rattle.sender_message.specs.Paper.{octetsOf, octetsOfAll, groupedIn, group, descriptions}
+use Rattle.sender_message.proofs.Padded.{sets-append}
 
-pub octetsOf-few : (t : Told) → length (octetsOf t) ≤ 2
+octetsOf-few : (t : Told) → length (octetsOf t) ≤ 2
 octetsOf-few (first x) = omega arith
 octetsOf-few (again n) = omega arith
 octetsOf-few optional = omega arith
@@ -67,15 +67,17 @@ module _ (s : ℕ → Shown) where
   pub length-descriptions : (n : ℕ) → length (descriptions s n) ≡ length (told true n) + length (told false n)
   length-descriptions n = ap length (descriptions-groups n) ∙ length-append (told true n) (told false n)
 
-  pub descriptions-none : length (descriptions s 0) ≡ 0
-  descriptions-none = length-descriptions 0 ∙ rw (told-none true, told-none false)
-
   -- one slot more: its description is in one of the groups
-  pub descriptions-next : (n : ℕ) → length (descriptions s (n + 1)) ≡ length (descriptions s n) + length (octetsOf (s n .told))
-  descriptions-next n = rw (add-one, length-descriptions, length-descriptions n, length-suc true n, length-suc false n) (go (s n .new) refl)
+  length-more : (n : ℕ) → length (descriptions s (suc n)) ≡ length (descriptions s n) + length (octetsOf (s n .told))
+  length-more n = rw (length-descriptions, length-descriptions n, length-suc true n, length-suc false n) (go (s n .new) refl)
     where
       go : (b : Bool) → s n .new ≡ b
           → length (told true n) + length (cond (groupedIn s true n) (octetsOf (s n .told)) []) + (length (told false n) + length (cond (groupedIn s false n) (octetsOf (s n .told)) []))
           ≡ length (told true n) + length (told false n) + length (octetsOf (s n .told))
       go true e = rw e (omega arith)
       go false e = rw e (omega arith)
+
+  -- at most two octets for each slot
+  pub descriptions-few : (n : ℕ) → length (descriptions s n) ≤ 2 * n
+  descriptions-few zero = rw (length-descriptions 0, told-none true, told-none false) (omega arith)
+  descriptions-few (suc n) = let h = descriptions-few n in omega (arith, length-more n, octetsOf-few (s n .told))

@@ -1,7 +1,7 @@
--- `sender::put_group` meets its contract. The invariant: the descriptions passed are put one after the other.
+-- `sender_message::put_group` meets its contract. The invariant: the descriptions passed are put one after the other.
 use Rattle.laws.proofs.Base.{_≡_, refl, ⊎-elim, _≤_, _-_, _+_, arith, needs, length, sets}
-use Rattle.sender.specs.Coded.{shownIn}
-use Rattle.sender.proofs as own
+use Rattle.sender_message.specs.Coded.{shownIn}
+use Rattle.sender_message.proofs as own
 use own.Groups.{told, told-none, told-out, told-room, put-in}
 use own.put_group.Statement.{statement}
 use own.put_group.Tie as tie
@@ -21,8 +21,7 @@ put-requires : tie.Need-put-requires Inv-loop μ-loop
 put-requires c κs =
     let a = c .before .before .before .before .before .before .args in
     let l = c .before .before .before .before .before .loop in
-    let p = c .before .before .before .before .before .before .pre in
-    (p .1 (l .i) (omega arith), omega (arith, told-room (shownIn (a .t3)) (a .new) (a .count) (l .i) (c .before .before .before .before .loop-test .taken) (c .before .if1 .taken)))
+    omega (arith, told-room (shownIn (a .t3)) (a .new) (a .count) (l .i) (c .before .before .before .before .loop-test .taken) (c .before .if1 .taken))
 
 loop-again : tie.Need-loop-again Inv-loop μ-loop
 loop-again c =

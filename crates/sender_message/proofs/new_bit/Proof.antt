@@ -1,6 +1,6 @@
--- `sender::new_bit` meets its contract.
+-- `sender_message::new_bit` meets its contract.
 use Rattle.laws.proofs.Base.{not-true, not-false}
-use Rattle.sender.proofs.new_bit as own
+use Rattle.sender_message.proofs.new_bit as own
 use own.Statement.{statement}
 use own.Tie as tie
 

@@ -1,7 +1,7 @@
 -- Laws of the new bits.
 use Rattle.laws.proofs.Base.{_≡_, Bool, true, false, cond, _&&_, ℕ, zero, suc, _+_, _*_, _≤_, _<_, _^_, pow-zero, pow-succ', pow-le-pow-right, le-refl, add-one, arith, ltb}
 use Rattle.schedule.specs.Paper.{Shown}
-use Rattle.sender.specs.Paper.{newBit, newBits}
+use Rattle.sender_message.specs.Paper.{newBit, newBits}
 
 bit-few : (b : Bool) → cond b 1 0 ≤ 1
 bit-few true = omega arith

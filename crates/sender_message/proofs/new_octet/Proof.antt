@@ -1,9 +1,9 @@
--- `sender::new_octet` meets its contract. The invariant: the bits so far.
+-- `sender_message::new_octet` meets its contract. The invariant: the bits so far.
 use Rattle.laws.proofs.Base.{_≡_, refl, sym, _+_, _*_, _≤_, _-_, arith, needs}
-use Rattle.sender.specs as defs
+use Rattle.sender_message.specs as defs
 use defs.Paper.{newBit, newBits}
 use defs.Coded.{shownIn}
-use Rattle.sender.proofs as own
+use Rattle.sender_message.proofs as own
 use own.News.{newBit-few, newBits-room, newBits-next}
 use own.new_octet.Statement.{statement}
 use own.new_octet.Tie as tie

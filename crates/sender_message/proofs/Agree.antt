@@ -1,11 +1,9 @@
 -- A message depends only on what is told of its slots.
-use Rattle.laws.proofs.Base.{_≡_, refl, sym, _∙_, Bool, true, false, ℕ, zero, suc, _+_, _*_, _<_, arith, ltb, ltb-true}
+use Rattle.laws.proofs.Base.{_≡_, refl, sym, _∙_, Bool, true, false, List, ℕ, zero, suc, _+_, _*_, _<_, arith, ltb, ltb-true}
 use Rattle.laws.specs.Upto.{each}
 use Rattle.schedule.specs.Paper.{Shown}
-use Rattle.sender.specs as defs
-use defs.Paper.{descriptions, newBit, newBits, bitmapOf, usedPart, messageOf}
-use defs.Inner.{AllLow}
-use Rattle.sender.proofs.Groups.{told, told-none, told-suc, descriptions-groups}
+use Rattle.sender_message.specs.Paper.{descriptions, newBit, newBits, bitmapOf, usedPart, messageOf, writeMessage}
+use Rattle.sender_message.proofs.Groups.{told, told-none, told-suc, descriptions-groups}
 
 told-agree : (s t : ℕ → Shown) (b : Bool) (n : ℕ) → ((i : ℕ) → i < n → s i ≡ t i) → told s b n ≡ told t b n
 told-agree s t b zero h = told-none s b ∙ sym (told-none t b)
@@ -13,10 +11,7 @@ told-agree s t b (suc n) h =
     rw (told-suc s b n, told-suc t b n, told-agree s t b n (λ i l. h i (omega arith)), h n (omega arith))
 
 module _ (s t : ℕ → Shown) (n : ℕ) (h : (i : ℕ) → i < n → s i ≡ t i) where
-  pub low-agree : AllLow t n → AllLow s n
-  low-agree low i l = rw (h i l) (low i l)
-
-  pub descriptions-agree : descriptions s n ≡ descriptions t n
+  descriptions-agree : descriptions s n ≡ descriptions t n
   descriptions-agree = rw (descriptions-groups s n, descriptions-groups t n, told-agree s t true n h, told-agree s t false n h)
 
   newBit-agree : (i : ℕ) → newBit s n i ≡ newBit t n i
@@ -31,9 +26,13 @@ module _ (s t : ℕ → Shown) (n : ℕ) (h : (i : ℕ) → i < n → s i ≡ t 
   newBits-agree j zero = refl
   newBits-agree j (suc k) = rw (newBits-agree j k, newBit-agree (8 * j + k))
 
-  pub bitmap-agree : bitmapOf s n ≡ bitmapOf t n
+  bitmap-agree : bitmapOf s n ≡ bitmapOf t n
   bitmap-agree = λ x. each (λ (j : ℕ). newBits-agree j 8 x) 6
 
-  pub message-agree : (b : ℕ) → messageOf b s n ≡ messageOf b t n
+  message-agree : (b : ℕ) → messageOf b s n ≡ messageOf b t n
   unfolding usedPart
   message-agree b = rw (bitmap-agree, descriptions-agree)
+
+  pub write-agree : (b : ℕ) (o : List ℕ) → writeMessage b s n o ≡ writeMessage b t n o
+  unfolding writeMessage
+  write-agree b o = rw (descriptions-agree, message-agree b)

@@ -1,0 +1,3 @@
+-- What `sender_message` defines.
+pub mod Paper
+pub mod Coded
