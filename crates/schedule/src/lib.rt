@@ -11,6 +11,9 @@ use sizes::MESSAGE;
 use sizes::SLOTS;
 use sizes::whole_blocks;
 
+// 000 3.5: the octets before the first description.
+pub const HEADER: usize = 8;
+
 // What a message tells of a slot.
 pub enum Description {
     // a first transmission, by the low 15 bits of its identifier

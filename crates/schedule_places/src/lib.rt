@@ -10,11 +10,9 @@ ghost use Rattle.schedule_places.specs.Coded.{placedOf};
 ghost use Rattle.schedule_places.specs.Inner.{placed, unplacedBy, Readable, Group, steppedOf, step, Firsts};
 use refusals::Refusal;
 use schedule::Description;
+use schedule::HEADER;
 use schedule::Reading;
 use sizes::SLOTS;
-
-// 000 3.5: the octets before the first description.
-const HEADER: usize = 8;
 
 // Where the description of each slot starts, with the reader's answer; 0 for a slot that is not told of.
 pub struct Placed {

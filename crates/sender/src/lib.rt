@@ -15,6 +15,7 @@ use schedule::Description;
 use schedule::Slot;
 use sender_message::Writing;
 use sizes::MESSAGE;
+use sizes::SLOTS;
 
 // What is told of slot i, counted from 0, by what the plans say of it.
 fn tell(said: Planned, i: usize) -> Slot
@@ -46,14 +47,14 @@ fn tell(said: Planned, i: usize) -> Slot
 }
 
 // What is told of each slot up to the count.
-fn telling(current: Plan, previous: Plan) -> [Slot; 48]
+fn telling(current: Plan, previous: Plan) -> [Slot; SLOTS]
     requires { ⌜ current .count ≤ 48 ⌝ }
     ensures { λ r. ⌜ ((i : ℕ) → i < current .count → shownIn r i ≡ planned (planOf current) (planOf previous) i) ⌝ }
 {
     let mut slots = [Slot {
         new: false,
         description: Description::Optional,
-    }; 48];
+    }; SLOTS];
     let all = plan_slots::all_planned(current, previous);
     let count = current.count;
     let mut i = 0;

@@ -9,13 +9,14 @@ ghost use Rattle.sender_message.specs.Paper.{octetsOf, octetsOfAll, grou
 ghost use Rattle.sender_message.specs.Coded.{toldAs, writingOf, shownIn};
 use refusals::Refusal;
 use schedule::Description;
+use schedule::HEADER;
 use schedule::Slot;
 use sizes::FILLER;
 use sizes::MESSAGE;
 use sizes::SLOTS;
 
-// 000 3.5: the octets before the first description.
-const HEADER: usize = 8;
+// The octets of a header and of 48 descriptions of two octets.
+const ROOM: usize = 104;
 
 // What the writer answers: the used octets, or a refusal.
 pub enum Writing {
@@ -37,7 +38,7 @@ fn new_bit(slot: Slot, counted: bool) -> u8
 }
 
 // Eight new bits, those of octet j, counted from 0.
-fn new_octet(slots: [Slot; 48], count: usize, j: usize) -> u8
+fn new_octet(slots: [Slot; SLOTS], count: usize, j: usize) -> u8
     requires { ⌜ (count ≤ 48) × (j < 6) ⌝ }
     ensures { λ r. ⌜ r ≡ newBits (shownIn slots) count j 8 ⌝ }
 {
@@ -53,11 +54,11 @@ fn new_octet(slots: [Slot; 48], count: usize, j: usize) -> u8
 }
 
 // Begin, End and the new bits, with nothing told after them.
-fn header(slots: [Slot; 48], count: usize, begin: usize) -> [u8; 104]
+fn header(slots: [Slot; SLOTS], count: usize, begin: usize) -> [u8; ROOM]
     requires { ⌜ (begin ≤ count) × (count ≤ 48) ⌝ }
     ensures { λ r. ⌜ r ≡ sets (replicate 104 43) 0 ((begin ∷ count ∷ []) ++ bitmapOf (shownIn slots) count) ⌝ }
 {
-    let mut octets = [FILLER; 104];
+    let mut octets = [FILLER; ROOM];
     octets[0] = begin as u8;
     octets[1] = count as u8;
     let mut j = 0;
@@ -70,12 +71,12 @@ fn header(slots: [Slot; 48], count: usize, begin: usize) -> [u8; 104]
 
 // A message filled up to a place. It has room for 48 first transmissions; one that fits has its first 88 octets.
 struct Filling {
-    octets: [u8; 104],
+    octets: [u8; ROOM],
     at: usize,
 }
 
 // Puts an octet at a place.
-fn put_octet(octets: [u8; 104], at: usize, octet: u8) -> Filling
+fn put_octet(octets: [u8; ROOM], at: usize, octet: u8) -> Filling
     requires { ⌜ at < 104 ⌝ }
     ensures { λ r. ⌜ (r .octets ≡ sets octets at (octet ∷ [])) × (r .at ≡ at + 1) ⌝ }
 {
@@ -88,7 +89,7 @@ fn put_octet(octets: [u8; 104], at: usize, octet: u8) -> Filling
 }
 
 // Puts a description at a place.
-fn put(octets: [u8; 104], at: usize, description: Description) -> Filling
+fn put(octets: [u8; ROOM], at: usize, description: Description) -> Filling
     requires { ⌜ at + length (octetsOf (toldAs description)) ≤ 104 ⌝ }
     ensures { λ r. ⌜ (r .octets ≡ sets octets at (octetsOf (toldAs description))) × (r .at ≡ at + length (octetsOf (toldAs description))) ⌝ }
 {
@@ -110,7 +111,13 @@ fn put(octets: [u8; 104], at: usize, description: Description) -> Filling
 }
 
 // Puts the descriptions of the slots whose new bit is as given at a place.
-fn put_group(octets: [u8; 104], at: usize, slots: [Slot; 48], count: usize, new: bool) -> Filling
+fn put_group(
+    octets: [u8; ROOM],
+    at: usize,
+    slots: [Slot; SLOTS],
+    count: usize,
+    new: bool,
+) -> Filling
     requires { ⌜ (count ≤ 48) × (at + length (octetsOfAll (shownIn slots) (group (shownIn slots) count new)) ≤ 104) ⌝ }
     ensures { λ r. ⌜ (r .octets ≡ sets octets at (octetsOfAll (shownIn slots) (group (shownIn slots) count new))) × (r .at ≡ at + length (octetsOfAll (shownIn slots) (group (shownIn slots) count new))) ⌝ }
 {
@@ -129,7 +136,7 @@ fn put_group(octets: [u8; 104], at: usize, slots: [Slot; 48], count: usize, new:
 }
 
 // The message that tells some slots, however long, and the place behind its last description.
-fn compose(slots: [Slot; 48], count: usize, begin: usize) -> Filling
+fn compose(slots: [Slot; SLOTS], count: usize, begin: usize) -> Filling
     requires { ⌜ (begin ≤ count) × (count ≤ 48) ⌝ }
     ensures { λ r. ⌜ (r .octets ≡ sets (replicate 104 43) 0 (usedPart begin (shownIn slots) count)) × (r .at ≡ 8 + length (descriptions (shownIn slots) count)) ⌝ }
 {
@@ -139,7 +146,7 @@ fn compose(slots: [Slot; 48], count: usize, begin: usize) -> Filling
 }
 
 // Writes the message that tells some slots, or refuses to and leaves the output as it is.
-pub fn write_message(slots: [Slot; 48], count: usize, begin: usize, out: &mut [u8]) -> Writing
+pub fn write_message(slots: [Slot; SLOTS], count: usize, begin: usize, out: &mut [u8]) -> Writing
     ensures { λ r. ⌜ writingOf r (now (out .exit)) ≡ writeMessage begin (shownIn slots) count (now (out .entry)) ⌝ }
 {
     if out.len() != MESSAGE {
