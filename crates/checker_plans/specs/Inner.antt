@@ -1,10 +1,9 @@
 -- What two plans say, found once for any number of messages.
-use mathlib.Core.List.{List, [], _∷_}
+use mathlib.Core.List.{List}
 use Prim.Native.Nat.{ℕ}
-use lib.Dec.{eqb}
 use lib.ListN.{replicate}
-use Rattle.laws.specs.Ruled.{ruled, unless0}
-use Rattle.plan.specs.Paper.{Plan, planNumber}
+use Rattle.laws.specs.Ruled.{ruled}
+use Rattle.plan.specs.Paper.{Plan, plansTests}
 use Rattle.plan_slots.specs.Paper.{Planned}
 use Rattle.plan_slots.specs.Inner.{nonePlanned, allPlanned}
 
@@ -20,6 +19,4 @@ unsaid n = record { number = n; count = 0; said = replicate 48 (nonePlanned 0) }
 
 -- 01 Order, checker: current, previous, 35
 unfoldable pub beside : Plan → Plan → Plans
-beside c p =
-    ruled unsaid (unless0 (planNumber c) ∷ unless0 (planNumber p) ∷ (eqb (c .count) 0, 35) ∷ [])
-    (record { number = 0; count = c .count; said = allPlanned c p })
+beside c p = ruled unsaid (plansTests c p) (record { number = 0; count = c .count; said = allPlanned c p })

@@ -38,16 +38,9 @@ fn unsaid(why: Refusal) -> Plans
 pub fn beside(current: Plan, previous: Plan) -> Plans
     ensures { λ r. ⌜ plansOf r ≡ besideThem (planOf current) (planOf previous) ⌝ }
 {
-    let verdict = plan::plan_answer(current);
+    let verdict = plan::plans_answer(current, previous);
     if let Verdict::Refused(why) = verdict {
         return unsaid(why);
-    }
-    let verdict = plan::plan_answer(previous);
-    if let Verdict::Refused(why) = verdict {
-        return unsaid(why);
-    }
-    if current.count == 0 {
-        return unsaid(Refusal::PlanEmpty);
     }
     let said = plan_slots::all_planned(current, previous);
     Plans {

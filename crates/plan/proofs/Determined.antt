@@ -8,7 +8,7 @@ use defs.declared.Entry.{Entry as EntryCode}
 use defs.declared.Plan.{Plan as PlanCode}
 use defs.declared.Verdict.{Verdict}
 use defs.declared.Verdict.the-variants.{Good, Refused}
-use defs.Paper.{Entry, Plan, empty, planNumber}
+use defs.Paper.{Entry, Plan, empty, planNumber, plansNumber}
 use defs.Coded.{entryOf, planOf, verdictOf}
 
 -- the code's entry, plan and verdict by the paper's
@@ -35,3 +35,6 @@ determined-empty-plan r s a b = plan-injective r s (a ∙ sym b)
 
 pub determined-plan-answer : (plan : PlanCode) (r s : Verdict) → verdictOf r ≡ planNumber (planOf plan) → verdictOf s ≡ planNumber (planOf plan) → r ≡ s
 determined-plan-answer plan r s a b = verdict-injective r s (a ∙ sym b)
+
+pub determined-plans-answer : (current previous : PlanCode) (r s : Verdict) → verdictOf r ≡ plansNumber (planOf current) (planOf previous) → verdictOf s ≡ plansNumber (planOf current) (planOf previous) → r ≡ s
+determined-plans-answer current previous r s a b = verdict-injective r s (a ∙ sym b)

@@ -3,3 +3,4 @@ pub mod Answers
 pub mod Determined
 pub mod Entries
 pub mod GoodPlan
+pub mod Plans

@@ -4,7 +4,7 @@ use mathlib.Core.Bool.{Bool, not, _&&_, _||_}
 use mathlib.Core.List.{List, [], _∷_, _++_}
 use lib.Dec.{eqb, ltb}
 use lib.ListN.{length, take, replicate, getD}
-use Rattle.laws.specs.Ruled.{ruled}
+use Rattle.laws.specs.Ruled.{ruled, unless0}
 use Rattle.laws.specs.Search.{some}
 
 -- 01 The plan: a slot's entry: a kind (0 optional, 1 advised, 2 page), serial number, message identifier, page parameter
@@ -50,3 +50,11 @@ bad e = ltb 2 (e .kind) || (ltb (e .kind) 2 && not (blank e))
 -- 01 The plan: what writer and checker say of a plan by value: a count over 48 gives 32, a bad entry within the count 33
 unfoldable pub planNumber : Plan → ℕ
 planNumber p = ruled (λ n. n) ((ltb 48 (p .count), 32) ∷ (some bad (entriesWithin p), 33) ∷ []) 0
+
+-- 01 Order, schedule writer, checker: what both ask of the current plan c and the previous plan p: current, previous, 35
+abbrev pub plansTests : Plan → Plan → List (Bool × ℕ)
+plansTests c p = unless0 (planNumber c) ∷ unless0 (planNumber p) ∷ (eqb (c .count) 0, 35) ∷ []
+
+-- 01 Order, schedule writer, checker: the number that the two plans are refused by, or 0
+unfoldable pub plansNumber : Plan → Plan → ℕ
+plansNumber c p = ruled (λ n. n) (plansTests c p) 0

@@ -3,7 +3,7 @@ ghost use mathlib.Core.Path.{_≡_};
 ghost use Prim.Native.Nat.{_≤_};
 ghost use lib.ListN.{take};
 ghost use Rattle.laws.specs.Search.{some};
-ghost use Rattle.plan.specs.Paper.{free, empty, bad, planNumber};
+ghost use Rattle.plan.specs.Paper.{free, empty, bad, planNumber, plansNumber};
 ghost use Rattle.plan.specs.Coded.{entryOf, entriesOf, planOf, verdictOf};
 use page::MessageId;
 use page::Serial;
@@ -97,6 +97,24 @@ pub fn plan_answer(plan: Plan) -> Verdict
     let entries = plan.entries;
     if any_bad(entries, plan.count) {
         return Verdict::Refused(Refusal::PlanEntry);
+    }
+    Verdict::Good
+}
+
+// Whether the current plan and the previous one are good and the current one has slots, and if not why.
+pub fn plans_answer(current: Plan, previous: Plan) -> Verdict
+    ensures { λ r. ⌜ verdictOf r ≡ plansNumber (planOf current) (planOf previous) ⌝ }
+{
+    let answer = plan_answer(current);
+    if let Verdict::Refused(refusal) = answer {
+        return Verdict::Refused(refusal);
+    }
+    let answer = plan_answer(previous);
+    if let Verdict::Refused(refusal) = answer {
+        return Verdict::Refused(refusal);
+    }
+    if current.count == 0 {
+        return Verdict::Refused(Refusal::PlanEmpty);
     }
     Verdict::Good
 }

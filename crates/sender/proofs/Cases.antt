@@ -1,47 +1,15 @@
 -- Each case of the writer's order, on plain facts; and what its acceptance means.
-use Rattle.laws.proofs.Base.{_≡_, sym, _∙_, Bool, and-true, List, [], ℕ, _≤_, arith, length, take, drop, leb, eq-eqb, ne-eqb, le-leb, eqb-true, leb-true, ltb-false, not-false}
+use Rattle.laws.proofs.Base.{_≡_, sym, _∙_, and-true, List, ℕ, _≤_, arith, length, drop, leb, eq-eqb, ne-eqb, le-leb, eqb-true, leb-true, ltb-false, not-false}
 use Rattle.laws.specs.Ruled.{ruled}
-use Rattle.laws.proofs.Ruled.{NoneHolds, ruled-map, none-holds, ruled-none, unless0-numbered}
+use Rattle.laws.proofs.Ruled.{ruled-map, none-holds, ruled-none, unless0-numbered}
 use Rattle.laws.proofs.Tests.{both}
-use Rattle.plan.specs.Paper.{Plan, planNumber}
-use Rattle.plan.proofs.Answers.{ruled-refuses}
-use Rattle.plan.proofs.GoodPlan.{good-counted}
+use Rattle.plan.specs.Paper.{Plan, planNumber, plansTests, plansNumber}
+use Rattle.plan.proofs.Plans.{plans-refuse, plans-pass, plans-counted}
 use Rattle.sender_message.specs.Paper.{descriptions, Writing, unwritten, writeMessage}
 use Rattle.sender.specs as defs
 use defs.Paper.{planned, message, faults, write}
-use defs.Inner.{plansNumber}
 
 module _ (c p : Plan) where
-  pub plans-current : (n : ℕ) → planNumber c ≡ n → (n ≡ 0 → ⊥) → plansNumber c p ≡ n
-  unfolding plansNumber
-  plans-current n q k = rw (q, ne-eqb n 0 k)
-
-  module _ (k : planNumber c ≡ 0) where
-    pub plans-previous : (n : ℕ) → planNumber p ≡ n → (n ≡ 0 → ⊥) → plansNumber c p ≡ n
-    unfolding plansNumber
-    plans-previous n q m = rw (k, q, ne-eqb n 0 m)
-
-    module _ (m : planNumber p ≡ 0) where
-      pub plans-35 : c .count ≡ 0 → plansNumber c p ≡ 35
-      unfolding plansNumber
-      plans-35 n = rw (k, m, n)
-
-      pub plans-0 : (c .count ≡ 0 → ⊥) → plansNumber c p ≡ 0
-      unfolding plansNumber
-      plans-0 n = rw (k, m, ne-eqb (c .count) 0 n)
-
-  abbrev tests : List (Bool × ℕ)
-  tests = take 3 (drop 1 (faults c p 0 []))
-
-  module _ (z : plansNumber c p ≡ 0) where
-    none : NoneHolds tests
-    unfolding plansNumber
-    none = none-holds tests 0 (unless0-numbered (planNumber c), (unless0-numbered (planNumber p), ((λ t e. omega arith), tt))) z
-
-    -- plans that are not refused have at most 48 slots
-    pub counted : c .count ≤ 48
-    counted = good-counted c (eqb-true (planNumber c) 0 (not-false _ (none .0)))
-
   module _ (b : ℕ) (o : List ℕ) where
     pub write-15 : (length o ≡ 88 → ⊥) → write c p b o ≡ unwritten o 15
     unfolding write
@@ -49,20 +17,19 @@ module _ (c p : Plan) where
 
     module _ (e : length o ≡ 88) where
       -- past the output's test those of the plans come, and then the message's
-      past-output : write c p b o ≡ ruled (unwritten o) tests (ruled (unwritten o) (drop 4 (faults c p b o)) (message c p b))
+      past-output : write c p b o ≡ ruled (unwritten o) (plansTests c p) (ruled (unwritten o) (drop 4 (faults c p b o)) (message c p b))
       unfolding write
       past-output = rw (eq-eqb (length o) 88 e)
 
       pub write-plans : (n : ℕ) → plansNumber c p ≡ n → (n ≡ 0 → ⊥) → write c p b o ≡ unwritten o n
-      unfolding plansNumber
-      write-plans n q k = past-output ∙ ruled-refuses tests n q k Writing (unwritten o) _
+      write-plans n q k = past-output ∙ plans-refuse c p n q k Writing (unwritten o) _
 
       -- past those of the plans, the writing of what is planned
       pub write-planned : plansNumber c p ≡ 0 → write c p b o ≡ writeMessage b (planned c p) (c .count) o
       unfolding writeMessage
       write-planned z =
-          past-output ∙ ruled-none (unwritten o) tests _ (none z)
-          ∙ rw (eq-eqb (length o) 88 e, le-leb (c .count) 48 (counted z), and-true (leb b (c .count)))
+          past-output ∙ plans-pass c p z Writing (unwritten o) _
+          ∙ rw (eq-eqb (length o) 88 e, le-leb (c .count) 48 (plans-counted c p z), and-true (leb b (c .count)))
 
     -- what the writer is given where it does not refuse, and what it does
     pub record Accepts : Type 0 where

@@ -2,11 +2,11 @@
 ghost use mathlib.Core.Path.{_≡_};
 ghost use Prim.Native.Nat.{ℕ, _≤_, _<_};
 ghost use Rattle.schedule.specs.Coded.{shownOf};
-ghost use Rattle.plan.specs.Coded.{planOf, verdictOf};
+ghost use Rattle.plan.specs.Coded.{planOf};
 ghost use Rattle.plan_slots.specs.Coded.{plannedOf};
 ghost use Rattle.sender_message.specs.Coded.{writingOf, shownIn};
 ghost use Rattle.sender.specs.Paper.{planned, write};
-ghost use Rattle.sender.specs.Inner.{shownBy, plansNumber};
+ghost use Rattle.sender.specs.Inner.{shownBy};
 use plan::Plan;
 use plan::Verdict;
 use plan_slots::Planned;
@@ -66,24 +66,6 @@ fn telling(current: Plan, previous: Plan) -> [Slot; SLOTS]
     slots
 }
 
-// What is said of the plans before a message is made.
-fn plans_answer(current: Plan, previous: Plan) -> Verdict
-    ensures { λ r. ⌜ verdictOf r ≡ plansNumber (planOf current) (planOf previous) ⌝ }
-{
-    let answer = plan::plan_answer(current);
-    if let Verdict::Refused(refusal) = answer {
-        return Verdict::Refused(refusal);
-    }
-    let answer = plan::plan_answer(previous);
-    if let Verdict::Refused(refusal) = answer {
-        return Verdict::Refused(refusal);
-    }
-    if current.count == 0 {
-        return Verdict::Refused(Refusal::PlanEmpty);
-    }
-    Verdict::Good
-}
-
 // Writes the schedule message of a plan, or refuses it and leaves the output as it is.
 pub fn write_schedule(current: Plan, previous: Plan, begin: usize, out: &mut [u8]) -> Writing
     ensures { λ r. ⌜ writingOf r (now (out .exit)) ≡ write (planOf current) (planOf previous) begin (now (out .entry)) ⌝ }
@@ -91,7 +73,7 @@ pub fn write_schedule(current: Plan, previous: Plan, begin: usize, out: &mut [u8
     if out.len() != MESSAGE {
         return Writing::Refused(Refusal::OutputLength);
     }
-    let answer = plans_answer(current, previous);
+    let answer = plan::plans_answer(current, previous);
     if let Verdict::Refused(refusal) = answer {
         return Writing::Refused(refusal);
     }

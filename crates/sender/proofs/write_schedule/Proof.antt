@@ -2,15 +2,15 @@
 use Rattle.laws.proofs.Base.{_≡_, sym, ap, _∙_, List, ℕ, now, needs}
 use Rattle.refusals.specs.Number.{numberOf}
 use Rattle.refusals.proofs.Inverse.{numberOf-positive}
-use Rattle.plan.specs.Paper.{Plan}
+use Rattle.plan.specs.Paper.{Plan, plansNumber}
 use Rattle.plan.specs.Coded.{planOf, verdictOf}
+use Rattle.plan.proofs.Plans.{plans-counted}
 use Rattle.sender_message.specs.Coded.{shownIn}
 use Rattle.sender_message.proofs.Agree.{write-agree}
 use Rattle.sender.specs as defs
 use defs.Paper.{planned}
-use defs.Inner.{plansNumber}
 use Rattle.sender.proofs as own
-use own.Cases.{counted, write-15, write-plans, write-planned}
+use own.Cases.{write-15, write-plans, write-planned}
 use own.write_schedule.Statement.{statement}
 use own.write_schedule.Tie as tie
 
@@ -58,4 +58,4 @@ write-schedule-spec =
     tie.close
     (tie.spec
     returns (λ c κs. search needs) (λ c. search needs) returns-2 (λ c. search needs)
-    (λ c κs. counted (current (start c)) (previous (start c)) (good c)) (λ c κs. search needs) (λ c. search needs) returns-3)
+    (λ c κs. plans-counted (current (start c)) (previous (start c)) (good c)) (λ c κs. search needs) (λ c. search needs) returns-3)

@@ -1,11 +1,12 @@
--- `sender::plans_answer` meets its contract: each return is the first test that holds.
+-- `plan::plans_answer` meets its contract: each return is the first test that holds.
 use Rattle.laws.proofs.Base.{_≡_, sym, ap, _∙_, needs}
 use Rattle.refusals.specs.Number.{numberOf}
 use Rattle.refusals.proofs.Inverse.{numberOf-positive}
-use Rattle.plan.specs.Paper.{Plan, planNumber}
-use Rattle.plan.specs.Coded.{planOf, verdictOf}
-use Rattle.sender.proofs as own
-use own.Cases.{plans-current, plans-previous, plans-35, plans-0}
+use Rattle.plan.specs as defs
+use defs.Paper.{Plan, planNumber}
+use defs.Coded.{planOf, verdictOf}
+use Rattle.plan.proofs as own
+use own.Plans.{plans-current, plans-previous, plans-35, plans-0}
 use own.plans_answer.Statement.{statement}
 use own.plans_answer.Tie as tie
 
