@@ -1,5 +1,5 @@
 -- `packing::pack` meets its contract: each test that returns decides one of `packedInto`.
-use Rattle.laws.proofs.Base.{_≡_, sym, _∙_, now, needs, eq-eqb, ne-eqb, not-false}
+use Rattle.laws.proofs.Base.{sym, _∙_, now, needs, eq-eqb, ne-eqb}
 use Rattle.laws.specs.Radix.{Below}
 use Rattle.packing.specs.Inner.{packedInto}
 use Rattle.packing.proofs as own
