@@ -1,5 +1,5 @@
 -- What is known of a chunk that was read, by what reading gave.
-use Rattle.laws.proofs.Base.{_≡_, refl, sym, subst, _∙_, Bool, true, false, cond, List, ℕ, _-_, _%_, _≤_, arith, length, take, eqb, eqb-true}
+use Rattle.laws.proofs.Base.{_≡_, refl, sym, subst, Bool, true, false, cond, List, ℕ, _-_, _%_, _≤_, arith, length, take, eqb, eqb-true}
 use Rattle.logs.specs as defs
 use defs.Inner.{movedOn, endingOf, chunkOf, Reads}
 use defs.declared.Chunk.{Chunk}
