@@ -57,5 +57,5 @@ all-given-spec =
     (tie.spec
     Inv-loop μ-loop
     (λ c. (omega arith, gave-none (c .before .args .message .now) (c .before .args .received)))
-    (λ c κs. search needs) (λ c. search needs) (λ c. search needs) (λ c. search needs)
-    (λ c. search needs) returns (λ c. search needs) returns-2 loop-less loop-again returns-3)
+    (search needs) (search needs) (search needs) (search needs)
+    (search needs) returns (search needs) returns-2 loop-less loop-again returns-3)

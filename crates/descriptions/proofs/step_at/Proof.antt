@@ -18,4 +18,4 @@ returns c =
     step-made (a .message .now) (a .received) (a .place) _ _ (c .before .description-at .ensures) (c .passed .ensures)
 
 pub step-at-spec : {M : Type 1} → statement M
-step-at-spec = tie.close (tie.spec (λ c κs. search needs) (λ c κs. search needs) add-t6 returns)
+step-at-spec = tie.close (tie.spec (search needs) (search needs) add-t6 returns)

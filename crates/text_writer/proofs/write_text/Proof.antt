@@ -112,8 +112,8 @@ pub write-text-spec : {M : Type 1} → statement M
 write-text-spec =
     tie.close
     (tie.spec
-    returns returns-2 (λ c κs. search needs) returns-3 returns-4 (λ c. search needs)
-    (λ c κs. search needs) (λ c. search needs) (λ c κs. search needs)
+    returns returns-2 (search needs) returns-3 returns-4 (search needs)
+    (search needs) (search needs) (search needs)
     (λ c. sym (past (short (c .before)) ∙ simp (sym (other-foreign (c .before)) ∙ c .if5 .taken)))
-    (λ c κs. search needs) returns-6 (λ c. search needs) put-page-requires (λ c. search needs)
-    (λ c. search needs) (λ c. search needs) (λ c. search needs) returns-7)
+    (search needs) returns-6 (search needs) put-page-requires (search needs)
+    (search needs) (search needs) (search needs) returns-7)
