@@ -1,8 +1,8 @@
 -- The slots that the reader of descriptions gives from opening on, collected one after the other.
 use Rattle.laws.proofs.Base.{_≡_, refl, sym, ap, _∙_, false, cond, List, map, _⊎_, inl, inr, ⊎-elim, ℕ, _+_, _≤_, _<_, arith, length, getD, set, replicate, getD-replicate}
-use Rattle.laws.proofs.Base.{length-map, length-set, List·getD-map, ext-getD, getD-set-same, getD-set-other, eqb, ltb, lt-ltb, le-ltb, ltb-true, ltb-false, eqb-true, eqb-false}
+use Rattle.laws.proofs.Base.{length-map, length-set, List·getD-map, ext-getD, getD-set-same, getD-set-other, eqb, ltb, lt-ltb, le-ltb, ltb-false, eqb-true, eqb-false}
 use Rattle.laws.specs.Upto.{each}
-use Rattle.laws.proofs.Tests.{true-or-false, below-other}
+use Rattle.laws.proofs.Tests.{true-or-false, le-or-lt, below-other}
 use Rattle.laws.proofs.Upto.{each-length, each-at}
 use Rattle.schedule.specs.declared.Description.the-variants.{Optional}
 use Rattle.schedule.specs.Paper.{end, Given, next, noMore, refusal, givenAt, given}
@@ -97,24 +97,17 @@ module _ {m : List ℕ} {received k : ℕ} {g : List NumberedCode} (e : Gave m r
       go (whole w h o) =
           let z : 2 ≡ kind (givenAt m k) = ap kind (q ∙ h k) in
           absurd
-          (true-or-false (ltb k (end m))
-          (λ b. omega (arith, slot-within m k (ltb-true k (end m) b)))
-          (λ b. omega (arith, ap kind (no-more-past m k (ltb-false k (end m) b)))))
+          (le-or-lt (end m) k (λ past. omega (arith, ap kind (no-more-past m k past))) (λ within. omega (arith, slot-within m k within)))
 
   -- with all slots given, their number is End
   all-end : end m ≤ 48 → ((i : ℕ) → given m received i ≡ givenAt m i) → (noMore ≡ given m received k) ⊎ (48 ≤ k) → k ≤ 48 → k ≡ end m
   all-end w h q l =
       let high : end m ≤ k =
-      true-or-false (ltb k (end m))
-      (λ b.
-      let within = ltb-true k (end m) b in
-      ⊎-elim (λ x. let z : 1 ≡ kind (givenAt m k) = ap kind (x ∙ h k) in absurd (omega (arith, slot-within m k within))) (λ x. omega arith) q)
-      (λ b. ltb-false k (end m) b) in
-      true-or-false (ltb (end m) k)
-      (λ b.
-      let z : kind (givenAt m (end m)) ≡ 0 = sym (ap kind (h (end m))) ∙ e .slots (end m) (ltb-true (end m) k b) in
+      le-or-lt (end m) k (λ past. past) (λ within.
+      ⊎-elim (λ x. let z : 1 ≡ kind (givenAt m k) = ap kind (x ∙ h k) in absurd (omega (arith, slot-within m k within))) (λ x. omega arith) q) in
+      le-or-lt k (end m) (λ low. omega arith) (λ more.
+      let z : kind (givenAt m (end m)) ≡ 0 = sym (ap kind (h (end m))) ∙ e .slots (end m) more in
       absurd (omega (arith, ap kind (no-more-past m (end m) (omega arith)))))
-      (λ b. let low = ltb-false (end m) k b in omega arith)
 
   pub gave-all : (noMore ≡ given m received k) ⊎ (48 ≤ k) → k ≤ 48 → answer g 0 k ≡ ordered m received
   gave-all q l = go (told m received)

@@ -1,10 +1,11 @@
 -- A message that is handed out is 88 octets long, and whole blocks of it were received.
-use Rattle.laws.proofs.Base.{_≡_, refl, sym, _∙_, Bool, true, false, cond, not, List, _∷_, ℕ, suc, _*_, _≤_, arith, length}
+use Rattle.laws.proofs.Base.{_≡_, refl, sym, _∙_, Bool, true, not, List, _∷_, ℕ, suc, _*_, _≤_, arith, length}
 use Rattle.laws.proofs.Base.{length-append, length-take, length-drop, length-replicate, eqb-true, ne-eqb, not-false}
+use Rattle.laws.proofs.Tests.{true-or-false}
 use Rattle.sizes.specs.Paper.{wholeBlocks}
 use Rattle.sizes.proofs.Received.{whole-times, whole-bounds}
-use Rattle.laws.proofs.Ruled.{NoneHolds, Other, others, unrefused}
-use Rattle.block.specs.Paper.{Kind, page, schedule, Held, Given, proper, refusal, code, follows, faults, last, begun, added, made, handed, kept, step}
+use Rattle.laws.proofs.Ruled.{Other, others, unrefused}
+use Rattle.block.specs.Paper.{Kind, page, schedule, Held, Given, proper, refusal, code, follows, faults, last, begun, added, made, handed, step}
 use Rattle.block.proofs.Steps.{Proper, proper-facts}
 use Rattle.block_history.specs.Claims.{completes}
 use Rattle.block_history.proofs.Joins.{number-of}
@@ -24,11 +25,10 @@ complete-added : (h : Held) (p : List ℕ) → h .taken ≤ 3 → 22 * h .taken 
 complete-added h p few room whole = record { blocks = whole-times (suc (h .taken)) (omega arith) (omega arith); long = long-added h p few room whole }
 
 complete-made : (h : Held) (p : List ℕ) → Proper h → length p ≡ 23 → Complete (handed (made h p))
-complete-made h p f w = go (follows (code p)) refl
-  where
-    go : (b : Bool) → follows (code p) ≡ b → Complete (handed (made h p))
-    go true e = rw e (complete-added h p (f .room) (omega (arith, f .long, f .room)) w)
-    go false e = rw e (complete-added (begun (code p)) p (omega arith) (omega arith) w)
+complete-made h p f w =
+    true-or-false (follows (code p))
+    (λ e. rw e (complete-added h p (f .room) (omega (arith, f .long, f .room)) w))
+    (λ e. rw e (complete-added (begun (code p)) p (omega arith) (omega arith) w))
 
 -- what refuses a piece
 abbrev tests : Held → List ℕ → List (Bool × ℕ)
@@ -44,12 +44,9 @@ pub complete : (k : Kind) (h : Held) (p : List ℕ) → step h p .number ≡ com
 unfolding step
 complete k h p z =
     let w = unrefused (λ (g : Given). g .number) refusal (λ n. refl) (tests h p) _ (completes k) (uncompleting k h p) z in
-    go (w .0) (last p (made h p .taken)) (w .1)
-  where
-    go : NoneHolds (tests h p) → (b : Bool) → step h p ≡ cond b (handed (made h p)) (kept (made h p)) → Complete (step h p)
-    go none true e =
-        rw e (complete-made h p (proper-facts h (not-false _ (none .0))) (eqb-true (length p) 23 (not-false _ (none .1 .0))))
-    go none false e = absurd (not-completes k 1 (omega arith) (omega arith) (sym (number-of e) ∙ z))
+    true-or-false (last p (made h p .taken))
+    (λ e. rw (w .1, e) (complete-made h p (proper-facts h (not-false _ (w .0 .0))) (eqb-true (length p) 23 (not-false _ (w .0 .1 .0)))))
+    (λ e. absurd (not-completes k 1 (omega arith) (omega arith) (sym (number-of (w .1) ∙ rw e) ∙ z)))
 
 -- what a call that completes a message leaves in the output is the message
 pub handed-output : (g : Given) (returned : ℕ) (s m m′ : List ℕ) → Taken g returned s m m′ → Complete g → m′ ≡ g .octets
