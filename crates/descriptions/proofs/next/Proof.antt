@@ -1,4 +1,6 @@
--- `descriptions::next` meets its contract: a walk of its MIR, by hand. The borrow is opened, which gives the struct's cell and what the struct owns; `step_at` is called on the fields; the place that it returned is stored in the cell, and the borrow is closed at the struct with that place. All that the proof knows of `step_at` is that it meets its contract.
+-- `descriptions::next` meets its contract: a walk of its MIR, by hand. All that it knows of `step_at` is that it meets its contract.
+-- The borrow is opened, which gives the struct's cell and what the struct owns; `step_at` is called on the fields; the place that it
+-- returned is stored in the cell, and the borrow is closed at the struct with that place.
 -- The struct is Copy: what it owns is had twice, and of one copy what message owns goes to the callee, beside the token of 'a, which comes back.
 -- The cell behind the reference stands at the raw form of its type: it is read and written at the type that the MIR derefs, whose lifetimes are erased.
 -- Assumes nothing.
