@@ -1,5 +1,6 @@
 -- One more block of a message: what a piece does to a state that holds the blocks before it.
-use Rattle.laws.proofs.Base.{_≡_, refl, sym, ap, _∙_, Bool, true, false, cond, not, _&&_, List, [], _∷_, _++_, append-assoc, append-nil, ℕ, zero, suc, _*_, _-_, _≤_, arith, length, take, drop, replicate, length-append, length-drop, length-replicate, take-at, drop-at, eqb, leb, lit≤, eq-eqb, ne-eqb, le-leb}
+use Rattle.laws.proofs.Base.{_≡_, refl, sym, ap, _∙_, Bool, true, false, cond, not, _&&_, List, [], _∷_, _++_, append-assoc, append-nil, ℕ, zero, suc, _*_, _-_, _≤_, arith}
+use Rattle.laws.proofs.Base.{length, take, drop, replicate, length-append, length-drop, length-replicate, take-at, drop-at, eqb, leb, lit≤, eq-eqb, ne-eqb, le-leb}
 use Rattle.laws.proofs.Snoc.{length-snoc}
 use Rattle.block.specs.Paper.{Kind, page, schedule, kindNumber, mark, code, last, filled, Held, Given, start, proper, allBlank, refusal, added, step}
 use Rattle.block.specs.Inner.{none, first, next, placeOf, outcome}
@@ -83,20 +84,6 @@ place-follower k t i p some few b =
     go true = refl
     go false = refl
 
--- a first block begins a message whatever is held
-join-first : (k : Kind) (h : Held) (p : List ℕ) → proper h ≡ true → IsBlock k 0 p → step h p ≡ outcome (last p 1) (holding k (p ∷ []))
-unfolding contents
-join-first k h p good b = step-met h p good ∙ ap (met h p) (place-first k (h .taken) p b) ∙ rw append-nil
-
--- a follower is added to the blocks before it
-join-next : (k : Kind) (h : Held) (u : Pieces) (p : List ℕ) → Part k u → 1 ≤ length u → h ≡ holding k u → IsBlock k (length u) p
-    → step h p ≡ outcome (last p (suc (length u))) (holding k (u ++ (p ∷ [])))
-join-next k h u p part some e b =
-    rw e
-    (step-met (holding k u) p (proper-holding part some)
-    ∙ ap (met (holding k u) p) (rw (eq-eqb (length u) (length u) refl) at (place-follower k (length u) (length u) p some (length-part part) b))
-    ∙ ap (outcome (last p (suc (length u)))) (added-holding p part))
-
 -- a follower is refused in a started state
 pub not-next : (k : Kind) (i : ℕ) (p : List ℕ) → 1 ≤ i → i ≤ 3 → IsBlock k i p → step start p ≡ refusal 6
 not-next k i p some few b =
@@ -107,7 +94,13 @@ pub data Base (k : Kind) (h : Held) : Pieces → Type 0 where
   fresh : proper h ≡ true → Base k h []
   holds : {u : Pieces} → 1 ≤ length u → h ≡ holding k u → Base k h u
 
+-- a first block begins a message whatever is held, and a follower is added to the blocks before it
 pub join : {k : Kind} {h : Held} {u : Pieces} (p : List ℕ) → Part k u → Base k h u → IsBlock k (length u) p
     → step h p ≡ outcome (last p (suc (length u))) (holding k (u ++ (p ∷ [])))
-join {k} {h} p part (fresh good) b = join-first k h p good b
-join {k} {h} p part (holds {u} some e) b = join-next k h u p part some e b
+unfolding contents
+join {k} {h} p part (fresh good) b = step-met h p good ∙ ap (met h p) (place-first k (h .taken) p b) ∙ rw append-nil
+join {k} {h} p part (holds {u} some e) b =
+    rw e
+    (step-met (holding k u) p (proper-holding part some)
+    ∙ ap (met (holding k u) p) (rw (eq-eqb (length u) (length u) refl) at (place-follower k (length u) (length u) p some (length-part part) b))
+    ∙ ap (outcome (last p (suc (length u)))) (added-holding p part))

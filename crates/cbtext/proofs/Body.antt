@@ -1,5 +1,6 @@
 -- What the text reader's answer says of a page: which of its two forms the line has, and what stands in it.
-use Rattle.laws.proofs.Base.{_≡_, refl, ap, _∙_, Bool, true, false, List, [], _∷_, _++_, map, ℕ, _-_, _≤_, arith, length, getD, take, drop, replicate, length-map, take-at, ltb, ltb-true, ltb-false}
+use Rattle.laws.proofs.Base.{_≡_, refl, ap, _∙_, true, List, [], _∷_, _++_, map, ℕ, _-_, _≤_, arith, length, getD, take, drop, replicate, length-map, take-at, ltb, ltb-true, ltb-false}
+use Rattle.laws.proofs.Tests.{true-or-false}
 use Rattle.sizes.specs.Paper.{wholeBlocks}
 use Rattle.alphabet.specs.Paper.{codePoint}
 use Rattle.page.specs.Paper.{header, octet}
@@ -33,25 +34,19 @@ shown-number s = refl
 module _ (p : List ℕ) (n : ℕ) (t₀ t : List ℕ) (size : length t₀ ≡ 93) (long : length p ≡ 88) (blocks : wholeBlocks n ≡ true) where
   pub reads-text : (count : ℕ) → record { number = 0; characters = count; text = t } ≡ reading p n t₀ → Reads p n t count
   unfolding body
-  reads-text count e = go (ltb 0x0f (octet p 5)) refl
-    where
-      go : (b : Bool) → ltb 0x0f (octet p 5) ≡ b → Reads p n t count
-      go true q = absurd (omega (arith, ap (λ (r : Reading). r .number) (e ∙ reading-13 p n t₀ size long blocks (ltb-true 0x0f (octet p 5) q))))
-      go false q =
-          let front = shown-front (trimmed (septetsReceived p n)) t count (e ∙ reading-0 p n t₀ size long blocks (ltb-false 0x0f (octet p 5) q)) in
-          let c : count ≡ reading p n t₀ .characters = ap (λ (r : Reading). r .characters) e in
-          record { few = omega (arith, characters-bounded p n t₀); shows = rw (q, front) }
+  reads-text count e =
+      true-or-false (ltb 0x0f (octet p 5))
+      (λ q. absurd (omega (arith, ap (λ (r : Reading). r .number) (e ∙ reading-13 p n t₀ size long blocks (ltb-true 0x0f (octet p 5) q)))))
+      (λ q.
+      let front = shown-front (trimmed (septetsReceived p n)) t count (e ∙ reading-0 p n t₀ size long blocks (ltb-false 0x0f (octet p 5) q)) in
+      let c : count ≡ reading p n t₀ .characters = ap (λ (r : Reading). r .characters) e in
+      record { few = omega (arith, characters-bounded p n t₀); shows = rw (q, front) })
 
   -- a refusal tells another scheme
   pub reads-none : (m : ℕ) → (m ≡ 0 → ⊥) → record { number = m; characters = 0; text = t } ≡ reading p n t₀
       → body p n ≡ hexPart (take (n - 6) (drop 6 p))
   unfolding body
-  reads-none m ne e = go (ltb 0x0f (octet p 5)) refl
-    where
-      go : (b : Bool) → ltb 0x0f (octet p 5) ≡ b → body p n ≡ hexPart (take (n - 6) (drop 6 p))
-      go true q = rw q
-      go false q =
-          absurd
-          (ne
-          (ap (λ (r : Reading). r .number) (e ∙ reading-0 p n t₀ size long blocks (ltb-false 0x0f (octet p 5) q))
-          ∙ shown-number (trimmed (septetsReceived p n))))
+  reads-none m ne e =
+      true-or-false (ltb 0x0f (octet p 5)) (λ q. rw q) (λ q.
+      let read = e ∙ reading-0 p n t₀ size long blocks (ltb-false 0x0f (octet p 5) q) in
+      absurd (ne (ap (λ (r : Reading). r .number) read ∙ shown-number (trimmed (septetsReceived p n)))))

@@ -1,5 +1,6 @@
 -- The places that opening and calls of the reader of descriptions reach.
-use Rattle.laws.proofs.Base.{_≡_, refl, ap, _∙_, Bool, true, false, List, ℕ, zero, suc, _+_, min, arith, ltb, ltb-true, ltb-false}
+use Rattle.laws.proofs.Base.{_≡_, ap, _∙_, List, ℕ, zero, suc, _+_, min, arith, lt-ltb, le-ltb}
+use Rattle.laws.proofs.Tests.{le-or-lt}
 use Rattle.schedule.specs.Paper.{end, givenAt, given}
 use Rattle.descriptions.specs as defs
 use defs.Paper.{passed, reached, Ordered, ordered}
@@ -11,9 +12,8 @@ module _ (m : List ℕ) (received : ℕ) where
   least zero = omega arith
   least (suc k) = go (told m received) (least k)
     where
-      slots : (p : ℕ) → p ≡ min k (end m) → (b : Bool) → ltb p (end m) ≡ b → p + passed (givenAt m p) ≡ min (suc k) (end m)
-      slots p q true e = let low = ltb-true p (end m) e in rw e (omega arith)
-      slots p q false e = let high = ltb-false p (end m) e in rw e (omega arith)
+      slots : (p : ℕ) → p ≡ min k (end m) → p + passed (givenAt m p) ≡ min (suc k) (end m)
+      slots p q = le-or-lt (end m) p (λ past. rw (le-ltb p (end m) past) (omega arith)) (λ within. rw (lt-ltb p (end m) within) (omega arith))
 
       go : Told m received → reached m received k ≡ min k (ordered m received .count)
           → reached m received k + passed (given m received (reached m received k)) ≡ min (suc k) (ordered m received .count)
@@ -22,7 +22,7 @@ module _ (m : List ℕ) (received : ℕ) where
           rw (h (reached m received k)) (omega arith)
       go (whole w h o) q =
           let all : ordered m received .count ≡ end m = ap (λ (x : Ordered). x .count) o in
-          rw (h (reached m received k), all) (slots (reached m received k) (q ∙ ap (min k) all) (ltb (reached m received k) (end m)) refl)
+          rw (h (reached m received k), all) (slots (reached m received k) (q ∙ ap (min k) all))
 
 pub reached-least : ReachedLeast
 reached-least = least

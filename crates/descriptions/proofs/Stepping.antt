@@ -1,5 +1,6 @@
 -- A call of the reader of descriptions: what it gives, and the place that it leaves.
-use Rattle.laws.proofs.Base.{_≡_, refl, sym, ap, _∙_, Bool, true, false, List, ℕ, _+_, _≤_, _<_, _^_, arith, ltb, ltb-true}
+use Rattle.laws.proofs.Base.{_≡_, sym, ap, _∙_, List, ℕ, _+_, _≤_, _<_, _^_, arith, lt-ltb, le-ltb}
+use Rattle.laws.proofs.Tests.{le-or-lt}
 use Rattle.schedule_given.specs.declared.Given.{Given as GivenCode}
 use Rattle.schedule.specs.Paper.{end, Given, refusal, givenAt, given}
 use Rattle.schedule_given.specs.Coded.{givenOf}
@@ -30,13 +31,10 @@ module _ (m : List ℕ) (received : ℕ) where
     pub step-fits : k < 2 ^ 64 → k + n < 2 ^ 64
     step-fits fits = rw (passes, gives) (go told)
       where
-        room : end m ≤ 48 → (b : Bool) → ltb k (end m) ≡ b → k + passed (givenAt m k) < 2 ^ 64
-        room w true e = let low = ltb-true k (end m) e in rw e (omega arith)
-        room w false e = rw e (omega arith)
-
         go : Told → k + passed (given m received k) < 2 ^ 64
         go (refused j h o) = rw (h k) (omega arith)
-        go (whole w h o) = rw (h k) (room w (ltb k (end m)) refl)
+        go (whole w h o) =
+            rw (h k) (le-or-lt (end m) k (λ past. rw (le-ltb k (end m) past) (omega arith)) (λ within. rw (lt-ltb k (end m) within) (omega arith)))
 
     pub step-made : _≡_ {A = Stepped} (record { given = g; place = k + n }) (stepped m received k)
     step-made = let q = passes ∙ ap passed gives in λ i. record { given = gives i; place = k + q i }

@@ -1,6 +1,7 @@
 -- Demand 2 over C calls: each state in lent memory is the one that the counted pieces leave, and nothing from before the start is in it.
-use Rattle.laws.proofs.Base.{_≡_, refl, sym, ap, _∙_, List, [], _∷_, _++_, append-assoc, append-nil, ℕ, _+_, _*_, _%_, _≤_, arith, length, eqb, eq-eqb, ne-eqb, eqb-true, eqb-false}
+use Rattle.laws.proofs.Base.{_≡_, refl, sym, ap, _∙_, List, [], _∷_, _++_, append-assoc, append-nil, ℕ, _*_, _%_, arith, length, eqb, eq-eqb, ne-eqb, eqb-true, eqb-false}
 use Rattle.laws.proofs.Tests.{true-or-false}
+use Rattle.calls.proofs.Packed.{apart}
 use Rattle.block.specs.Paper.{Kind, Given, start, step}
 use Rattle.block_history.specs.Claims.{completes, refusedBy, after, answered}
 use Rattle.block_history.proofs.History.{standing, standing-proper, after-append, number-small, not-completes, complete-exactly, complete-gives, taken-gives, goes-on-decided, refused-gives}
@@ -62,16 +63,13 @@ unfolding after
 called-answered m cs p o long size =
     rw (started m long, lent-after [] cs) (right (lent (after start (counted cs))) p o (length-lent (counted cs)) size)
 
--- the answer can be read off the returned number
-pub answer-of : (n r : ℕ) → n ≤ 8 → (n + 256 * r) % 256 ≡ n
-answer-of n r h = omega arith
-
 pub lent-history : LentHistory
 lent-history =
     record {
       exactly = λ m cs p o k long size.
           let g = answered (counted cs) p in
-          let number = ap (λ n. n % 256) (returned-of (called-answered m cs p o long size)) ∙ answer-of (g .number) (g .received) (number-small (after start (counted cs)) p) in (
+          let small = number-small (after start (counted cs)) p in
+          let number = ap (λ n. n % 256) (returned-of (called-answered m cs p o long size)) ∙ apart (g .number) (g .received) (omega arith) .0 in (
             λ e. complete-exactly k (counted cs) p .0 (sym number ∙ e),
             λ x. number ∙ complete-exactly k (counted cs) p .1 x,
           );

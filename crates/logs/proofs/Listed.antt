@@ -1,17 +1,15 @@
 -- The loop over a log: what is listed so far, and one piece more.
-use Rattle.laws.proofs.Base.{_≡_, refl, sym, ap, _∙_, cond, List, [], _∷_, _++_, append-assoc, append-nil, ℕ, _+_, _*_, _-_, _/_, _%_, _≤_, _<_, sub-zero, mul-suc, mul-le-mul-left, arith, length, take, drop, eqb}
+use Rattle.laws.proofs.Base.{_≡_, refl, sym, ap, _∙_, cond, List, [], _∷_, _++_, append-assoc, append-nil, ℕ, _+_, _*_, _-_, _/_}
+use Rattle.laws.proofs.Base.{_%_, _≤_, _<_, sub-zero, mul-suc, mul-le-mul-left, arith, length, take, drop, eqb}
 use Rattle.block.specs.Paper.{Given, step}
 use Rattle.block_history.specs.Claims.{after}
 use Rattle.block_history.proofs.History.{number-small}
 use Rattle.firmware.specs.Paper.{IntakeLeft, lent, heldIn, moved, intakeCall}
-use Rattle.firmware.proofs.History.{right, answer-of}
+use Rattle.calls.proofs.Packed.{apart}
+use Rattle.firmware.proofs.History.{right}
 use Rattle.logs.specs.Paper.{listing, pieces, cut}
 use Rattle.lines.specs.Inner.{Puts}
 use Rattle.logs.proofs.Pieces.{left, ended, one-less, piece-is, pieces-split}
-
--- the octets received can be read off the returned number
-received-of : (n r : ℕ) → n ≤ 8 → (n + 256 * r) / 256 ≡ r
-received-of n r h = omega arith
 
 -- memory of 90 octets is the state that it holds
 lent-held : (s : List ℕ) → length s ≡ 90 → lent (heldIn s) ≡ s
@@ -71,9 +69,10 @@ module _ {f : ℕ → Given → List ℕ} {wide size : ℕ} {s₀ : List ℕ} {f
           (rw (n, piece-is at log h) at call) ∙ right s p message (l .state-size) (l .message-size) in
           let number-is = ap (λ (x : IntakeLeft). x .returned) did in
           let small = number-small (heldIn s) p in
+          let numbers = apart (g .number) (g .received) (omega arith) in
           record {
-            answer = rw number-is (answer-of (g .number) (g .received) small);
-            received = rw number-is (received-of (g .number) (g .received) small);
+            answer = rw number-is (numbers .0);
+            received = rw number-is (numbers .1);
             state = ap (λ (x : IntakeLeft). heldIn (x .state)) did;
             output = ap (λ (x : IntakeLeft). x .output) did;
           }

@@ -1,5 +1,7 @@
 -- Laws of a log cut into pieces: the next piece and those left, and a log in two parts.
-use Rattle.laws.proofs.Base.{_≡_, refl, sym, ap, _∙_, Bool, true, false, List, _∷_, _++_, ℕ, zero, suc, _+_, _*_, _-_, _/_, _≤_, _<_, min, zero-add, add-zero, arith, length, take, drop, length-append, length-drop, take-all, take-append-le, drop-append-le, drop-append-add, leb, leb-true, leb-false}
+use Rattle.laws.proofs.Base.{_≡_, refl, sym, ap, _∙_, List, _∷_, _++_, ℕ, zero, suc, _+_, _*_, _-_, _/_, _≤_, _<_, min, zero-add, add-zero, arith}
+use Rattle.laws.proofs.Base.{length, take, drop, length-append, length-drop, take-all, take-append-le, drop-append-le, drop-append-add}
+use Rattle.laws.proofs.Tests.{le-or-lt}
 use Rattle.logs.specs.Paper.{pieces, cut}
 
 -- the pieces of a log from a place on
@@ -15,33 +17,20 @@ one-less at log h = omega arith
 
 -- the piece that is lent is the next piece of the log
 pub piece-is : (at : ℕ) (log : List ℕ) → at < length log → take (ended at log - at) (drop at log) ≡ take 23 (drop at log)
-piece-is at log h = go (leb (at + 23) (length log)) refl
-  where
-    go : (b : Bool) → leb (at + 23) (length log) ≡ b → take (ended at log - at) (drop at log) ≡ take 23 (drop at log)
-    go true e =
-        let inside = leb-true (at + 23) (length log) e in
-        let n : ended at log - at ≡ 23 = omega arith in
-        rw n
-    go false e =
-        let short = leb-false (at + 23) (length log) e in
-        take-all (ended at log - at) (drop at log) (simp length-drop (omega arith)) ∙ sym (take-all 23 (drop at log) (simp length-drop (omega arith)))
+piece-is at log h =
+    le-or-lt (at + 23) (length log)
+    (λ inside. let n : ended at log - at ≡ 23 = omega arith in rw n)
+    (λ short.
+    take-all (ended at log - at) (drop at log) (simp length-drop (omega arith)) ∙ sym (take-all 23 (drop at log) (simp length-drop (omega arith))))
 
 -- after a tail no piece is left
 pieces-next : (at : ℕ) (log : List ℕ) → at < length log
     → pieces (left (ended at log) log) (at + 23) log ≡ pieces (left (ended at log) log) (ended at log) log
 unfolding pieces
-pieces-next at log h = go (leb (at + 23) (length log)) refl
-  where
-    go : (b : Bool) → leb (at + 23) (length log) ≡ b
-        → pieces (left (ended at log) log) (at + 23) log ≡ pieces (left (ended at log) log) (ended at log) log
-    go true e =
-        let inside = leb-true (at + 23) (length log) e in
-        let n : ended at log ≡ at + 23 = omega arith in
-        rw n
-    go false e =
-        let short = leb-false (at + 23) (length log) e in
-        let none : left (ended at log) log ≡ 0 = omega arith in
-        rw none
+pieces-next at log h =
+    le-or-lt (at + 23) (length log)
+    (λ inside. let n : ended at log ≡ at + 23 = omega arith in rw n)
+    (λ short. let none : left (ended at log) log ≡ 0 = omega arith in rw none)
 
 pub pieces-split : (at : ℕ) (log : List ℕ) → at < length log
     → pieces (left at log) at log ≡ take 23 (drop at log) ∷ pieces (left (ended at log) log) (ended at log) log

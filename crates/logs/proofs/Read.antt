@@ -1,5 +1,6 @@
 -- What is known of a chunk that was read, by what reading gave.
-use Rattle.laws.proofs.Base.{_≡_, refl, sym, subst, _∙_, Bool, true, false, cond, List, ℕ, _-_, _%_, _≤_, arith, length, take, eqb, eqb-true}
+use Rattle.laws.proofs.Base.{_≡_, refl, sym, subst, Bool, true, false, cond, List, ℕ, _-_, _%_, _≤_, arith, length, take, eqb, eqb-true}
+use Rattle.laws.proofs.Tests.{true-or-false}
 use Rattle.logs.specs as defs
 use defs.Inner.{movedOn, endingOf, chunkOf, Reads}
 use defs.declared.Chunk.{Chunk}
@@ -18,11 +19,7 @@ more-fault e = let z : _≡_ {A = ℕ} 0 1 = cc in omega arith
 
 -- a chunk behind which the log may go on is whole
 ends-more : (n : ℕ) → endingOf n ≡ endings.More → n ≡ 23552
-ends-more n = go (eqb n 23552) refl
-  where
-    go : (b : Bool) → eqb n 23552 ≡ b → cond b endings.More endings.Last ≡ endings.More → n ≡ 23552
-    go true t e = eqb-true n 23552 t
-    go false t e = absurd (more-last e)
+ends-more n e = true-or-false (eqb n 23552) (λ t. eqb-true n 23552 t) (λ t. absurd (more-last (rw t at e)))
 
 -- what was read without a fault does not end with one
 no-fault : (b : Bool) → cond b endings.More endings.Last ≡ endings.Fault → ⊥

@@ -1,5 +1,6 @@
 -- Lists with entries that are no septets, and what is packed and unpacked where there are none.
-use Rattle.laws.proofs.Base.{_≡_, refl, sym, true, false, _||_, or-assoc, or-true, or-false, List, [], _∷_, _++_, ℕ, zero, suc, _+_, _/_, _≤_, _<_, add-one, arith, eqb, leb, length, getD, take, take-suc, eq-eqb, ne-eqb, le-leb, lt-leb, leb-false}
+use Rattle.laws.proofs.Base.{_≡_, refl, sym, true, false, _||_, or-assoc, or-true, or-false, List, [], _∷_, _++_, ℕ, zero, suc, _+_, _/_, _≤_}
+use Rattle.laws.proofs.Base.{_<_, add-one, arith, leb, length, getD, take, take-suc, eq-eqb, ne-eqb, le-leb, lt-leb, leb-false}
 use Rattle.laws.specs.Radix.{Below, value, digits}
 use Rattle.laws.proofs.Tests.{neither}
 use Rattle.packing.specs.Inner.{others, packedInto, unpackedInto}
@@ -29,7 +30,7 @@ none-below [] e i = omega arith
 none-below (x ∷ s) e zero = leb-false 128 x (neither (leb 128 x) (others s) e .0)
 none-below (x ∷ s) e (suc i) = none-below s (neither (leb 128 x) (others s) e .1) i
 
-below-none : (s : List ℕ) → Below 128 s → others s ≡ false
+pub below-none : (s : List ℕ) → Below 128 s → others s ≡ false
 unfolding others
 below-none [] b = refl
 below-none (x ∷ s) b = rw (lt-leb 128 x (b 0)) (below-none s (λ i. b (suc i)))

@@ -48,7 +48,7 @@ fn put(word: u64, base: u64, out: &mut [u8])
 }
 
 // Whether some entry is no septet. The loop has no early way out, so that the compiler can take many at once.
-fn has_other(list: &[u8]) -> bool
+pub fn has_other(list: &[u8]) -> bool
     ensures { λ r. ⌜ r ≡ others (now (list .entry)) ⌝ }
 {
     let mut found = false;

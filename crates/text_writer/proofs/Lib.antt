@@ -1,3 +1,3 @@
 -- What `text_writer` proves.
 pub mod Determined
-pub mod Marks
+pub mod Foreign

@@ -5,7 +5,7 @@ ghost use Rattle.page.specs.Paper.{headerOctets};
 ghost use Rattle.page.specs.Coded.{headingOf};
 ghost use Rattle.text.specs.Paper.{badParameter, endsInCr, packed, written};
 ghost use Rattle.text_writer.specs.Coded.{headed, writingOf};
-ghost use Rattle.text_writer.specs.Inner.{marks, Paged};
+ghost use Rattle.text_writer.specs.Inner.{Paged};
 use page::Header;
 use page::MessageId;
 use page::Serial;
@@ -17,21 +17,6 @@ use text::CHARACTERS;
 pub enum Written {
     Used(usize),
     Refused(Refusal),
-}
-
-// Whether some character had no septet. The loop has no early way out, so that the compiler can take many at once.
-fn marked(septets: &[u8]) -> bool
-    ensures { λ r. ⌜ r ≡ marks (now (septets .entry)) ⌝ }
-{
-    let mut found = false;
-    let mut i = 0;
-    while i < septets.len() {
-        if septets[i] == alphabet::NONE {
-            found = true;
-        }
-        i += 1;
-    }
-    found
 }
 
 // Whether a page parameter may not be written. A total of 0 is below any page but 0.
@@ -88,7 +73,8 @@ pub fn write_text(
     }
     let mut septets = [0x0D; CHARACTERS];
     alphabet::septets(text, &mut septets);
-    if marked(&septets) {
+    // a character without a septet left the mark for none, which is no septet
+    if packing::has_other(&septets) {
         return Written::Refused(Refusal::NotInAlphabet);
     }
     if ends_in_cr(text) {

@@ -2,7 +2,7 @@
 use Rattle.laws.proofs.Base.{_-_, arith, length, needs}
 use Rattle.block.specs.Paper as block
 use Rattle.logs.proofs.Complete.{complete}
-use Rattle.logs.proofs.Listed.{Listed, Taken, answerAt, taken, line-room, listed-start, listed-turn, listed-end}
+use Rattle.logs.proofs.Listed.{Listed, taken, line-room, listed-start, listed-turn, listed-end}
 use Rattle.cbtext.specs.Paper.{lineOf}
 use Rattle.cbtext.proofs as own
 use own.Handed.{handed, line-for}
@@ -46,7 +46,7 @@ pub list-spec : {M : Type 1} → statement M
 list-spec =
     tie.close
     (tie.spec
-    Inv-loop μ-loop loop-holds (λ c κs. search needs) (λ c. search needs) (λ c. search needs)
-    (λ c. search needs) (λ c κs. search needs) put-answer-requires (λ c. search needs)
-    (λ c. search needs) loop-again (λ c. search needs) (λ c. search needs) (λ c. search needs)
+    Inv-loop μ-loop loop-holds (search needs) (search needs) (search needs)
+    (search needs) (search needs) put-answer-requires (search needs)
+    (search needs) loop-again (search needs) (search needs) (search needs)
     (λ c. listed-end (c .before .loop .inv) (c .loop-test .left)))

@@ -18,5 +18,5 @@ put-page-requires c κs =
 
 pub put-answer-spec : {M : Type 1} → statement M
 put-answer-spec = tie.close (tie.spec
-    returns (λ c. search needs) put-page-requires (λ c. search needs)
+    returns (search needs) put-page-requires (search needs)
     (λ c. rw (eq-eqb (_ % 256) 0 (c .before .before .before .before .if1 .left)) (c .before .before .put-page .ensures)))

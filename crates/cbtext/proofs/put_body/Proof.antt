@@ -87,8 +87,8 @@ pub put-body-spec : {M : Type 1} → statement M
 put-body-spec =
     tie.close
     (tie.spec
-    (λ c. search needs) (λ c κs. search needs) (λ c. search needs) (λ c. inside (c .before))
-    (λ c. sym (shown-size (c .before .before))) put-text-requires (λ c. search needs) returns
-    (λ c. search needs) (λ c κs. search needs)
-    (λ c κs. omega (arith, few (c .before), other (c .before .before) .pre .2)) (λ c. search needs)
+    (search needs) (search needs) (search needs) (λ c. inside (c .before))
+    (λ c. sym (shown-size (c .before .before))) put-text-requires (search needs) returns
+    (search needs) (search needs)
+    (λ c κs. omega (arith, few (c .before), other (c .before .before) .pre .2)) (search needs)
     returns-2)

@@ -24,7 +24,7 @@ pub put-character-spec : {M : Type 1} → statement M
 put-character-spec =
     tie.close
     (tie.spec
-    (λ c. search needs) (λ c. search needs) (λ c. simp length-set (omega arith)) (λ c. search needs)
-    (λ c. search needs) returns (λ c. search needs) (λ c. search needs)
-    (λ c. simp length-set (omega arith)) (λ c. search needs) (λ c. search needs) returns-2
-    (λ c κs. search needs) (λ c. search needs) returns-3)
+    (search needs) (search needs) (λ c. simp length-set (omega arith)) (search needs)
+    (search needs) returns (search needs) (search needs)
+    (λ c. simp length-set (omega arith)) (search needs) (search needs) returns-2
+    (search needs) (search needs) returns-3)

@@ -27,6 +27,6 @@ pub put-characters-spec : {M : Type 1} → statement M
 put-characters-spec =
     tie.close
     (tie.spec
-    Inv-loop μ-loop (λ c. joins-start) (λ c. search needs) (λ c. search needs) put-character-requires
-    (λ c. search needs) (λ c. search needs) loop-again (λ c. search needs)
+    Inv-loop μ-loop (λ c. joins-start) (search needs) (search needs) put-character-requires
+    (search needs) (search needs) loop-again (search needs)
     (λ c. joins-end (c .before .loop .inv) (c .loop-test .left)))

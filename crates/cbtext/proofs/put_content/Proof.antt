@@ -14,4 +14,4 @@ returns c =
     put-then _ _ _ (word .put .ensures) (omega (arith, word .before .before .before .before .before .pre)) (c .before .before .put-octets .ensures)
 
 pub put-content-spec : {M : Type 1} → statement M
-put-content-spec = tie.close (tie.spec (λ c. search needs) (λ c κs. search needs) put-octets-requires (λ c. search needs) returns)
+put-content-spec = tie.close (tie.spec (search needs) (search needs) put-octets-requires (search needs) returns)

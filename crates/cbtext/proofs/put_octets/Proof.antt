@@ -28,7 +28,7 @@ pub put-octets-spec : {M : Type 1} → statement M
 put-octets-spec =
     tie.close
     (tie.spec
-    Inv-loop μ-loop (λ c. joins-start) (λ c. search needs)
+    Inv-loop μ-loop (λ c. joins-start) (search needs)
     (λ c. omega (arith, c .shared-slice-known2 .given (c .before .before .loop .i) .fits))
-    (λ c κs. search needs) (λ c. search needs) (λ c. search needs) loop-again (λ c. search needs)
+    (search needs) (search needs) (search needs) loop-again (search needs)
     (λ c. joins-end (c .before .loop .inv) (c .loop-test .left)))

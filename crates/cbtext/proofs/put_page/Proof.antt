@@ -43,5 +43,5 @@ pub put-page-spec : {M : Type 1} → statement M
 put-page-spec =
     tie.close
     (tie.spec
-    (λ c κs. search needs) put-body-requires (λ c. omega (arith, room (c .before .before))) (λ c. omega (arith, room (c .before .before), size (c .before .before)))
+    (search needs) put-body-requires (λ c. omega (arith, room (c .before .before))) (λ c. omega (arith, room (c .before .before), size (c .before .before)))
     (λ c. simp length-set (size (c .before .before))) returns)

@@ -15,5 +15,5 @@ pub put-parameter-spec : {M : Type 1} → statement M
 put-parameter-spec =
     tie.close
     (tie.spec
-    (λ c. search needs) (λ c κs. search needs) (λ c. search needs) (λ c κs. search needs)
-    (λ c. search needs) returns)
+    (search needs) (search needs) (search needs) (search needs)
+    (search needs) returns)

@@ -14,4 +14,4 @@ returns c =
     put-then _ _ _ (word .put .ensures) (omega (arith, word .before .before .before .before .before .pre)) (c .before .before .put-characters .ensures)
 
 pub put-text-spec : {M : Type 1} → statement M
-put-text-spec = tie.close (tie.spec (λ c. search needs) (λ c κs. search needs) put-characters-requires (λ c. search needs) returns)
+put-text-spec = tie.close (tie.spec (search needs) (search needs) put-characters-requires (search needs) returns)

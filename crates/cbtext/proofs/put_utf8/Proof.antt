@@ -26,10 +26,10 @@ pub put-utf8-spec : {M : Type 1} → statement M
 put-utf8-spec =
     tie.close
     (tie.spec
-    (λ c. search needs) (λ c. search needs) (λ c. search needs) (λ c. search needs) returns
-    (λ c. search needs) (λ c. search needs) (λ c. search needs) (λ c. search needs)
-    (λ c. search needs) (λ c. search needs) (λ c. simp length-set (omega arith)) (λ c. search needs)
-    (λ c. search needs) returns-2 (λ c. search needs) (λ c. search needs) (λ c. search needs)
-    (λ c. search needs) (λ c. search needs) (λ c. search needs) (λ c. simp length-set (omega arith))
-    (λ c. search needs) (λ c. search needs) (λ c. search needs) (λ c. simp length-set (omega arith))
-    (λ c. search needs) (λ c. search needs) returns-3)
+    (search needs) (search needs) (search needs) (search needs) returns
+    (search needs) (search needs) (search needs) (search needs)
+    (search needs) (search needs) (λ c. simp length-set (omega arith)) (search needs)
+    (search needs) returns-2 (search needs) (search needs) (search needs)
+    (search needs) (search needs) (search needs) (λ c. simp length-set (omega arith))
+    (search needs) (search needs) (search needs) (λ c. simp length-set (omega arith))
+    (search needs) (search needs) returns-3)

@@ -14,42 +14,29 @@ abbrev μ-loop : tie.MeasureT-loop
 
 returns : tie.Need-returns Inv-loop μ-loop
 returns c =
-    let a = c .before .before .before .before .before .before .args in
-    let l = c .before .before .before .before .loop in
-    let t = c .before .before .given-at in
-    let gave = step-gave (a .message .now) (a .received) (l .place) (t .result) (t .ensures) _ (c .enum-told .given .1) in
-    gave-all (a .message .now) (a .received) (l .place) (l .slots) (l .inv .1) (inl gave) (l .inv .0)
+    let t = c .before .before in
+    let l = t .before .before .loop in
+    gave-all (l .inv .1) (inl (step-gave _ _ _ _ (t .given-at .ensures) _ (c .enum-told .given .1))) (l .inv .0)
 
 returns-2 : tie.Need-returns-2 Inv-loop μ-loop
 returns-2 c =
-    let a = c .before .before .before .before .before .before .before .args in
-    let l = c .before .before .before .before .before .loop in
-    let t = c .before .before .before .given-at in
-    let gave = step-gave (a .message .now) (a .received) (l .place) (t .result) (t .ensures) _ (c .before .given2 .given .1) in
-    gave-refused (a .message .now) (a .received) (l .place) (l .slots) (l .inv .1) _ gave
+    let t = c .before .before .before in
+    gave-refused (t .before .before .loop .inv .1) _ (step-gave _ _ _ _ (t .given-at .ensures) _ (c .before .given2 .given .1))
 
 loop-less : tie.Need-loop-less Inv-loop μ-loop
 loop-less c =
-    let a = c .before .before .before .before .before .before .before .args in
-    let l = c .before .before .before .before .before .loop in
-    let t = c .before .before .before .given-at in
-    let left = step-left (a .message .now) (a .received) (l .place) (t .result) (t .ensures) _ (c .before .given .given .1) in
+    let left = step-left _ _ _ _ (c .before .before .before .given-at .ensures) _ (c .before .given .given .1) in
     omega arith
 
 loop-again : tie.Need-loop-again Inv-loop μ-loop
 loop-again c =
-    let a = c .before .before .before .before .before .before .before .args in
-    let l = c .before .before .before .before .before .loop in
-    let t = c .before .before .before .given-at in
-    let gave = step-gave (a .message .now) (a .received) (l .place) (t .result) (t .ensures) _ (c .before .given .given .1) in
-    let left = step-left (a .message .now) (a .received) (l .place) (t .result) (t .ensures) _ (c .before .given .given .1) in
-    (omega arith, rw left (gave-next (a .message .now) (a .received) (l .place) (l .slots) (l .inv .1) _ _ (search needs) gave))
+    let t = c .before .before .before in
+    let gave = step-gave _ _ _ _ (t .given-at .ensures) _ (c .before .given .given .1) in
+    let left = step-left _ _ _ _ (t .given-at .ensures) _ (c .before .given .given .1) in
+    (omega arith, rw left (gave-next (t .before .before .loop .inv .1) _ (search needs) gave))
 
 returns-3 : tie.Need-returns-3 Inv-loop μ-loop
-returns-3 c =
-    let a = c .before .before .before .args in
-    let l = c .before .loop in
-    gave-all (a .message .now) (a .received) (l .place) (l .slots) (l .inv .1) (inr (omega arith)) (l .inv .0)
+returns-3 c = let l = c .before .loop in gave-all (l .inv .1) (inr (omega arith)) (l .inv .0)
 
 pub all-given-spec : {M : Type 1} → statement M
 all-given-spec =
@@ -57,5 +44,5 @@ all-given-spec =
     (tie.spec
     Inv-loop μ-loop
     (λ c. (omega arith, gave-none (c .before .args .message .now) (c .before .args .received)))
-    (λ c κs. search needs) (λ c. search needs) (λ c. search needs) (λ c. search needs)
-    (λ c. search needs) returns (λ c. search needs) returns-2 loop-less loop-again returns-3)
+    (search needs) (search needs) (search needs) (search needs)
+    (search needs) returns (search needs) returns-2 loop-less loop-again returns-3)

@@ -6,16 +6,10 @@ use own.step_at.Statement.{statement}
 use own.step_at.Tie as tie
 
 add-t6 : tie.Need-add-t6
-add-t6 c =
-    let a = c .before .before .before .args in
-    record {
-      fits = step-fits (a .message .now) (a .received) (a .place) _ _ (c .before .description-at .ensures) (c .passed .ensures) (search needs);
-    }
+add-t6 c = record { fits = step-fits _ _ _ _ _ (c .before .description-at .ensures) (c .passed .ensures) (search needs) }
 
 returns : tie.Need-returns
-returns c =
-    let a = c .before .before .before .args in
-    step-made (a .message .now) (a .received) (a .place) _ _ (c .before .description-at .ensures) (c .passed .ensures)
+returns c = step-made _ _ _ _ _ (c .before .description-at .ensures) (c .passed .ensures)
 
 pub step-at-spec : {M : Type 1} → statement M
-step-at-spec = tie.close (tie.spec (λ c κs. search needs) (λ c κs. search needs) add-t6 returns)
+step-at-spec = tie.close (tie.spec (search needs) (search needs) add-t6 returns)

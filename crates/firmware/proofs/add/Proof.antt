@@ -35,7 +35,7 @@ pub add-spec : {M : Type 1} → statement M
 add-spec =
     tie.close
     (tie.spec
-    (λ c κs. search needs) (λ c. search needs) (λ c. search needs) (λ c. search needs)
-    (λ c. search needs) returns (λ c κs. search needs) (λ c. search needs) (λ c. search needs)
-    (λ c. search needs) (λ c. search needs) (λ c. search needs) (λ c. search needs) returns-2
-    (λ c. search needs) (λ c. search needs) (λ c. search needs) returns-3)
+    (λ c. search needs) (search needs) (search needs) (λ c. search needs)
+    (λ c. search needs) returns (search needs) (search needs) (search needs)
+    (search needs) (search needs) (search needs) (search needs) returns-2
+    (search needs) (search needs) (search needs) returns-3)

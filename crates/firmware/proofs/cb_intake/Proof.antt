@@ -21,4 +21,4 @@ returns-3 c =
 
 pub cb-intake-spec : {M : Type 1} → statement M
 cb-intake-spec =
-    tie.close (tie.spec returns returns-2 (λ c κs. search needs) (λ c. search needs) (λ c. search needs) returns-3)
+    tie.close (tie.spec returns returns-2 (search needs) (search needs) (search needs) returns-3)

@@ -16,4 +16,4 @@ unfolding startCall
 returns-2 c = simp (ne-eqb _ _ (c .if1 .left))
 
 pub cb-start-spec : {M : Type 1} → statement M
-cb-start-spec = tie.close (tie.spec (λ c κs. search needs) (λ c. search needs) returns returns-2)
+cb-start-spec = tie.close (tie.spec (search needs) (search needs) returns returns-2)

@@ -7,5 +7,5 @@ use own.Tie as tie
 pub clear-spec : {M : Type 1} → statement M
 clear-spec =
     tie.close (tie.spec
-    (λ c κs. search needs) (λ c. search needs) (λ c. search needs) (λ c. search needs)
+    (search needs) (search needs) (λ c. search needs) (λ c. search needs)
     (λ c. rw (c .before .before .fill .ensures, c .before .before .before .before .before .pre)))

@@ -35,5 +35,5 @@ fill-spec =
     (tie.spec
     Inv-loop μ-loop
     (λ c. (omega arith, fill-none (c .args .memory .now) (c .args .octet), search needs))
-    (λ c. search needs) (λ c. search needs) (λ c. search needs) loop-again
+    (search needs) (search needs) (search needs) loop-again
     (λ c. c .before .loop .inv .2) returns)

@@ -16,7 +16,7 @@ pub chunk-of-spec : {M : Type 1} → statement M
 chunk-of-spec =
     tie.close
     (tie.spec
-    (λ c. search needs) slice-aggregate-moved-on (λ c κs. search needs) (λ c κs. search needs)
-    (λ c. search needs) (λ c. search needs) slice-aggregate-moved-on-2 (λ c κs. search needs)
+    (search needs) slice-aggregate-moved-on (search needs) (search needs)
+    (search needs) (search needs) slice-aggregate-moved-on-2 (search needs)
     (λ c. chunk-octets _ _ _ _ _ _ (c .before .before .before .before .got .given .1) (c .before .moved-on .ensures) (c .ending-of .ensures))
     (λ c. chunk-fault _ _ _ _ _ (c .before .before .before .got2 .given .1) (c .moved-on2 .ensures)))

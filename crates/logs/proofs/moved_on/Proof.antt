@@ -15,4 +15,4 @@ unfolding movedOn
 returns-2 c = omega (arith, length-cut (c .before .before .before .args .chunk .now))
 
 pub moved-on-spec : {M : Type 1} → statement M
-moved-on-spec = tie.close (tie.spec (λ c κs. search needs) (λ c. search needs) returns (λ c. search needs) returns-2)
+moved-on-spec = tie.close (tie.spec (search needs) (search needs) returns (search needs) returns-2)

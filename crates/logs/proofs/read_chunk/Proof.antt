@@ -12,4 +12,4 @@ returns c =
     chunk-reads (f .result) _ _ _ (f .kept .1 .1 .1 .0 ∙ size) (omega (arith, f .ensures)) (c .chunk-of .ensures)
 
 pub read-chunk-spec : {M : Type 1} → statement M
-read-chunk-spec = tie.close (tie.spec (λ c κs. search needs) (λ c κs. search needs) returns)
+read-chunk-spec = tie.close (tie.spec (search needs) (search needs) returns)

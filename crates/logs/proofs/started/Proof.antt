@@ -10,4 +10,4 @@ unfolding startCall
 returns c = ap (λ (s : Started). s .state) (c .before .cb-start .ensures)
 
 pub started-spec : {M : Type 1} → statement M
-started-spec = tie.close (tie.spec (λ c. search needs) (λ c κs. search needs) returns)
+started-spec = tie.close (tie.spec (search needs) (search needs) returns)

@@ -9,8 +9,8 @@ pub write-chunk-spec : {M : Type 1} → statement M
 write-chunk-spec =
     tie.close
     (tie.spec
-    (λ c κs. search needs)
+    (search needs)
     (λ c. (λ e. absurd (false≢true e), λ none on. sym (not-true _ (c .if1 .taken)) ∙ c .before .write-text .ensures none))
-    (λ c. search needs) (λ c. search needs) (λ c. search needs) (λ c. search needs)
+    (search needs) (search needs) (search needs) (λ c. search needs)
     (λ c. (λ e. absurd (false≢true e), λ none on. absurd (more-last (sym (c .enum-told2 .given .1) ∙ on))))
     (λ c. (λ e. absurd (false≢true e), λ none on. absurd (more-fault (sym (c .enum-told3 .given .1) ∙ on)))))

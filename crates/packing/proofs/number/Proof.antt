@@ -55,5 +55,5 @@ pub number-spec : {M : Type 1} → statement M
 number-spec =
     tie.close
     (tie.spec
-    Inv-loop μ-loop loop-holds (λ c. search needs) mul-sum (λ c κs. search needs) add-sum
-    (λ c. search needs) loop-again returns)
+    Inv-loop μ-loop loop-holds (search needs) mul-sum (search needs) add-sum
+    (search needs) loop-again returns)

@@ -1,5 +1,5 @@
 -- `packing::pack` meets its contract: each test that returns decides one of `packedInto`.
-use Rattle.laws.proofs.Base.{_≡_, sym, _∙_, now, needs, eq-eqb, ne-eqb, not-false}
+use Rattle.laws.proofs.Base.{sym, _∙_, now, needs, eq-eqb, ne-eqb}
 use Rattle.laws.specs.Radix.{Below}
 use Rattle.packing.specs.Inner.{packedInto}
 use Rattle.packing.proofs as own
@@ -34,4 +34,4 @@ returns-4 c =
     c .before .before .pack-all .ensures ∙ sym (packed-into (now (a .septets)) (now (a .octets)) (below e) (e .before .before .before .if1 .left) (e .before .before .if2 .left))
 
 pub pack-spec : {M : Type 1} → statement M
-pack-spec = tie.close (tie.spec returns returns-2 (λ c κs. search needs) returns-3 pack-all-requires (λ c. search needs) returns-4)
+pack-spec = tie.close (tie.spec returns returns-2 (search needs) returns-3 pack-all-requires (search needs) returns-4)

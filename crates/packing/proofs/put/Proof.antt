@@ -40,7 +40,7 @@ pub put-spec : {M : Type 1} → statement M
 put-spec =
     tie.close
     (tie.spec
-    Inv-loop μ-loop loop-holds (λ c. search needs)
+    Inv-loop μ-loop loop-holds (search needs)
     (λ c. record { fits = lt-of-lt-of-le (mod-lt (c .before .loop .rest) (c .before .before .pre .0)) (c .before .before .pre .1) })
-    (λ c. search needs) (λ c. search needs) (λ c. search needs) (λ c. search needs) loop-again
-    (λ c. search needs) returns)
+    (search needs) (search needs) (search needs) (search needs) loop-again
+    (search needs) returns)

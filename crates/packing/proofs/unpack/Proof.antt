@@ -22,4 +22,4 @@ returns-3 c =
     c .before .before .unpack-all .ensures ∙ sym (unpacked-into (now (a .octets)) (now (a .septets)) (omega (arith, e .if2 .left, e .before .if1 .left)))
 
 pub unpack-spec : {M : Type 1} → statement M
-unpack-spec = tie.close (tie.spec returns (λ c. search needs) returns-2 (λ c κs. search needs) (λ c. search needs) returns-3)
+unpack-spec = tie.close (tie.spec returns (search needs) returns-2 (search needs) (search needs) returns-3)

@@ -79,10 +79,10 @@ pub unpack-all-spec : {M : Type 1} → statement M
 unpack-all-spec =
     tie.close
     (tie.spec
-    Inv-loop μ-loop loop-holds (λ c. search needs) (λ c. search needs) (λ c. search needs)
-    (λ c. search needs) (λ c. search needs) (λ c. search needs) number-requires (λ c. search needs)
-    (λ c. search needs) (λ c. search needs) (λ c. search needs) (λ c. search needs)
-    (λ c. search needs) (λ c κs. search needs) (λ c. search needs) (λ c. search needs) loop-again
-    (λ c. search needs) (λ c. search needs) (λ c. search needs) (λ c. search needs)
-    number-requires-2 (λ c. search needs) (λ c. search needs) (λ c. search needs)
-    (λ c. search needs) (λ c κs. search needs) same-length returns)
+    Inv-loop μ-loop loop-holds (search needs) (search needs) (search needs)
+    (search needs) (search needs) (search needs) number-requires (search needs)
+    (search needs) (search needs) (search needs) (search needs)
+    (search needs) (search needs) (search needs) (search needs) loop-again
+    (search needs) (search needs) (search needs) (search needs)
+    number-requires-2 (search needs) (search needs) (search needs)
+    (search needs) (search needs) same-length returns)

@@ -17,5 +17,5 @@ returns-2 c = refl
 pub ends-in-cr-spec : {M : Type 1} → statement M
 ends-in-cr-spec =
     tie.close (tie.spec
-    (λ c. sym (empty (now (c .before .args .text)) (c .if1 .taken))) (λ c. search needs)
-    (λ c. search needs) (λ c. search needs) returns-2)
+    (λ c. sym (empty (now (c .before .args .text)) (c .if1 .taken))) (search needs)
+    (search needs) (search needs) returns-2)

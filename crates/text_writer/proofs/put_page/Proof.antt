@@ -1,5 +1,5 @@
 -- `text_writer::put_page` meets its contract: the header is copied over the page's beginning, and what is packed stands in the rest.
-use Rattle.laws.proofs.Base.{_≡_, ap, _∙_, List, [], _++_, append-nil, _-_, le-refl, ℕ, arith, now, needs, length, take, drop, length-drop, drop-of-length-le, take-at, take-length}
+use Rattle.laws.proofs.Base.{_≡_, ap, _∙_, List, [], _++_, append-nil, _-_, le-refl, ℕ, now, needs, length, take, drop, length-drop, drop-of-length-le, take-at, take-length}
 use Rattle.page.specs.Coded.{headingOf}
 use Rattle.page.proofs.HeaderBack.{header-length}
 use Rattle.text.specs.Paper.{packed}
@@ -31,5 +31,5 @@ pub put-page-spec : {M : Type 1} → statement M
 put-page-spec =
     tie.close
     (tie.spec
-    (λ c κs. search needs) (λ c. search needs) (λ c κs. search needs) (λ c. search needs)
-    (λ c. search needs) (λ c. search needs) (λ c κs. search needs) (λ c. search needs) returns)
+    (search needs) (search needs) (search needs) (search needs)
+    (search needs) (search needs) (search needs) (search needs) returns)

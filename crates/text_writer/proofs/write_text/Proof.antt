@@ -5,11 +5,11 @@ use Rattle.page.specs.Paper.{Heading, headerOctets}
 use Rattle.text.specs.Paper.{septets, packed, pageOf, usedOctets, badParameter, foreign, endsInCr, written}
 use Rattle.text_writer.specs as defs
 use defs.Coded.{headed}
-use defs.Inner.{marks}
+use Rattle.packing.specs.Inner.{others}
 use Rattle.text.proofs.Cases.{unwritten}
 use Rattle.text.proofs.Septets.{septets-made, septets-count, septets-below}
 use Rattle.text_writer.proofs as own
-use own.Marks.{marks-padded}
+use own.Foreign.{others-padded}
 use own.write_text.Statement.{statement}
 use own.write_text.Tie as tie
 
@@ -70,17 +70,17 @@ past c =
 array : (c : tie.After-septets2) → c .septets2 .last .1 .0 ≡ septets (text (c .before .before))
 array c = c .septets2 .ensures ∙ septets-made (text (c .before .before)) (c .before .before .if4 .left)
 
-abbrev short : tie.After-marked → tie.Else4
+abbrev short : tie.After-has-other → tie.Else4
 short c = c .before .before .before .before .before
 
-marked-foreign : (c : tie.After-marked) → c .marked .result ≡ foreign (text (short c))
+other-foreign : (c : tie.After-has-other) → c .has-other .result ≡ foreign (text (short c))
 unfolding septets
-marked-foreign c =
-    c .marked .ensures ∙ ap marks (array (c .before .before .before)) ∙ marks-padded (text (short c)) (93 - length (text (short c)))
+other-foreign c =
+    c .has-other .ensures ∙ ap others (array (c .before .before .before)) ∙ others-padded (text (short c)) (93 - length (text (short c)))
 
 -- every character has a septet
 found : (c : tie.Else5) → foreign (text (short (c .before))) ≡ false
-found c = sym (marked-foreign (c .before)) ∙ c .if5 .left
+found c = sym (other-foreign (c .before)) ∙ c .if5 .left
 
 returns-6 : tie.Need-returns-6
 returns-6 c =
@@ -112,8 +112,8 @@ pub write-text-spec : {M : Type 1} → statement M
 write-text-spec =
     tie.close
     (tie.spec
-    returns returns-2 (λ c κs. search needs) returns-3 returns-4 (λ c. search needs)
-    (λ c κs. search needs) (λ c. search needs) (λ c κs. search needs)
-    (λ c. sym (past (short (c .before)) ∙ simp (sym (marked-foreign (c .before)) ∙ c .if5 .taken)))
-    (λ c κs. search needs) returns-6 (λ c. search needs) put-page-requires (λ c. search needs)
-    (λ c. search needs) (λ c. search needs) (λ c. search needs) returns-7)
+    returns returns-2 (search needs) returns-3 returns-4 (search needs)
+    (search needs) (search needs) (search needs)
+    (λ c. sym (past (short (c .before)) ∙ simp (sym (other-foreign (c .before)) ∙ c .if5 .taken)))
+    (search needs) returns-6 (search needs) put-page-requires (search needs)
+    (search needs) (search needs) (search needs) returns-7)
