@@ -24,7 +24,7 @@ pub enum Counted {
 // All that the description reader gives, in the message's order.
 pub struct Ordered {
     pub answer: Counted,
-    pub given: [Numbered; 48],
+    pub given: [Numbered; SLOTS],
 }
 
 // What a call gives, and the place that it leaves.
@@ -112,7 +112,7 @@ pub fn all_given(message: &[u8], received: usize) -> Ordered
             new: false,
             description: Description::Optional,
         },
-    }; 48];
+    }; SLOTS];
     let mut place = 0;
     while place < SLOTS {
         let step = given_at(message, received, place);

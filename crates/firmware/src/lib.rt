@@ -14,7 +14,7 @@ use sizes::FILLER;
 use sizes::MESSAGE;
 
 // Octets of a lent state: kind, blocks taken, and a message.
-const STATE: usize = 90;
+pub const STATE: usize = 90;
 
 // Makes a state as it must be before the first piece.
 #[no_mangle]
@@ -118,7 +118,7 @@ fn put(state: &mut [u8], taken: u8, piece: &[u8])
     requires { ⌜ (length (now state) ≡ 90) × Adds taken (drop 2 (now state)) (now piece) ⌝ }
     ensures { λ _. ⌜ drop 2 (now (state .exit)) ≡ filled (take (22 * taken) (drop 2 (now (state .entry))) ++ drop 1 (now (piece .entry))) ⌝ }
 {
-    let mut content = [0u8; 22];
+    let mut content = [0u8; CONTENT];
     bytes::copy(&piece[1..], &mut content);
     let at = 2 + CONTENT * taken as usize;
     bytes::copy(&content, &mut state[at..at + CONTENT]);

@@ -8,6 +8,7 @@ ghost use Rattle.firmware.specs.Paper.{lent};
 ghost use Rattle.files.specs.Inner.{filled};
 ghost use Rattle.logs.specs.Inner.{movedOn, endingOf, chunkOf, Reads};
 use files::Filled;
+use firmware::STATE;
 
 // A whole chunk of a log: 1,024 pieces.
 pub const WHOLE: usize = 23552;
@@ -30,10 +31,10 @@ pub struct Chunk {
 }
 
 // A state for the intake, as after start.
-pub fn started() -> [u8; 90]
+pub fn started() -> [u8; STATE]
     ensures { λ r. ⌜ r ≡ lent start ⌝ }
 {
-    let mut state = [0u8; 90];
+    let mut state = [0u8; STATE];
     firmware::cb_start(&mut state);
     state
 }
