@@ -1,12 +1,15 @@
 -- Demand 2: a message is handed out exactly when the latest pieces are a run of its blocks, and its octets are theirs; what any other piece does.
-use Rattle.laws.proofs.Base.{_≡_, refl, sym, _∙_, Bool, true, false, cond, not, _&&_, false≢true, or-true, List, [], _∷_, _++_, append-assoc, append-nil, _⊎_, inl, inr, ⊎-elim, ℕ, zero, suc, _*_, _-_, _≤_, _<_, not-suc-le-zero, arith, length, take, getD, List·getD-append, getD-append-seam, take-suc, take-all, length-take-le, eqb, leb, eq-eqb, ne-eqb, eqb-true, eqb-false, leb-true, le-leb, not-false}
+use Rattle.laws.proofs.Base.{_≡_, refl, sym, _∙_, Bool, true, false, cond, not, _&&_, false≢true, or-true, List, [], _∷_, _++_, append-assoc, append-nil}
+use Rattle.laws.proofs.Base.{_⊎_, inl, inr, ⊎-elim, ℕ, zero, suc, _*_, _-_, _≤_, _<_, not-suc-le-zero, arith, length, take, getD, List·getD-append}
+use Rattle.laws.proofs.Base.{getD-append-seam, take-suc, take-all, length-take-le, eqb, leb, eq-eqb, ne-eqb, eqb-true, eqb-false, leb-true, le-leb, not-false}
 use Rattle.laws.specs.Ruled.{ruled}
 use Rattle.laws.proofs.Ruled.{NoneHolds, ruled-passes}
 use Rattle.laws.proofs.Snoc.{length-snoc, snoc-injective, each-snoc}
 use Rattle.laws.proofs.Tests.{true-or-false, both, neither, either}
 use Rattle.block.specs.Paper.{Kind, page, schedule, kindNumber, codeOf, link, mark, code, last, follows, reserved, faults, filled, Held, Given, start, proper, refusal, made, step}
 use Rattle.block.specs.Inner.{outcome}
-use Rattle.block_history.specs.Claims.{completes, IsBlock, Run, Unfinished, Latest, contents, after, answered, holding, refusedBy, GoesOn, CompleteExactly, CompleteGives, TakenGives, GoesOnDecided, RefusedGives}
+use Rattle.block_history.specs.Claims.{completes, IsBlock, Run, Unfinished, Latest, contents, after, answered, holding, refusedBy}
+use Rattle.block_history.specs.Claims.{GoesOn, CompleteExactly, CompleteGives, TakenGives, GoesOnDecided, RefusedGives}
 use Rattle.block_history.proofs.Joins.{Pieces, number-of, next-of, Part, nothing, more, Base, fresh, holds, join, length-part, proper-holding, proper-start}
 
 pub after-append : (h : Held) (ps qs : Pieces) → after h (ps ++ qs) ≡ after (after h ps) qs

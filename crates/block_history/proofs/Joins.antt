@@ -1,5 +1,6 @@
 -- One more block of a message: what a piece does to a state that holds the blocks before it.
-use Rattle.laws.proofs.Base.{_≡_, refl, sym, ap, _∙_, Bool, true, false, cond, not, _&&_, List, [], _∷_, _++_, append-assoc, append-nil, ℕ, zero, suc, _*_, _-_, _≤_, arith, length, take, drop, replicate, length-append, length-drop, length-replicate, take-at, drop-at, eqb, leb, lit≤, eq-eqb, ne-eqb, le-leb}
+use Rattle.laws.proofs.Base.{_≡_, refl, sym, ap, _∙_, Bool, true, false, cond, not, _&&_, List, [], _∷_, _++_, append-assoc, append-nil, ℕ, zero, suc, _*_, _-_, _≤_}
+use Rattle.laws.proofs.Base.{arith, length, take, drop, replicate, length-append, length-drop, length-replicate, take-at, drop-at, eqb, leb, lit≤, eq-eqb, ne-eqb, le-leb}
 use Rattle.laws.proofs.Snoc.{length-snoc}
 use Rattle.block.specs.Paper.{Kind, page, schedule, kindNumber, mark, code, last, filled, Held, Given, start, proper, allBlank, refusal, added, step}
 use Rattle.block.specs.Inner.{none, first, next, placeOf, outcome}

@@ -1,5 +1,6 @@
 -- The blocks that the writer writes, taken in: what each of the four is answered.
-use Rattle.laws.proofs.Base.{_≡_, refl, sym, ap, _∙_, true, false, List, [], _∷_, ℕ, zero, suc, _+_, _*_, _/_, _%_, _≤_, _<_, le-of-lt, arith, length, take, drop, length-drop, drop-at, take-all, take-append-le, drop-append-le, take-add, eqb, leb, ltb, lit≤, ne-eqb, le-leb, lt-leb, eqb-true, eqb-false, ltb-true, ltb-false}
+use Rattle.laws.proofs.Base.{_≡_, refl, sym, ap, _∙_, true, false, List, [], _∷_, ℕ, zero, suc, _+_, _*_, _/_, _%_, _≤_, _<_, le-of-lt, arith, length, take, drop, length-drop}
+use Rattle.laws.proofs.Base.{drop-at, take-all, take-append-le, drop-append-le, take-add, eqb, leb, ltb, lit≤, ne-eqb, le-leb, lt-leb, eqb-true, eqb-false, ltb-true, ltb-false}
 use Rattle.laws.proofs.Snoc.{length-snoc}
 use Rattle.laws.proofs.Tests.{true-or-false, le-or-lt}
 use Rattle.block.specs.Paper.{Kind, kindNumber, mark, codeOf, filled, Held, start, proper, handed, last, step}

@@ -1,5 +1,6 @@
 -- Laws of characters: each form of one put behind a text, and one after the other.
-use Rattle.laws.proofs.Base.{_≡_, refl, ap, _∙_, List, [], _∷_, _++_, append-assoc, append-nil, ℕ, suc, _+_, _*_, _/_, _%_, _≤_, _<_, mul-suc, mul-zero, add-one, arith, length, getD, take, set, length-set, take-suc, take-all, eq-eqb, ne-eqb, lt-ltb, le-ltb}
+use Rattle.laws.proofs.Base.{_≡_, refl, ap, _∙_, List, [], _∷_, _++_, append-assoc, append-nil, ℕ, suc, _+_, _*_, _/_, _%_, _≤_, _<_, mul-suc}
+use Rattle.laws.proofs.Base.{mul-zero, add-one, arith, length, getD, take, set, length-set, take-suc, take-all, eq-eqb, ne-eqb, lt-ltb, le-ltb}
 use Rattle.lines.specs.Inner.{Puts}
 use Rattle.lines.proofs.Behind.{puts-none, puts-octet, puts-wider, puts-then}
 use Rattle.cbtext.specs.Paper.{utf8, character, joined}

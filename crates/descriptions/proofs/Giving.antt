@@ -1,5 +1,6 @@
 -- The slots that the reader of descriptions gives from opening on, collected one after the other.
-use Rattle.laws.proofs.Base.{_≡_, refl, sym, ap, _∙_, Bool, true, false, cond, List, map, _⊎_, inl, inr, ℕ, _+_, _≤_, _<_, arith, length, getD, set, replicate, getD-replicate, length-map, length-set, List·getD-map, ext-getD, getD-set-same, getD-set-other, eqb, ltb, lt-ltb, le-ltb, ltb-true, ltb-false, eqb-true, eqb-false}
+use Rattle.laws.proofs.Base.{_≡_, refl, sym, ap, _∙_, Bool, true, false, cond, List, map, _⊎_, inl, inr, ℕ, _+_, _≤_, _<_, arith, length, getD, set, replicate, getD-replicate}
+use Rattle.laws.proofs.Base.{length-map, length-set, List·getD-map, ext-getD, getD-set-same, getD-set-other, eqb, ltb, lt-ltb, le-ltb, ltb-true, ltb-false, eqb-true, eqb-false}
 use Rattle.laws.specs.Upto.{each}
 use Rattle.laws.proofs.Tests.{below-other}
 use Rattle.laws.proofs.Upto.{each-length, each-at}

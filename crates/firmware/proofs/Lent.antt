@@ -1,5 +1,6 @@
 -- Laws of a state in lent memory: two octets in front, and the 88 behind them.
-use Rattle.laws.proofs.Base.{_≡_, refl, sym, ap, _∙_, Bool, true, false, cond, List, [], _∷_, _++_, ℕ, suc, _+_, _*_, _-_, _≤_, add-zero, add-one, arith, length, take, drop, set, length-drop, eqb, ne-eqb}
+use Rattle.laws.proofs.Base.{_≡_, refl, sym, ap, _∙_, Bool, true, false, cond, List, [], _∷_, _++_, ℕ, suc, _+_, _*_}
+use Rattle.laws.proofs.Base.{_-_, _≤_, add-zero, add-one, arith, length, take, drop, set, length-drop, eqb, ne-eqb}
 use borrow.Rule.Slice.PartMut.{midOf, putMid}
 use Rattle.laws.proofs.Parts.{put-copy}
 use Rattle.block.specs.Paper.{Held, Given, filled, start, proper, refusal, added, step}

@@ -1,5 +1,6 @@
 -- A message that is handed out is 88 octets long, and whole blocks of it were received.
-use Rattle.laws.proofs.Base.{_≡_, refl, sym, ap, _∙_, Bool, true, false, cond, not, inl, inr, List, _∷_, ℕ, suc, _*_, _≤_, arith, length, length-append, length-take, length-drop, length-replicate, eqb-true, ne-eqb, not-false}
+use Rattle.laws.proofs.Base.{_≡_, refl, sym, ap, _∙_, Bool, true, false, cond, not, inl, inr, List, _∷_, ℕ, suc, _*_, _≤_, arith}
+use Rattle.laws.proofs.Base.{length, length-append, length-take, length-drop, length-replicate, eqb-true, ne-eqb, not-false}
 use Rattle.sizes.specs.Paper.{wholeBlocks}
 use Rattle.sizes.proofs.Received.{whole-times, whole-bounds}
 use Rattle.laws.proofs.Ruled.{ruling, Ruling, refuses, passes, Among, NoneHolds}

@@ -1,5 +1,6 @@
 -- The loop over a log: what is listed so far, and one piece more.
-use Rattle.laws.proofs.Base.{_≡_, refl, sym, ap, _∙_, cond, List, [], _∷_, _++_, append-assoc, append-nil, ℕ, _+_, _*_, _-_, _/_, _%_, _≤_, _<_, sub-zero, mul-suc, mul-le-mul-left, arith, length, take, drop, eqb}
+use Rattle.laws.proofs.Base.{_≡_, refl, sym, ap, _∙_, cond, List, [], _∷_, _++_, append-assoc, append-nil, ℕ, _+_, _*_}
+use Rattle.laws.proofs.Base.{_-_, _/_, _%_, _≤_, _<_, sub-zero, mul-suc, mul-le-mul-left, arith, length, take, drop, eqb}
 use Rattle.block.specs.Paper.{Given, step}
 use Rattle.block_history.specs.Claims.{after}
 use Rattle.block_history.proofs.History.{number-small}

@@ -1,5 +1,6 @@
 -- Laws of a log cut into pieces: the next piece and those left, and a log in two parts.
-use Rattle.laws.proofs.Base.{_≡_, refl, sym, ap, _∙_, Bool, true, false, List, _∷_, _++_, ℕ, zero, suc, _+_, _*_, _-_, _/_, _≤_, _<_, min, zero-add, add-zero, arith, length, take, drop, length-append, length-drop, take-all, take-append-le, drop-append-le, drop-append-add, leb, leb-true, leb-false}
+use Rattle.laws.proofs.Base.{_≡_, refl, sym, ap, _∙_, Bool, true, false, List, _∷_, _++_, ℕ, zero, suc, _+_, _*_, _-_, _/_, _≤_, _<_, min, zero-add, add-zero, arith}
+use Rattle.laws.proofs.Base.{length, take, drop, length-append, length-drop, take-all, take-append-le, drop-append-le, drop-append-add, leb, leb-true, leb-false}
 use Rattle.logs.specs.Paper.{pieces, cut}
 
 -- the pieces of a log from a place on

@@ -1,5 +1,6 @@
 -- Lists with entries that are no septets, and what is packed and unpacked where there are none.
-use Rattle.laws.proofs.Base.{_≡_, refl, sym, true, false, _||_, or-assoc, or-true, or-false, List, [], _∷_, _++_, ℕ, zero, suc, _+_, _/_, _≤_, _<_, add-one, arith, eqb, leb, length, getD, take, take-suc, eq-eqb, ne-eqb, le-leb, lt-leb, leb-false}
+use Rattle.laws.proofs.Base.{_≡_, refl, sym, true, false, _||_, or-assoc, or-true, or-false, List, [], _∷_, _++_, ℕ, zero, suc, _+_, _/_}
+use Rattle.laws.proofs.Base.{_≤_, _<_, add-one, arith, eqb, leb, length, getD, take, take-suc, eq-eqb, ne-eqb, le-leb, lt-leb, leb-false}
 use Rattle.laws.specs.Radix.{Below, value, digits}
 use Rattle.laws.proofs.Tests.{neither}
 use Rattle.packing.specs.Inner.{others, packedInto, unpackedInto}

@@ -1,5 +1,6 @@
 -- Laws of the mark for none among septets, and of characters that have none.
-use Rattle.laws.proofs.Base.{_≡_, refl, sym, true, false, _||_, or-assoc, or-true, or-false, List, [], _∷_, _++_, map, ℕ, zero, suc, _+_, _<_, add-one, eqb, length, getD, take, replicate, take-suc, ne-eqb}
+use Rattle.laws.proofs.Base.{_≡_, refl, sym, true, false, _||_, or-assoc, or-true, or-false, List, [], _∷_, _++_, map}
+use Rattle.laws.proofs.Base.{ℕ, zero, suc, _+_, _<_, add-one, eqb, length, getD, take, replicate, take-suc, ne-eqb}
 use Rattle.alphabet.specs.Paper.{septetOf, noSeptet}
 use Rattle.text.specs.Paper.{cr, foreign}
 use Rattle.text_writer.specs.Inner.{marks}

@@ -1,4 +1,7 @@
--- `descriptions::given_at` meets its contract: a walk of its MIR, by hand. The struct is made in a local and lent to `next` for a lifetime that is made for the call; once that is over, the local is had again at the struct that `next` left, and its place is read. All that the proof knows of `next` is that it meets its contract.
+-- `descriptions::given_at` meets its contract: a walk of its MIR, by hand.
+-- The struct is made in a local and lent to `next` for a lifetime that is made for the call;
+-- once that is over, the local is had again at the struct that `next` left, and its place is read.
+-- All that the proof knows of `next` is that it meets its contract.
 -- `next` asks that 'a outlive 's. So the loan's lifetime is the meet of a new one with 'a, and half of the token of 'a goes into the meet's.
 -- In a local of a body MIR erases the lifetime of the struct's type: what the struct owns does not say the lifetime's name.
 -- Assumes nothing.
@@ -16,7 +19,8 @@ use ghost.Atoms.{Atoms, sem}
 use contract.BorrowLft.{meet-⊑-left, meet-⊑-right}
 use contract.Monad.{Fun, fact}
 use contract.Running.{givenOf, tables, tablesOf}
-use types.Kit.{Given, Item, ‵, raw, _⊛_, ⋆, some, later, _$_, _∵_, !, qed, by, move, keep, drop, use1, use2, use3, split, join, pick, rewrite, fsplit, fjoin, fpick, fpack, suffices, frame, await, done}
+use types.Kit.{Given, Item, ‵, raw, _⊛_, ⋆, some, later, _$_, _∵_, !, qed, by, move, keep, drop, use1, use2}
+use types.Kit.{use3, split, join, pick, rewrite, fsplit, fjoin, fpick, fpack, suffices, frame, await, done}
 use types.Part.{agg, whole, sub, look-in}
 use types.Run.{look, init, forget, stop, fld, from, load, addr, of-opd, and-then, no-more, assigns, land, returns, enter, alloc1, alloc0, params1, pass1, pass0, free1, free0}
 use types.SemTy.{Body}

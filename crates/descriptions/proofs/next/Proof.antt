@@ -1,4 +1,7 @@
--- `descriptions::next` meets its contract: a walk of its MIR, by hand. The borrow is opened, which gives the struct's cell and what the struct owns; `step_at` is called on the fields; the place that it returned is stored in the cell, and the borrow is closed at the struct with that place. All that the proof knows of `step_at` is that it meets its contract.
+-- `descriptions::next` meets its contract: a walk of its MIR, by hand.
+-- The borrow is opened, which gives the struct's cell and what the struct owns; `step_at` is called on the fields;
+-- the place that it returned is stored in the cell, and the borrow is closed at the struct with that place.
+-- All that the proof knows of `step_at` is that it meets its contract.
 -- The struct is Copy: what it owns is had twice, and of one copy what message owns goes to the callee, beside the token of 'a, which comes back.
 -- The cell behind the reference stands at the raw form of its type: it is read and written at the type that the MIR derefs, whose lifetimes are erased.
 -- Assumes nothing.
@@ -17,7 +20,8 @@ use ghost.Atoms.{Atoms, sem}
 use contract.Lifetimes.{AllOutlive}
 use contract.Monad.{Fun, fact}
 use contract.Running.{givenOf, tables, tablesOf}
-use types.Kit.{Given, Item, ‵, raw, _⊛_, given, ⋆, some, later, _$_, _∵_, !, qed, by, move, keep, drop, use1, use2, split, join, learn, pick, rewrite, fsplit, fsplit3, fjoin, fjoin3, feqI, suffices, frame, await, done}
+use types.Kit.{Given, Item, ‵, raw, _⊛_, given, ⋆, some, later, _$_, _∵_, !, qed, by, move, keep, drop, use1, use2}
+use types.Kit.{split, join, learn, pick, rewrite, fsplit, fsplit3, fjoin, fjoin3, feqI, suffices, frame, await, done}
 use types.Part.{whole, sub, look-in, store-in}
 use types.Run.{look, init, forget, stop, hop, fld, from, load, of-opd, and-then, no-more, assigns, land, returns, enter, alloc1, alloc0, params1, pass1, pass0, free1, free0}
 use types.SemTy.{Body}
