@@ -1,5 +1,6 @@
 -- Laws of the default alphabet: finding a septet undoes reading one, 1B aside, and finds nothing else.
-use Rattle.laws.proofs.Base.{_≡_, refl, sym, _∙_, Bool, true, false, not, _&&_, _||_, List, [], _∷_, _⊎_, inl, inr, ⊎-elim, ℕ, suc, _+_, _<_, _≤_, mod-eq-of-lt, zero-add, add-zero, add-suc, suc-add, zero-lt-suc, arith, eqb, ltb, length, getD, eqb-true, eqb-false, ltb-true, ne-eqb, not-true}
+use Rattle.laws.proofs.Base.{_≡_, refl, sym, _∙_, Bool, true, false, not, _&&_, _||_, List, [], _∷_, _⊎_, inl, inr, ⊎-elim, ℕ, suc, _+_, _<_, _≤_, mod-eq-of-lt}
+use Rattle.laws.proofs.Base.{zero-add, add-zero, add-suc, suc-add, zero-lt-suc, arith, eqb, ltb, length, getD, eqb-true, eqb-false, ltb-true, ne-eqb, not-true}
 use Rattle.laws.specs.Table.{every}
 use Rattle.laws.proofs.Table.{at}
 use Rattle.laws.proofs.Tests.{both}

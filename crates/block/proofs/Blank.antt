@@ -1,5 +1,6 @@
 -- Laws of octets that are all 2B.
-use Rattle.laws.proofs.Base.{_≡_, refl, sym, ap, _∙_, Bool, true, false, _&&_, and-false, List, [], _∷_, ℕ, _+_, _≤_, _<_, add-one, length, drop, getD, replicate, drop-of-length-le, drop-cons, eqb, eq-eqb, ne-eqb, eqb-true}
+use Rattle.laws.proofs.Base.{_≡_, refl, sym, ap, _∙_, Bool, true, false, _&&_, and-false, List, [], _∷_, ℕ, _+_, _≤_, _<_}
+use Rattle.laws.proofs.Base.{add-one, length, drop, getD, replicate, drop-of-length-le, drop-cons, eqb, eq-eqb, ne-eqb, eqb-true}
 use Rattle.laws.proofs.Tests.{both}
 use Rattle.block.specs.Paper.{allBlank}
 

@@ -1,5 +1,6 @@
 -- The cases of `step`: what it is for an improper state, and for a proper one by the place of the piece.
-use Rattle.laws.proofs.Base.{_≡_, refl, sym, ap, _∙_, Bool, true, false, cond, false≢true, _&&_, List, [], ℕ, suc, _*_, _-_, _≤_, arith, length, drop, replicate, length-drop, eqb, leb, lit≤, eqb-true, leb-true, not-false}
+use Rattle.laws.proofs.Base.{_≡_, refl, sym, ap, _∙_, Bool, true, false, cond, false≢true, _&&_, List, [], ℕ, suc, _*_, _-_}
+use Rattle.laws.proofs.Base.{_≤_, arith, length, drop, replicate, length-drop, eqb, leb, lit≤, eqb-true, leb-true, not-false}
 use Rattle.laws.specs.Ruled.{ruled}
 use Rattle.laws.proofs.Ruled.{ruled-map, ruling, Ruling, refuses, passes}
 use Rattle.laws.proofs.Tests.{true-or-false, both}

@@ -1,5 +1,6 @@
 -- Laws of the blocks of a message, and of one turn of the loop that writes them.
-use Rattle.laws.proofs.Base.{_≡_, refl, sym, ap, _∙_, List, [], _∷_, _++_, append-assoc, append-nil, ℕ, zero, suc, _+_, _*_, _-_, _≤_, _<_, le-of-lt, add-one, arith, length, take, drop, set, length-append, length-take, length-drop, length-set, drop-of-length-le, take-at, drop-at, drop-drop, take-suc-set, drop-set-lt, eqb, lit≤}
+use Rattle.laws.proofs.Base.{_≡_, refl, sym, ap, _∙_, List, [], _∷_, _++_, append-assoc, append-nil, ℕ, zero, suc, _+_, _*_, _-_, _≤_, _<_, le-of-lt, add-one, arith, length, take}
+use Rattle.laws.proofs.Base.{drop, set, length-append, length-take, length-drop, length-set, drop-of-length-le, take-at, drop-at, drop-drop, take-suc-set, drop-set-lt, eqb, lit≤}
 use borrow.Rule.Slice.PartMut.{midOf, putMid}
 use Rattle.laws.proofs.Parts.{put-copy}
 use Rattle.laws.proofs.Tests.{true-or-false}

@@ -1,5 +1,6 @@
 -- A board that obeys an accepted schedule: what it reads, what it doesn't, and what it ends a period with.
-use Rattle.laws.proofs.Base.{_≡_, refl, sym, ap, _∙_, subst, Bool, true, false, false≢true, not, and-false, or-true, List, _⊎_, ⊎-elim, ℕ, zero, suc, _-_, _%_, _≤_, _<_, eq-or-lt-of-le, le-of-suc-le-suc, not-suc-le-zero, arith, eqb, eqb-true, eqb-false, eq-eqb, le-leb, not-true}
+use Rattle.laws.proofs.Base.{_≡_, refl, sym, ap, _∙_, subst, Bool, true, false, false≢true, not, and-false, or-true, List, _⊎_, ⊎-elim, ℕ, zero, suc, _-_}
+use Rattle.laws.proofs.Base.{_%_, _≤_, _<_, eq-or-lt-of-le, le-of-suc-le-suc, not-suc-le-zero, arith, eqb, eqb-true, eqb-false, eq-eqb, le-leb, not-true}
 use Rattle.laws.specs.Search.{some}
 use Rattle.laws.proofs.Search.{some-implies}
 use Rattle.laws.proofs.Tests.{true-or-false, both}
@@ -21,7 +22,8 @@ use Rattle.board_held.proofs.Telling.{is-read}
 use Rattle.board.specs.Paper.{Wanted, isWanted, Decided, firstMatches, readsFor, decide}
 use Rattle.board.proofs.Cases.{decide-reads, reads-told}
 use Rattle.board.proofs.Matching.{low15-wanted, wanted-matches}
-use Rattle.board_obeyed.specs.Claims.{obeyed, Obeys, WantedPage, WantedExactly, Wakes, Why, marked, led, repeated, WakesOnly, Board, fresh, Holds, Has, entering, passing, after, LowestSlot, HeldTruly, namesPage, callsFor, PeriodWithLosses, StaysTrue, ReadsOnce, noneLost, Period}
+use Rattle.board_obeyed.specs.Claims.{obeyed, Obeys, WantedPage, WantedExactly, Wakes, Why, marked, led, repeated, WakesOnly, Board, fresh, Holds, Has, entering}
+use Rattle.board_obeyed.specs.Claims.{passing, after, LowestSlot, HeldTruly, namesPage, callsFor, PeriodWithLosses, StaysTrue, ReadsOnce, noneLost, Period}
 
 -- what is proved of pages that match in 15 bits holds of those whose identifier is wanted, all 16 bits of it
 pub wanted-exactly : (c : Plan) (w : Wanted) (i : ℕ) → WantedExactly c w i → WantedPage c w i

@@ -87,4 +87,5 @@ pub calls-period : CallsPeriod
 unfolding after afterSlots
 calls-period c m received w lost b zero = refl
 calls-period c m received w lost b (suc n) =
-    rw (calls-period c m received w lost b n, unpacked-decide true m received (suc n) w (after c m received (listed w) lost b n .held) .1, read-one (decidedFor true m received (suc n) w (after c m received (listed w) lost b n .held) .read))
+    let held = after c m received (listed w) lost b n .held in
+    rw (calls-period c m received w lost b n, unpacked-decide true m received (suc n) w held .1, read-one (decidedFor true m received (suc n) w held .read))

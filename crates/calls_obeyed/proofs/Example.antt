@@ -30,7 +30,8 @@ abbrev message : List ℕ
 message = (1 ∷ 2 ∷ 0xc0 ∷ 0 ∷ 0 ∷ 0 ∷ 0 ∷ 0 ∷ 0x80 ∷ 1 ∷ 1 ∷ []) ++ replicate 77 0x2b
 
 pub written : writeScheduleCall current previous 1 (replicate 88 0) ≡ record { returned = 256 * 11; memory = message }
-unfolding readPlan entriesIn entryIn planNumber bad some sender.write sender.plannedTold sender.newAt told.descriptions told.octetsOfAll told.newBits told.usedPart told.padded upto.picked upto.each hasPage lowestSlot holds samePage firstFrom
+unfolding readPlan entriesIn entryIn planNumber bad some sender.write sender.plannedTold sender.newAt
+    told.descriptions told.octetsOfAll told.newBits told.usedPart told.padded upto.picked upto.each hasPage lowestSlot holds samePage firstFrom
 written = refl
 
 -- what the theorems on decisions rest on is met, with one block received and identifier 0001 wanted

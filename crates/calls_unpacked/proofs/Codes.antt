@@ -1,5 +1,6 @@
 -- A repeat that is given has a code from 1 to 47.
-use Rattle.laws.proofs.Base.{_≡_, refl, sym, ap, _∙_, Bool, true, false, not, _&&_, _||_, true≢false, List, ℕ, suc, _-_, _≤_, _<_, arith, eqb, leb, ltb, eqb-false, leb-true, leb-false, ltb-true, not-false}
+use Rattle.laws.proofs.Base.{_≡_, refl, sym, ap, _∙_, Bool, true, false, not, _&&_, _||_, true≢false, List, ℕ, suc}
+use Rattle.laws.proofs.Base.{_-_, _≤_, _<_, arith, eqb, leb, ltb, eqb-false, leb-true, leb-false, ltb-true, not-false}
 use Rattle.laws.specs.Upto.{some}
 use Rattle.laws.proofs.Upto.{some-at}
 use Rattle.laws.proofs.Outcome.{Outcome, refuses, passes, outcome}

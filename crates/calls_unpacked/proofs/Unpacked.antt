@@ -26,7 +26,8 @@ use Rattle.schedule_calls.specs.Paper.{packedGiven}
 use Rattle.schedule_calls.proofs.Given.{ends-small, slotNumber, slot-small}
 use Rattle.plan_calls.specs.Paper.{fileFaults, writtenFrom, checkedBeside}
 use Rattle.board_calls.specs.Paper.{decidedFor}
-use Rattle.calls_unpacked.specs.Claims.{UnpackedIntake, UnpackedWriteText, UnpackedReadText, UnpackedReadPlan, UnpackedWriteSchedule, UnpackedCheckSchedule, UnpackedDecide, UnpackedReadSchedule, UnpackedNext, UnpackedRefusal, answeredCall}
+use Rattle.calls_unpacked.specs.Claims.{UnpackedIntake, UnpackedWriteText, UnpackedReadText, UnpackedReadPlan, UnpackedWriteSchedule}
+use Rattle.calls_unpacked.specs.Claims.{UnpackedCheckSchedule, UnpackedDecide, UnpackedReadSchedule, UnpackedNext, UnpackedRefusal, answeredCall}
 
 -- the numbers of some tests fit eight bits
 abbrev fitting : List (Bool × ℕ) → Bool

@@ -22,7 +22,8 @@ use Rattle.slots_calls.specs.Paper.{slotsCall}
 use Rattle.plan_calls.specs.Paper.{planCall, writtenFrom, writeScheduleCall, checkedBeside, checkScheduleCall}
 use Rattle.board_calls.specs.Paper.{decidedFor, decideCall}
 
--- 01 Intake, Order: the intake's answer to a call before it is packed: a wrong length of output or state is a refusal like the others; of this answer only the number and the octets received are packed
+-- 01 Intake, Order: the intake's answer to a call before it is packed: a wrong length of output or state is a refusal like the others;
+-- of this answer only the number and the octets received are packed
 abbrev pub answeredCall : List ℕ → List ℕ → List ℕ → block.Given
 answeredCall s p o = ruled block.refusal ((not (eqb (length o) 88), 15) ∷ (not (eqb (length s) 90), 8) ∷ []) (block.step (heldIn s) p)
 

@@ -6,7 +6,7 @@ use Rattle.lines.proofs.Texts.{flat-append}
 use Rattle.words.specs.Paper.{words}
 use Rattle.words.proofs.Few.{words-few}
 use Rattle.checker.specs.Paper.{Checked}
-use Rattle.cbcheck.specs.Paper.{numbers, reason, said, line}
+use Rattle.cbcheck.specs.Paper.{reason, said, line}
 
 reason-wide : (n slot : ℕ) → length (flat (reason n slot)) ≤ 79
 unfolding flat ascii reason

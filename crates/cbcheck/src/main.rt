@@ -4,7 +4,7 @@ ghost use Prim.Native.Nat.{_≤_, _<_};
 ghost use lib.ListN.{length, take};
 ghost use Rattle.refusals.specs.Number.{numberOf};
 ghost use Rattle.block.specs.Paper.{start};
-ghost use Rattle.block_history.specs.Claims.{after, GoesOn};
+ghost use Rattle.block_history.specs.Claims.{after};
 ghost use Rattle.firmware.specs.Paper.{lent, heldIn};
 ghost use Rattle.checker.specs.Coded.{checkedOf};
 ghost use Rattle.checker.specs.Inner.{checkBeside};

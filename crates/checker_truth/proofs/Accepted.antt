@@ -1,5 +1,6 @@
 -- The checker accepts exactly the truthful messages, and with 40 names the slot that document 01's table says.
-use Rattle.laws.proofs.Base.{_≡_, refl, sym, ap, _∙_, Bool, true, false, not, _&&_, false≢true, List, ⊎-elim, ℕ, suc, _≤_, _<_, arith, eqb, leb, eqb-true, eqb-false, leb-true, eq-eqb, ne-eqb, not-true, not-false}
+use Rattle.laws.proofs.Base.{_≡_, refl, sym, ap, _∙_, Bool, true, false, not, _&&_, false≢true, List, ⊎-elim, ℕ, suc, _≤_}
+use Rattle.laws.proofs.Base.{_<_, arith, eqb, leb, eqb-true, eqb-false, leb-true, eq-eqb, ne-eqb, not-true, not-false}
 use Rattle.laws.specs.Upto.{lowest}
 use Rattle.laws.proofs.Lowest.{Lowest, none-passes, first-passes, lowest-is, lowest-none}
 use Rattle.laws.proofs.Ruled.{Other, others, ruled-passes, unrefused, unless0-numbered}

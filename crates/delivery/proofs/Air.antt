@@ -1,5 +1,6 @@
 -- Messages that go out in four blocks and are taken in order by a board.
-use Rattle.laws.proofs.Base.{_≡_, refl, sym, ap, _∙_, true, cond, List, _++_, append-assoc, ℕ, zero, suc, _+_, _*_, _-_, _≤_, _<_, min, arith, length, take, replicate, length-append, length-replicate, replicate-append-replicate, length-take-le, take-at, take-append-add, eqb, eq-eqb, ne-eqb, lt-ltb, le-ltb}
+use Rattle.laws.proofs.Base.{_≡_, refl, sym, ap, _∙_, true, cond, List, _++_, append-assoc, ℕ, zero, suc, _+_, _*_, _-_, _≤_, _<_, min, arith, length, take, replicate}
+use Rattle.laws.proofs.Base.{length-append, length-replicate, replicate-append-replicate, length-take-le, take-at, take-append-add, eqb, eq-eqb, ne-eqb, lt-ltb, le-ltb}
 use Rattle.laws.specs.Upto.{each}
 use Rattle.laws.proofs.Parts.{take-replicate}
 use Rattle.block.specs.Paper.{Kind, page, schedule, kindNumber, Held, Given, filled, start, proper, step}

@@ -1,5 +1,8 @@
 -- A message written from any telling of slots reads back as that telling.
-use Rattle.laws.proofs.Base.{_≡_, refl, sym, ap, _∙_, Bool, true, false, cond, _&&_, Bool·beq, List, [], _∷_, _++_, append-assoc, ℕ, zero, suc, _+_, _*_, _-_, _/_, _%_, _^_, _≤_, _<_, zero-div, pow-zero, pow-succ', div-one, div-div-eq-div-mul, add-suc, add-zero, arith, length, getD, take, drop, replicate, length-append, length-replicate, List·getD-eq-default, take-at, take-suc, split-at, getD-append-seam, getD-append-add, take-all, eqb, ltb, ltb-true, ltb-false, lt-ltb, le-ltb, le-leb, lt-leb}
+use Rattle.laws.proofs.Base.{_≡_, refl, sym, ap, _∙_, Bool, true, false, cond, _&&_, Bool·beq, List, [], _∷_, _++_, append-assoc, ℕ, zero, suc, _+_}
+use Rattle.laws.proofs.Base.{_*_, _-_, _/_, _%_, _^_, _≤_, _<_, zero-div, pow-zero, pow-succ', div-one, div-div-eq-div-mul, add-suc, add-zero}
+use Rattle.laws.proofs.Base.{arith, length, getD, take, drop, replicate, length-append, length-replicate, List·getD-eq-default, take-at, take-suc}
+use Rattle.laws.proofs.Base.{split-at, getD-append-seam, getD-append-add, take-all, eqb, ltb, ltb-true, ltb-false, lt-ltb, le-ltb, le-leb, lt-leb}
 use Rattle.laws.specs.Radix.{Below}
 use Rattle.laws.proofs.Radix.{below-nil, below-cons, below-append, below-replicate}
 use Rattle.laws.proofs.Upto.{picked-agree, each-at}

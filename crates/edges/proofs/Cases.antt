@@ -19,5 +19,7 @@ use Rattle.board_held.specs.Paper.{isHeld, tellsOf}
 use Rattle.edges.specs.Claims.{Edges}
 
 pub edges : Edges
-unfolding wholeBlocks value digits search.some search.firstFrom some count picked each alphabet septetOf headerOctets samePage septets packed pageOf badParameter foreign endsInCr written block blocks cut.written bad planNumber holds lowestSlot hasPage new place order tells read plannedTold newAt octetsOfAll descriptions newBits usedPart padded write isWanted isHeld tellsOf reads decide
+unfolding wholeBlocks value digits search.some search.firstFrom some count picked each alphabet septetOf headerOctets samePage septets packed
+    pageOf badParameter foreign endsInCr written block blocks cut.written bad planNumber holds lowestSlot hasPage new place order tells
+    read plannedTold newAt octetsOfAll descriptions newBits usedPart padded write isWanted isHeld tellsOf reads decide
 edges = refl

@@ -1,6 +1,7 @@
 -- The bits of a list of digits are those of its number.
 use Rattle.laws.proofs as own
-use own.Base.{_≡_, ap, _∙_, List, [], _∷_, ℕ, zero, suc, _+_, _*_, _-_, _/_, _%_, _^_, _<_, zero-add, zero-div, zero-mod, pow-zero, pow-succ', div-one, div-div-eq-div-mul, add-mul-mod-self-left, add-mul-div-left, mod-lt, mod-eq-of-lt, div-eq-of-lt, div-add-mod, le-of-suc-le-suc, not-suc-le-zero, arith, getD}
+use own.Base.{_≡_, ap, _∙_, List, [], _∷_, ℕ, zero, suc, _+_, _*_, _-_, _/_, _%_, _^_, _<_, zero-add, zero-div, zero-mod, pow-zero, pow-succ', div-one, div-div-eq-div-mul}
+use own.Base.{add-mul-mod-self-left, add-mul-div-left, mod-lt, mod-eq-of-lt, div-eq-of-lt, div-add-mod, le-of-suc-le-suc, not-suc-le-zero, arith, getD}
 use lib.Pow.{shr-shr, field, mod-mod-pow}
 use Rattle.laws.specs.Radix.{value, digits, Below, bit}
 use own.Radix.{below-tail, power-bits}

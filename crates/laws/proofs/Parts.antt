@@ -1,5 +1,6 @@
 -- Laws of parts of lists: one that is lent comes back into its place, parts of parts, and parts of repeats.
-use Rattle.laws.proofs.Base.{_≡_, sym, ap, _∙_, List, [], _∷_, _++_, append-nil, ℕ, zero, suc, _+_, _-_, _≤_, min, sub-zero, zero-sub, suc-sub-suc, zero-min, min-zero, suc-min-suc, arith, length, take, drop, replicate, length-append, length-drop, drop-of-length-le, take-length, length-take-le, take-nil}
+use Rattle.laws.proofs.Base.{_≡_, sym, ap, _∙_, List, [], _∷_, _++_, append-nil, ℕ, zero, suc, _+_, _-_, _≤_, min, sub-zero, zero-sub, suc-sub-suc, zero-min, min-zero}
+use Rattle.laws.proofs.Base.{suc-min-suc, arith, length, take, drop, replicate, length-append, length-drop, drop-of-length-le, take-length, length-take-le, take-nil}
 use borrow.Rule.Slice.PartMut.{midOf, putMid, post-is, mid-len}
 
 -- a source that is copied over memory of its length is what stands there

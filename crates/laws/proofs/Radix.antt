@@ -1,5 +1,10 @@
 -- Laws of numbers and their digits: lists joined and cut, and digits of one base read in another.
-use Rattle.laws.proofs.Base.{_≡_, refl, sym, ap, _∙_, List, [], _∷_, _++_, append-assoc, append-nil, ℕ, zero, suc, _+_, _*_, _/_, _%_, _^_, _-_, _<_, _≤_, zero-add, suc-add, add-assoc, mul-add, mul-assoc, mul-zero, one-mul, mul-one, mul-comm, pow-zero, pow-succ', div-one, div-div-eq-div-mul, add-mul-mod-self-left, add-mul-div-left, mod-eq-of-lt, div-eq-of-lt, mul-le-mul-left, mul-suc, add-sub-cancel-left, add-sub-of-le, mod-add-div, one-le-pow, pow-suc, pow-le-pow-right, lt-of-lt-of-le, sub-le, le-refl, add-one, arith, length, getD, take, drop, set, replicate, length-append, length-drop, take-append-drop, drop-of-length-le, drop-cons, getD-drop, set-at, append-snoc, take-at, take-add, take-all, length-take-le}
+use Rattle.laws.proofs.Base.{_≡_, refl, sym, ap, _∙_, List, [], _∷_, _++_, append-assoc, append-nil, ℕ, zero, suc, _+_, _*_, _/_, _%_, _^_, _-_}
+use Rattle.laws.proofs.Base.{_<_, _≤_, zero-add, suc-add, add-assoc, mul-add, mul-assoc, mul-zero, one-mul, mul-one, mul-comm, pow-zero, pow-succ'}
+use Rattle.laws.proofs.Base.{div-one, div-div-eq-div-mul, add-mul-mod-self-left, add-mul-div-left, mod-eq-of-lt, div-eq-of-lt, mul-le-mul-left}
+use Rattle.laws.proofs.Base.{mul-suc, add-sub-cancel-left, add-sub-of-le, mod-add-div, one-le-pow, pow-suc, pow-le-pow-right, lt-of-lt-of-le}
+use Rattle.laws.proofs.Base.{sub-le, le-refl, add-one, arith, length, getD, take, drop, set, replicate, length-append, length-drop, take-append-drop}
+use Rattle.laws.proofs.Base.{drop-of-length-le, drop-cons, getD-drop, set-at, append-snoc, take-at, take-add, take-all, length-take-le}
 use lib.Pow.{pow-add}
 use Rattle.laws.specs.Radix.{value, digits, Below}
 

@@ -1,5 +1,6 @@
 -- Laws of lists that are searched: turns and ends of the loops that do it, and what is found.
-use Rattle.laws.proofs.Base.{_≡_, refl, sym, Bool, true, false, not, _||_, or-true, or-assoc, List, [], _∷_, _++_, ⊎-elim, ℕ, zero, suc, _+_, _≤_, _<_, le-of-suc-le-suc, not-suc-le-zero, add-one, arith, length, getD, take, drop, drop-of-length-le, eqb, eqb·suc-zero, take-suc, drop-cons}
+use Rattle.laws.proofs.Base.{_≡_, refl, sym, Bool, true, false, not, _||_, or-true, or-assoc, List, [], _∷_, _++_, ⊎-elim, ℕ, zero, suc, _+_, _≤_, _<_}
+use Rattle.laws.proofs.Base.{le-of-suc-le-suc, not-suc-le-zero, add-one, arith, length, getD, take, drop, drop-of-length-le, eqb, eqb·suc-zero, take-suc, drop-cons}
 use Rattle.laws.specs.Search.{some, firstFrom}
 use Rattle.laws.proofs.Tests.{true-or-false, either}
 

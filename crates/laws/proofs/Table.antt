@@ -1,6 +1,7 @@
 -- What one computed test over a table says of each of its entries.
 use Rattle.laws.proofs as own
-use own.Base.{_≡_, refl, ap, Bool, true, List, [], _∷_, _++_, map, ℕ, zero, suc, _+_, _<_, _≤_, min, add-zero, zero-add, add-suc, suc-add, le-of-suc-le-suc, not-suc-le-zero, lt-of-lt-of-le, min-le-left, min-le-right, suc-min-suc, add-one, length, getD, set, take, drop}
+use own.Base.{_≡_, refl, ap, Bool, true, List, [], _∷_, _++_, map, ℕ, zero, suc, _+_, _<_, _≤_, min, add-zero, zero-add, add-suc, suc-add}
+use own.Base.{le-of-suc-le-suc, not-suc-le-zero, lt-of-lt-of-le, min-le-left, min-le-right, suc-min-suc, add-one, length, getD, set, take, drop}
 use own.Tests.{both}
 use Rattle.laws.specs.Table.{every, listed, onto}
 

@@ -1,5 +1,6 @@
 -- Laws of tests: both ways that one can go, joined ones, equal ones, and one number below another.
-use Rattle.laws.proofs.Base.{_≡_, refl, sym, _⊎_, inl, inr, Bool, true, false, _&&_, _||_, Bool·beq, false≢true, true≢false, ℕ, _+_, _≤_, _<_, arith, leb, leb-true, leb-false, ltb, lt-ltb, le-ltb, ltb-true, ltb-false}
+use Rattle.laws.proofs.Base.{_≡_, refl, sym, _⊎_, inl, inr, Bool, true, false, _&&_, _||_, Bool·beq, false≢true, true≢false}
+use Rattle.laws.proofs.Base.{ℕ, _+_, _≤_, _<_, arith, leb, leb-true, leb-false, ltb, lt-ltb, le-ltb, ltb-true, ltb-false}
 
 -- what follows where a test holds, and where it doesn't
 pub true-or-false : {C : Type 0} (b : Bool) → (b ≡ true → C) → (b ≡ false → C) → C

@@ -1,6 +1,7 @@
 -- Laws of the numbers below a bound that pass a test, and of what a function gives at each.
 use Rattle.laws.proofs as own
-use own.Base.{_≡_, refl, sym, ap, _∙_, Bool, true, false, cond, not, false≢true, or-true, [], _∷_, _⊎_, ⊎-elim, ℕ, zero, suc, _+_, _≤_, _<_, eq-or-lt-of-le, le-of-suc-le-suc, not-suc-le-zero, add-one, arith, length, getD, length-append, List·getD-append, getD-at}
+use own.Base.{_≡_, refl, sym, ap, _∙_, Bool, true, false, cond, not, false≢true, or-true, [], _∷_, _⊎_, ⊎-elim, ℕ, zero, suc, _+_, _≤_, _<_}
+use own.Base.{eq-or-lt-of-le, le-of-suc-le-suc, not-suc-le-zero, add-one, arith, length, getD, length-append, List·getD-append, getD-at}
 use Rattle.laws.specs.Upto.{some, count, picked, each}
 use own.Snoc.{length-snoc}
 use own.Tests.{true-or-false, either}

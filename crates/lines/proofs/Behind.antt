@@ -1,5 +1,6 @@
 -- Laws of what stands behind a text: the cases of `behind`, and one thing put behind another.
-use Rattle.laws.proofs.Base.{_≡_, refl, sym, ap, _∙_, Bool, true, false, List, [], _∷_, _++_, append-assoc, append-nil, ℕ, _+_, _-_, _≤_, _<_, add-one, arith, length, take, drop, set, length-take, length-drop, length-append, take-at, take-suc-set, leb, le-leb, lt-leb, leb-true, leb-false}
+use Rattle.laws.proofs.Base.{_≡_, refl, sym, ap, _∙_, Bool, true, false, List, [], _∷_, _++_, append-assoc, append-nil, ℕ, _+_, _-_, _≤_, _<_, add-one, arith}
+use Rattle.laws.proofs.Base.{length, take, drop, set, length-take, length-drop, length-append, take-at, take-suc-set, leb, le-leb, lt-leb, leb-true, leb-false}
 use lib.Seq.{set-split}
 use borrow.Rule.Slice.PartMut.{midOf, putMid}
 use Rattle.laws.proofs.Parts.{put-copy}

@@ -1,5 +1,7 @@
 -- Laws of numbers in decimal and to base 16: how many digits they have, and how the code writes them.
-use Rattle.laws.proofs.Base.{_≡_, refl, sym, ap, _∙_, Bool, true, false, List, [], _∷_, _++_, append-assoc, ℕ, zero, suc, _+_, _*_, _-_, _/_, _%_, _^_, _≤_, _<_, pow-suc, one-le-pow, pow-le-pow-right, mod-lt, mod-eq-of-lt, le-div-iff-mul-le, div-lt-iff-lt-mul, add-zero, arith, length, take, drop, set, length-append, length-set, take-append-drop, drop-cons, getD-set-same, take-set-le, drop-set-lt, take-take, ltb, leb, lit<, lt-ltb, le-ltb, leb-true, leb-false}
+use Rattle.laws.proofs.Base.{_≡_, refl, sym, ap, _∙_, Bool, true, false, List, [], _∷_, _++_, append-assoc, ℕ, zero, suc, _+_, _*_, _-_, _/_, _%_, _^_, _≤_, _<_, pow-suc}
+use Rattle.laws.proofs.Base.{one-le-pow, pow-le-pow-right, mod-lt, mod-eq-of-lt, le-div-iff-mul-le, div-lt-iff-lt-mul, add-zero, arith, length, take, drop, set, length-append}
+use Rattle.laws.proofs.Base.{length-set, take-append-drop, drop-cons, getD-set-same, take-set-le, drop-set-lt, take-take, ltb, leb, lit<, lt-ltb, le-ltb, leb-true, leb-false}
 use Rattle.io.specs.Digits.{glyph, digits, Fewest}
 use Rattle.lines.specs.Paper.{spelled, hexDigit, hexadecimal, behind}
 use Rattle.lines.proofs.Behind.{behind-fits}

@@ -36,7 +36,8 @@ pub record Reads (number : ℕ) (log : List ℕ) (r : Chunk) : Type 0 where
   pub kept : r .ending ≡ endings.Fault → r .octets % 23 ≡ 0
   pub next : r .next ≡ movedOn number (take (r .octets) log)
 
--- 01 cblist: the text of a chunk goes on where that of the log before it ends, which is whole chunks of 1,024 pieces: the two are the listing of the log up to the chunk's end, from a start and number 1, and the state is what its pieces leave
+-- 01 cblist: the text of a chunk goes on where that of the log before it ends, which is whole chunks of 1,024 pieces:
+-- the two are the listing of the log up to the chunk's end, from a start and number 1, and the state is what its pieces leave
 pub record Continues (f : ℕ → Given → List ℕ) (state text : List ℕ) (end : ℕ) : Type 0 where
   pub before : List ℕ
   pub chunk : List ℕ

@@ -2,7 +2,9 @@
 use Rattle.laws.proofs.Base.{_≡_, refl, sym, ap, _∙_, cond, List, [], _∷_, ℕ, arith, eqb}
 use Rattle.refusals.specs as defs
 use defs.declared.Refusal.{Refusal}
-use defs.declared.Refusal.the-variants.{PieceLength, Discriminator, ReservedCode, NullCode, NotNext, StateImproper, TextLength, NotInAlphabet, EndsInCr, Scheme, PageParameter, OutputLength, MessageLength, UsedOctets, ReceivedOctets, ScheduleType, BeginOrEnd, NewPastEnd, DescriptionPastReceived, RepeatOfNoFirst, PlanMark, PlanVersion, PlanLength, PlanEntry, DescriptionsTooLong, PlanEmpty, Untrue, SlotNumber, WantedCount}
+use defs.declared.Refusal.the-variants.{PieceLength, Discriminator, ReservedCode, NullCode, NotNext, StateImproper, TextLength, NotInAlphabet, EndsInCr, Scheme}
+use defs.declared.Refusal.the-variants.{PageParameter, OutputLength, MessageLength, UsedOctets, ReceivedOctets, ScheduleType, BeginOrEnd, NewPastEnd, DescriptionPastReceived}
+use defs.declared.Refusal.the-variants.{RepeatOfNoFirst, PlanMark, PlanVersion, PlanLength, PlanEntry, DescriptionsTooLong, PlanEmpty, Untrue, SlotNumber, WantedCount}
 use defs.Number.{numberOf}
 
 -- the first of some refusals that has a number

@@ -1,7 +1,10 @@
 -- The number of each refusal in document 01's table.
 use Prim.Native.Nat.{ℕ}
 use Rattle.refusals.specs.declared.Refusal.{Refusal}
-use Rattle.refusals.specs.declared.Refusal.the-variants.{PieceLength, Discriminator, ReservedCode, NullCode, NotNext, StateImproper, TextLength, NotInAlphabet, EndsInCr, Scheme, PageParameter, OutputLength, MessageLength, UsedOctets, ReceivedOctets, ScheduleType, BeginOrEnd, NewPastEnd, DescriptionPastReceived, RepeatOfNoFirst, PlanMark, PlanVersion, PlanLength, PlanEntry, DescriptionsTooLong, PlanEmpty, Untrue, SlotNumber, WantedCount}
+use Rattle.refusals.specs.declared.Refusal.the-variants.{PieceLength, Discriminator, ReservedCode, NullCode, NotNext, StateImproper, TextLength, NotInAlphabet}
+use Rattle.refusals.specs.declared.Refusal.the-variants.{EndsInCr, Scheme, PageParameter, OutputLength, MessageLength, UsedOctets, ReceivedOctets}
+use Rattle.refusals.specs.declared.Refusal.the-variants.{ScheduleType, BeginOrEnd, NewPastEnd, DescriptionPastReceived, RepeatOfNoFirst, PlanMark}
+use Rattle.refusals.specs.declared.Refusal.the-variants.{PlanVersion, PlanLength, PlanEntry, DescriptionsTooLong, PlanEmpty, Untrue, SlotNumber, WantedCount}
 
 -- 01 Numbers given
 abbrev pub numberOf : Refusal → ℕ

@@ -1,5 +1,6 @@
 -- Laws of the new bits.
-use Rattle.laws.proofs.Base.{_≡_, refl, sym, ap, _∙_, Bool, true, false, not, Bool·beq, false≢true, List, ℕ, _+_, _-_, _/_, _%_, _^_, _≤_, _<_, zero-div, min-le-left, arith, length, take, drop, length-take, List·getD-eq-default, getD-take, getD-drop, eqb, le-leb, lt-leb}
+use Rattle.laws.proofs.Base.{_≡_, refl, sym, ap, _∙_, Bool, true, false, not, Bool·beq, false≢true, List, ℕ, _+_, _-_, _/_, _%_, _^_, _≤_, _<_, zero-div}
+use Rattle.laws.proofs.Base.{min-le-left, arith, length, take, drop, length-take, List·getD-eq-default, getD-take, getD-drop, eqb, le-leb, lt-leb}
 use Rattle.schedule.specs.Paper.{octetAt, end, new, newPast, grouped}
 
 beq-self : (a : Bool) → Bool·beq a a ≡ true

@@ -1,5 +1,6 @@
 -- Laws of the places where descriptions start, and of what stands there.
-use Rattle.laws.proofs.Base.{_≡_, refl, _∙_, Bool, true, false, cond, List, ℕ, zero, suc, _+_, _≤_, _<_, eq-or-lt-of-le, le-of-suc-le-suc, not-suc-le-zero, add-one, arith, ⊎-elim, length, List·getD-eq-default, leb, leb-true, leb-false, le-leb, lt-leb}
+use Rattle.laws.proofs.Base.{_≡_, refl, _∙_, Bool, true, false, cond, List, ℕ, zero, suc, _+_, _≤_, _<_, eq-or-lt-of-le, le-of-suc-le-suc}
+use Rattle.laws.proofs.Base.{not-suc-le-zero, add-one, arith, ⊎-elim, length, List·getD-eq-default, leb, leb-true, leb-false, le-leb, lt-leb}
 use Rattle.schedule.specs.Paper.{octetAt, width, short, long, told, place}
 
 pub width-some : (x : ℕ) → 1 ≤ width x

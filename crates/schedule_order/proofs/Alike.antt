@@ -1,10 +1,12 @@
 -- Messages that match in what the readers look at are read alike, but for Begin.
-use Rattle.laws.proofs.Base.{_≡_, refl, sym, ap, _∙_, Bool, true, false, cond, not, _&&_, Bool·beq, List, [], _∷_, _++_, ℕ, suc, _+_, _-_, _/_, _%_, _^_, _≤_, _<_, arith, length, getD, eqb, leb, ltb, ltb-true, ltb-false, ne-eqb}
+use Rattle.laws.proofs.Base.{_≡_, refl, sym, ap, _∙_, Bool, true, false, cond, not, _&&_, Bool·beq, List, [], _∷_, _++_, ℕ, suc}
+use Rattle.laws.proofs.Base.{_+_, _-_, _/_, _%_, _^_, _≤_, _<_, arith, length, getD, eqb, leb, ltb, ltb-true, ltb-false, ne-eqb}
 use Rattle.sizes.specs.Paper.{wholeBlocks}
 use Rattle.laws.specs.Ruled.{ruled}
 use Rattle.laws.specs.Upto.{some, count, picked}
 use Rattle.laws.proofs.Upto.{some-agree}
-use Rattle.schedule.specs.Paper.{octetAt, type, begin, end, new, told, place, rank, order, tells, falseRepeat, inBounds, faults, shown, Read, unread, good, read, next, noMore, refusal, slotOf, givenAt, given}
+use Rattle.schedule.specs.Paper.{octetAt, type, begin, end, new, told, place, rank, order, tells, falseRepeat, inBounds}
+use Rattle.schedule.specs.Paper.{faults, shown, Read, unread, good, read, next, noMore, refusal, slotOf, givenAt, given}
 use Rattle.schedule.proofs.Answers.{Answered, refused, sound, answered}
 use Rattle.schedule.proofs.News.{new-octet, new-beyond}
 use Rattle.schedule.proofs.Places.{place-mono}

@@ -1,12 +1,14 @@
 -- A message is refused by 24 exactly when the tests before it pass and a slot has a false repeat.
-use Rattle.laws.proofs.Base.{_≡_, refl, sym, ap, _∙_, Bool, true, false, not, cond, _||_, false≢true, List, [], _∷_, _++_, _↔_, inl, inr, ⊎-elim, ℕ, suc, _+_, _-_, _≤_, _<_, arith, length, eqb, leb, ltb, eq-eqb, eqb-true, le-leb, leb-true, le-ltb, ltb-false, not-true, not-false}
+use Rattle.laws.proofs.Base.{_≡_, refl, sym, ap, _∙_, Bool, true, false, not, cond, _||_, false≢true, List, [], _∷_, _++_, _↔_, inl, inr, ⊎-elim, ℕ, suc}
+use Rattle.laws.proofs.Base.{_+_, _-_, _≤_, _<_, arith, length, eqb, leb, ltb, eq-eqb, eqb-true, le-leb, leb-true, le-ltb, ltb-false, not-true, not-false}
 use Rattle.sizes.specs.Paper.{wholeBlocks}
 use Rattle.laws.specs.Upto.{some}
 use Rattle.laws.proofs.Outcome.{ruled-past}
 use Rattle.laws.proofs.Ruled.{NoneHolds, ruled-map}
 use Rattle.laws.proofs.Tests.{either}
 use Rattle.laws.proofs.Upto.{some-none, some-false, some-at, some-passing}
-use Rattle.schedule.specs.Paper.{type, begin, end, new, place, rank, slotOf, tells, Told, first, again, optional, advised, isFirst, falseIn, falseRepeat, inBounds, newPast, headFaults, faults, Read, unread, good, read}
+use Rattle.schedule.specs.Paper.{type, begin, end, new, place, rank, slotOf, tells, Told, first, again, optional, advised}
+use Rattle.schedule.specs.Paper.{isFirst, falseIn, falseRepeat, inBounds, newPast, headFaults, faults, Read, unread, good, read}
 use Rattle.schedule.proofs.Answers.{not-among}
 use Rattle.schedule.proofs.Header.{within}
 use Rattle.schedule.proofs.News.{newPast-from}

@@ -1,5 +1,6 @@
 -- A reserved description that is made 40 changes nothing that is read.
-use Rattle.laws.proofs.Base.{_≡_, refl, ap, _∙_, Bool, true, false, List, ℕ, zero, suc, _+_, _/_, _%_, _≤_, _<_, arith, length, length-set, List·getD-eq-default, getD-set-same, getD-set-other, eqb, leb, ltb, eqb-true, eqb-false, ltb-true, ltb-false, leb-true, lt-leb, le-leb, ne-eqb}
+use Rattle.laws.proofs.Base.{_≡_, refl, ap, _∙_, Bool, true, false, List, ℕ, zero, suc, _+_, _/_, _%_, _≤_, _<_, arith, length, length-set, List·getD-eq-default}
+use Rattle.laws.proofs.Base.{getD-set-same, getD-set-other, eqb, leb, ltb, eqb-true, eqb-false, ltb-true, ltb-false, leb-true, lt-leb, le-leb, ne-eqb}
 use Rattle.laws.proofs.Tests.{both}
 use Rattle.schedule.specs.Paper.{octetAt, begin, end, width, reserved, told, place}
 use Rattle.schedule.proofs.Places.{place-mono, place-after}

@@ -1,5 +1,6 @@
 -- Octets past the last description and the spare bits of octet 2 change nothing that is read, and a Begin from 1 to End nothing but itself.
-use Rattle.laws.proofs.Base.{_≡_, refl, sym, ap, _∙_, Bool, true, false, List, ℕ, zero, suc, _+_, _*_, _/_, _%_, _≤_, _<_, arith, length, take, length-take, length-set, List·getD-append, List·getD-eq-default, getD-set-same, getD-set-other, getD-take, leb, ltb, le-leb, ltb-true, ltb-false}
+use Rattle.laws.proofs.Base.{_≡_, refl, sym, ap, _∙_, Bool, true, false, List, ℕ, zero, suc, _+_, _*_, _/_, _%_, _≤_, _<_, arith, length, take, length-take}
+use Rattle.laws.proofs.Base.{length-set, List·getD-append, List·getD-eq-default, getD-set-same, getD-set-other, getD-take, leb, ltb, le-leb, ltb-true, ltb-false}
 use Rattle.sizes.specs.Paper.{wholeBlocks}
 use Rattle.laws.specs.Upto.{some, count}
 use Rattle.schedule.specs.Paper.{octetAt, type, begin, end, width, told, new, place, tells, inBounds, read}

@@ -1,5 +1,6 @@
 -- Laws of the octets of descriptions: group by group, slot by slot.
-use Rattle.laws.proofs.Base.{_≡_, refl, sym, ap, _∙_, Bool, true, false, cond, List, [], _∷_, _++_, append-assoc, append-nil, ⊎-elim, ℕ, zero, suc, _+_, _*_, _≤_, _<_, eq-or-lt-of-le, le-of-suc-le-suc, not-suc-le-zero, add-one, arith, length, length-append, sets}
+use Rattle.laws.proofs.Base.{_≡_, refl, sym, ap, _∙_, Bool, true, false, cond, List, [], _∷_, _++_, append-assoc, append-nil, ⊎-elim, ℕ, zero, suc}
+use Rattle.laws.proofs.Base.{_+_, _*_, _≤_, _<_, eq-or-lt-of-le, le-of-suc-le-suc, not-suc-le-zero, add-one, arith, length, length-append, sets}
 use Rattle.laws.specs.Upto.{picked}
 use Rattle.schedule.specs.Paper.{Told, first, again, optional, advised, Shown}
 use Rattle.sender_message.specs.Paper.{octetsOf, octetsOfAll, groupedIn, group, descriptions}

@@ -1,5 +1,6 @@
 -- Laws of octets that are put one after the other over a message of 2B.
-use Rattle.laws.proofs.Base.{_≡_, sym, ap, _∙_, List, [], _∷_, _++_, ℕ, suc, _+_, _-_, _≤_, min, add-zero, add-suc, suc-add, zero-add, add-one, arith, length, take, take-append-add, set, replicate, length-replicate, sets, sets-eq}
+use Rattle.laws.proofs.Base.{_≡_, sym, ap, _∙_, List, [], _∷_, _++_, ℕ, suc, _+_, _-_, _≤_, min, add-zero, add-suc, suc-add, zero-add}
+use Rattle.laws.proofs.Base.{add-one, arith, length, take, take-append-add, set, replicate, length-replicate, sets, sets-eq}
 use Rattle.laws.specs.Upto.{each}
 use Rattle.laws.proofs.Upto.{each-length}
 use Rattle.laws.proofs.Parts.{take-replicate, drop-replicate}

@@ -1,5 +1,6 @@
 -- Laws of dropping the CRs at the end of some septets.
-use Rattle.laws.proofs.Base.{_≡_, refl, ap, _∙_, _&&_, and-false, List, [], _∷_, _++_, ℕ, suc, _-_, _<_, _≤_, sub-zero, suc-sub-suc, arith, eqb, length, getD, take, replicate, length-append, take-suc, take-at, ne-eqb, eqb-true}
+use Rattle.laws.proofs.Base.{_≡_, refl, ap, _∙_, _&&_, and-false, List, [], _∷_, _++_, ℕ, suc, _-_, _<_, _≤_, sub-zero, suc-sub-suc}
+use Rattle.laws.proofs.Base.{arith, eqb, length, getD, take, replicate, length-append, take-suc, take-at, ne-eqb, eqb-true}
 use Rattle.laws.proofs.Tests.{true-or-false, both}
 use Rattle.text.specs.Paper.{cr, trimmed}
 

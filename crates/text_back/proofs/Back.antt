@@ -1,5 +1,7 @@
 -- What the writer writes is read back, the same characters, received whole or up to the last used block.
-use Rattle.laws.proofs.Base.{_≡_, refl, sym, ap, _∙_, false, _||_, or-assoc, List, [], _∷_, _++_, map, map-append, append-assoc, append-nil, ℕ, zero, suc, _+_, _*_, _-_, _/_, _^_, _<_, _≤_, min, zero-lt-suc, le-refl, add-sub-of-le, arith, eqb, lit<, length, getD, take, drop, replicate, length-append, length-map, take-length, take-at, take-take, drop-at, take-append-add, getD-take, eqb-false}
+use Rattle.laws.proofs.Base.{_≡_, refl, sym, ap, _∙_, false, _||_, or-assoc, List, [], _∷_, _++_, map, map-append, append-assoc, append-nil, ℕ, zero}
+use Rattle.laws.proofs.Base.{suc, _+_, _*_, _-_, _/_, _^_, _<_, _≤_, min, zero-lt-suc, le-refl, add-sub-of-le, arith, eqb, lit<, length, getD, take, drop}
+use Rattle.laws.proofs.Base.{replicate, length-append, length-map, take-length, take-at, take-take, drop-at, take-append-add, getD-take, eqb-false}
 use lib.Pow.{pow-add}
 use Rattle.laws.specs.Radix.{value, Below}
 use Rattle.laws.proofs.Parts.{drop-take, take-replicate}

@@ -1,5 +1,6 @@
 -- How the reader's arrays come to hold what is shown.
-use Rattle.laws.proofs.Base.{_≡_, sym, _∙_, List, [], _++_, map, append-nil, ℕ, _-_, _≤_, le-refl, arith, length, take, drop, replicate, length-drop, length-map, drop-of-length-le, take-at, take-append-le, length-take-le}
+use Rattle.laws.proofs.Base.{_≡_, sym, _∙_, List, [], _++_, map, append-nil, ℕ, _-_, _≤_, le-refl, arith, length, take, drop}
+use Rattle.laws.proofs.Base.{replicate, length-drop, length-map, drop-of-length-le, take-at, take-append-le, length-take-le}
 use Rattle.laws.specs.Table.{onto}
 use Rattle.laws.proofs.Table.{onto-room, length-onto}
 use Rattle.alphabet.specs.Paper.{codePoint}

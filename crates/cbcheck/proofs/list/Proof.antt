@@ -1,6 +1,5 @@
 -- `cbcheck::list` meets its contract. The invariant: the text so far and the lines to come are those of the schedule messages.
-use Rattle.laws.proofs.Base.{_-_, arith, length, needs, _≡_, _∙_, now, take, drop}
-use Rattle.firmware.specs.Paper.{heldIn}
+use Rattle.laws.proofs.Base.{_-_, arith, length, needs}
 use Rattle.checker_plans.specs.Coded.{plansOf}
 use Rattle.checker.specs.Inner.{checkBeside}
 use Rattle.block.specs.Paper.{schedule}

@@ -1,5 +1,5 @@
 -- `cbcheck::list_all` meets its contract. The invariant: state, number and text are those that the log so far leaves.
-use Rattle.laws.proofs.Base.{sym, ap, _∙_, _-_, arith, length, length-take-le, needs, not-false, _≡_, take, length-take}
+use Rattle.laws.proofs.Base.{sym, ap, _∙_, _-_, arith, length, length-take-le, needs, not-false}
 use Rattle.checker_plans.specs.Coded.{plansOf}
 use Rattle.checker.specs.Inner.{checkBeside}
 use Rattle.logs.proofs.Turns.{Going, going-start, may-list, goes-higher, turn-told, turn-going}

@@ -23,7 +23,8 @@ loop-again : tie.Need-loop-again Inv-loop μ-loop
 loop-again c =
     let a = c .before .before .before .args in
     let l = c .before .before .loop in
-    (omega arith, sets-turn (λ (k : ℕ). newBits (shownIn (a .slots)) (a .count) k 8) (replicate 104 43) (l .octets) (a .begin) (a .count) (l .j) (c .new-octet .result) (l .inv .1) (c .new-octet .ensures))
+    let bits : ℕ → ℕ = λ (k : ℕ). newBits (shownIn (a .slots)) (a .count) k 8 in
+    (omega arith, sets-turn bits (replicate 104 43) (l .octets) (a .begin) (a .count) (l .j) (c .new-octet .result) (l .inv .1) (c .new-octet .ensures))
 
 returns : tie.Need-returns Inv-loop μ-loop
 returns c =

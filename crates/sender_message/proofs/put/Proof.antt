@@ -1,5 +1,5 @@
 -- `sender_message::put` meets its contract.
-use Rattle.laws.proofs.Base.{refl, ap, _≤_, _<_, _+_, add-one, arith, needs}
+use Rattle.laws.proofs.Base.{refl, ap, _≤_, _+_, add-one, arith, needs}
 use Rattle.sender_message.specs.Coded.{toldAs}
 use Rattle.sender_message.proofs.put as own
 use own.Statement.{statement}

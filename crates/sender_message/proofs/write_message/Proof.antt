@@ -1,5 +1,5 @@
 -- `sender_message::write_message` meets its contract: each return is the first test of the order that holds, and the last writes the message.
-use Rattle.laws.proofs.Base.{_≡_, sym, ap, _∙_, List, ℕ, _+_, _≤_, arith, now, length, take, length-take-le, needs}
+use Rattle.laws.proofs.Base.{_≡_, sym, ap, _∙_, List, ℕ, _≤_, arith, now, length, take, length-take-le, needs}
 use Rattle.laws.proofs.Parts.{copy-whole}
 use Rattle.schedule.specs.Paper.{Shown}
 use Rattle.sender_message.specs as defs
