@@ -37,8 +37,8 @@ kindNumber page = 1
 kindNumber schedule = 2
 
 -- 01 Blocks, 000 Table 1: the sequence code of block i of a message, counted from 0
-abbrev pub codeOf : Kind → ℕ → ℕ
-codeOf k i = cond (eqb i 0) (firstCode k) i
+abbrev pub sequenceCode : Kind → ℕ → ℕ
+sequenceCode k i = cond (eqb i 0) (firstCode k) i
 
 -- 01 Intake: a state: kind (0 none, 1 page, 2 schedule), blocks taken, 88 octets
 pub record Held : Type 0 where
@@ -75,8 +75,8 @@ abbrev pub follows : ℕ → Bool
 follows c = leb 1 c && leb c 3
 
 -- 01 Blocks: codes that are neither 0 to 3, nor 8, nor 15
-abbrev pub reserved : ℕ → Bool
-reserved c = not (leb c 3 || (eqb c 8 || eqb c 15))
+abbrev pub reservedCode : ℕ → Bool
+reservedCode c = not (leb c 3 || (eqb c 8 || eqb c 15))
 
 -- 01 Intake: the answer to a piece: its number, the octets received, the 88 octets, and the state afterwards
 pub record Given : Type 0 where
@@ -119,7 +119,7 @@ abbrev pub faults : ℕ → List ℕ → List (Bool × ℕ)
 faults taken p =
     (not (eqb (length p) 23), 2)
     ∷ (not (eqb (link p) 1), 3)
-    ∷ (reserved (code p), 4)
+    ∷ (reservedCode (code p), 4)
     ∷ (eqb (code p) 15, 5)
     ∷ (follows (code p) && not (eqb (code p) taken), 6)
     ∷ []

@@ -4,7 +4,7 @@ use mathlib.Core.List.{List}
 use Prim.Native.Nat.{ℕ}
 use Rattle.calls.specs.Paper.{CallLeft}
 use Rattle.block.specs.Paper.{Kind, page, schedule}
-use Rattle.block_writer.specs.Paper.{BlocksLeft, written}
+use Rattle.block_writer.specs.Paper.{BlocksLeft, writtenBlocks}
 
 -- 01 Blocks: the kind, page or schedule, as C tells it
 abbrev pub kindIf : Bool → Kind
@@ -16,4 +16,4 @@ blocksLeft w = record { returned = w .number; memory = w .output }
 
 -- 01 Blocks: the block writer for C
 abbrev pub blocksCall : List ℕ → Bool → ℕ → List ℕ → CallLeft
-blocksCall m isSchedule used out = blocksLeft (written m (kindIf isSchedule) used out)
+blocksCall m isSchedule used out = blocksLeft (writtenBlocks m (kindIf isSchedule) used out)

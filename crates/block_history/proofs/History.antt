@@ -6,7 +6,7 @@ use Rattle.laws.specs.Ruled.{ruled}
 use Rattle.laws.proofs.Ruled.{NoneHolds, ruled-passes}
 use Rattle.laws.proofs.Snoc.{length-snoc, snoc-injective, each-snoc}
 use Rattle.laws.proofs.Tests.{true-or-false, both, neither, either}
-use Rattle.block.specs.Paper.{Kind, page, schedule, kindNumber, codeOf, link, mark, code, last, follows, reserved, faults, filled, Held, Given, start, proper, refusal, made, step}
+use Rattle.block.specs.Paper.{Kind, page, schedule, kindNumber, sequenceCode, link, mark, code, last, follows, reservedCode, faults, filled, Held, Given, start, proper, refusal, made, step}
 use Rattle.block.specs.Inner.{outcome}
 use Rattle.block_history.specs.Claims.{completes, IsBlock, Run, Unfinished, Latest, contents, after, answered, holding, refusedBy}
 use Rattle.block_history.specs.Claims.{GoesOn, CompleteExactly, CompleteGives, TakenGives, GoesOnDecided, RefusedGives}
@@ -37,12 +37,12 @@ same-number : {A : Type 0} (by : ℕ → A) (t : ℕ) (p : List ℕ) (x : A) →
 same-number by t p x =
     true-or-false (not (eqb (length p) 23)) (λ a. inl (rw a)) (λ a.
     true-or-false (not (eqb (link p) 1)) (λ b. inl (rw (a, b))) (λ b.
-    true-or-false (reserved (code p)) (λ c. inl (rw (a, b, c))) (λ c.
+    true-or-false (reservedCode (code p)) (λ c. inl (rw (a, b, c))) (λ c.
     true-or-false (eqb (code p) 15) (λ d. inl (rw (a, b, c, d))) (λ d.
     true-or-false (follows (code p) && not (eqb (code p) t)) (λ e. inl (rw (a, b, c, d, e))) (λ e. inr (a, (b, (c, (d, (e, tt))))))))))
 
 -- a code that is neither reserved, nor null, nor a follower's begins a message
-beginning : (c : ℕ) → reserved c ≡ false → eqb c 15 ≡ false → follows c ≡ false → (c ≡ 0) ⊎ (c ≡ 8)
+beginning : (c : ℕ) → reservedCode c ≡ false → eqb c 15 ≡ false → follows c ≡ false → (c ≡ 0) ⊎ (c ≡ 8)
 beginning c r n f =
     true-or-false (eqb c 0) (λ e. inl (eqb-true c 0 e)) (λ e.
     true-or-false (eqb c 8) (λ q. inr (eqb-true c 8 q)) (λ q.
@@ -62,7 +62,7 @@ passing {h} {ps} p s f = go (follows (code p)) refl s
     ours : link p ≡ 1
     ours = eqb-true (link p) 1 (not-false _ (f .1 .0))
 
-    begins : (k : Kind) → code p ≡ codeOf k 0 → View h ps p
+    begins : (k : Kind) → code p ≡ sequenceCode k 0 → View h ps p
     begins k e =
         let b : IsBlock k 0 p = record { whole = whole; ours = ours; numbered = e } in
         joins k ps [] (sym (append-nil ps)) nothing b (join p nothing (fresh (standing-proper s)) b)
@@ -173,7 +173,7 @@ not-completes schedule n a b e = b e
 
 refused-bounds : (p : List ℕ) → (2 ≤ refusedBy p) × (refusedBy p ≤ 6)
 refused-bounds p =
-    let tests : List (Bool × ℕ) = (not (eqb (length p) 23), 2) ∷ (not (eqb (link p) 1), 3) ∷ (reserved (code p), 4) ∷ (eqb (code p) 15, 5) ∷ [] in
+    let tests : List (Bool × ℕ) = (not (eqb (length p) 23), 2) ∷ (not (eqb (link p) 1), 3) ∷ (reservedCode (code p), 4) ∷ (eqb (code p) 15, 5) ∷ [] in
     let b = both _ _ (ruled-passes (λ (n : ℕ). leb 2 n && leb n 6) (λ (n : ℕ). n) (λ (n : ℕ). n) tests 6 (λ n. refl) refl refl) in
     (leb-true 2 _ (b .0), leb-true _ 6 (b .1))
 

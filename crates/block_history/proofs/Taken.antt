@@ -3,11 +3,11 @@ use Rattle.laws.proofs.Base.{_≡_, refl, sym, ap, _∙_, true, false, List, []
 use Rattle.laws.proofs.Base.{take-all, take-append-le, drop-append-le, take-add, eqb, leb, ltb, lit≤, ne-eqb, le-leb, lt-leb, eqb-true, eqb-false, ltb-true, ltb-false}
 use Rattle.laws.proofs.Snoc.{length-snoc}
 use Rattle.laws.proofs.Tests.{true-or-false, le-or-lt}
-use Rattle.block.specs.Paper.{Kind, kindNumber, mark, codeOf, filled, Held, start, proper, handed, last, step}
+use Rattle.block.specs.Paper.{Kind, kindNumber, mark, sequenceCode, filled, Held, start, proper, handed, last, step}
 use Rattle.block.specs.Inner.{outcome}
 use Rattle.block_writer.specs.Paper.{markOf, lastUsed, block, blocks}
 use Rattle.block_writer.proofs.Write.{codeOf-small, length-block, length-blocks}
-use Rattle.block_history.specs.Claims.{IsBlock, contents, after, piece, pieces, BlocksTaken}
+use Rattle.block_history.specs.Claims.{IsBlock, contents, after, piece, firstPieces, BlocksTaken}
 use Rattle.block_history.proofs as own
 use own.Joins.{next-of, Part, nothing, more, join, not-next, contents-snoc}
 use own.History.{after-append, held-part}
@@ -45,39 +45,39 @@ module _ (k : Kind) (used : ℕ) (m : List ℕ) (long : length m ≡ 88) where
   typed : (i : ℕ) → i < 4 → IsBlock k i (piece k used m i) × (mark (piece k used m i) ≡ markOf used i)
   unfolding block
   typed i h =
-      let bits = type-bits (markOf used i) (codeOf k i) (markOf-small used i) (codeOf-small k i h) in
+      let bits = type-bits (markOf used i) (sequenceCode k i) (markOf-small used i) (codeOf-small k i h) in
       rw (piece-block i h)
       (record { whole = length-block k used m long i h; ours = bits .0; numbered = bits .1 }, bits .2)
 
-  length-pieces : (i : ℕ) → length (pieces k used m i) ≡ i
-  unfolding pieces
+  length-pieces : (i : ℕ) → length (firstPieces k used m i) ≡ i
+  unfolding firstPieces
   length-pieces zero = refl
-  length-pieces (suc i) = length-snoc (pieces k used m i) (piece k used m i) ∙ ap suc (length-pieces i)
+  length-pieces (suc i) = length-snoc (firstPieces k used m i) (piece k used m i) ∙ ap suc (length-pieces i)
 
   -- the contents of the first blocks are the front of the message
-  contents-pieces : (i : ℕ) → i ≤ 4 → contents (pieces k used m i) ≡ take (22 * i) m
-  unfolding pieces contents block
+  contents-pieces : (i : ℕ) → i ≤ 4 → contents (firstPieces k used m i) ≡ take (22 * i) m
+  unfolding firstPieces contents block
   contents-pieces zero h = refl
   contents-pieces (suc i) h =
       let e : 22 * suc i ≡ 22 * i + 22 = omega arith in
-      contents-snoc (pieces k used m i) (piece k used m i)
+      contents-snoc (firstPieces k used m i) (piece k used m i)
       ∙ rw (contents-pieces i (le-of-lt h), piece-block i h, e) (sym (take-add (22 * i) 22 m))
 
   module _ (h : Held) (good : proper h ≡ true) (some : 1 ≤ used) (most : used ≤ 88) where
     -- before the last used block, the pieces so far are a part of the message
-    part-pieces : (i : ℕ) → i < lastUsed used → i < 4 → Part k (pieces k used m i)
-    unfolding pieces
+    part-pieces : (i : ℕ) → i < lastUsed used → i < 4 → Part k (firstPieces k used m i)
+    unfolding firstPieces
     part-pieces zero a b = nothing
     part-pieces (suc i) a b =
         let t = typed i (le-of-lt b) in
         let n = length-pieces i in
-        more {u = pieces k used m i} {p = piece k used m i} (part-pieces i (le-of-lt a) (le-of-lt b)) (omega (arith, n)) (rw n (t .0)) (t .1 ∙ rw (lt-leb _ _ a))
+        more {u = firstPieces k used m i} {p = piece k used m i} (part-pieces i (le-of-lt a) (le-of-lt b)) (omega (arith, n)) (rw n (t .0)) (t .1 ∙ rw (lt-leb _ _ a))
 
     -- up to the last used block, a block is added to those before it
     joined : (i : ℕ) → i < 4 → suc i ≤ lastUsed used
-        → step (after h (pieces k used m i)) (piece k used m i)
+        → step (after h (firstPieces k used m i)) (piece k used m i)
         ≡ outcome (last (piece k used m i) (suc i)) (record { kind = kindNumber k; taken = suc i; octets = filled (take (22 * suc i) m) })
-    unfolding pieces
+    unfolding firstPieces
     joined i b a =
         let part = part-pieces i a b in
         let n = length-pieces i in
@@ -86,18 +86,18 @@ module _ (k : Kind) (used : ℕ) (m : List ℕ) (long : length m ≡ 88) where
 
     -- the last used block completes the message
     completed : (i : ℕ) → i < 4 → suc i ≡ lastUsed used
-        → step (after h (pieces k used m i)) (piece k used m i)
+        → step (after h (firstPieces k used m i)) (piece k used m i)
         ≡ handed (record { kind = kindNumber k; taken = suc i; octets = filled (take (22 * suc i) m) })
     completed i b e =
         let marked : mark (piece k used m i) ≡ 1 = typed i b .1 ∙ rw (le-leb (lastUsed used) (suc i) (omega arith)) in
         rw marked at (joined i b (omega arith))
 
     -- after it nothing is held
-    ended : (i : ℕ) → lastUsed used ≤ i → i ≤ 4 → after h (pieces k used m i) ≡ start
-    unfolding pieces after
+    ended : (i : ℕ) → lastUsed used ≤ i → i ≤ 4 → after h (firstPieces k used m i) ≡ start
+    unfolding firstPieces after
     ended zero a b = absurd (omega arith)
     ended (suc i) a b =
-        after-append h (pieces k used m i) (piece k used m i ∷ [])
+        after-append h (firstPieces k used m i) (piece k used m i ∷ [])
         ∙ le-or-lt (lastUsed used) i
         (λ past.
         rw (ended i past (le-of-lt b)) (next-of (not-next k i (piece k used m i) (omega arith) (omega arith) (typed i b .0))))

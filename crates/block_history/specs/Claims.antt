@@ -7,7 +7,7 @@ use Prim.Native.Nat.{ℕ, zero, suc, _*_, _-_, _≤_, _<_}
 use lib.ListN.{length, take, drop, getD}
 use lib.Dec.{eqb, ltb}
 use Rattle.laws.specs.Ruled.{ruled}
-use Rattle.block.specs.Paper.{Kind, page, schedule, link, mark, code, reserved, codeOf, kindNumber, Held, Given, filled, start, proper, refusal, handed, kept, step}
+use Rattle.block.specs.Paper.{Kind, page, schedule, link, mark, code, reservedCode, sequenceCode, kindNumber, Held, Given, filled, start, proper, refusal, handed, kept, step}
 use Rattle.block_writer.specs.Paper.{lastUsed, blocks}
 
 -- 01 Numbers given: the answer to the piece that completes a message
@@ -28,7 +28,7 @@ answered ps p = step (after start ps) p
 pub record IsBlock (k : Kind) (i : ℕ) (p : List ℕ) : Type 0 where
   pub whole : length p ≡ 23
   pub ours : link p ≡ 1
-  pub numbered : code p ≡ codeOf k i
+  pub numbered : code p ≡ sequenceCode k i
 
 -- 00 demand 2: a first block and its consecutive followers, ending at the first last-block mark or at the fourth block
 pub record Run (k : Kind) (r : List (List ℕ)) : Type 0 where
@@ -81,7 +81,7 @@ TakenGives =
 abbrev pub refusedBy : List ℕ → ℕ
 refusedBy p =
     ruled (λ n. n)
-    ((not (eqb (length p) 23), 2) ∷ (not (eqb (link p) 1), 3) ∷ (reserved (code p), 4) ∷ (eqb (code p) 15, 5) ∷ [])
+    ((not (eqb (length p) 23), 2) ∷ (not (eqb (link p) 1), 3) ∷ (reservedCode (code p), 4) ∷ (eqb (code p) 15, 5) ∷ [])
     6
 
 -- 01 Intake: a piece goes on a message: the latest pieces, up to and with it, are a run or unfinished
@@ -101,9 +101,9 @@ abbrev pub piece : Kind → ℕ → List ℕ → ℕ → List ℕ
 piece k used m i = take 23 (drop (23 * i) (blocks k used m 4))
 
 -- the first n of them
-unfoldable pub pieces : Kind → ℕ → List ℕ → ℕ → List (List ℕ)
-pieces k used m zero = []
-pieces k used m (suc n) = pieces k used m n ++ (piece k used m n ∷ [])
+unfoldable pub firstPieces : Kind → ℕ → List ℕ → ℕ → List (List ℕ)
+firstPieces k used m zero = []
+firstPieces k used m (suc n) = firstPieces k used m n ++ (piece k used m n ∷ [])
 
 -- 01 Blocks, Intake: the answer to block i of a written message: taken before the last used block, handed out at it, not next after it
 abbrev pub expected : Kind → ℕ → List ℕ → ℕ → Given
@@ -115,4 +115,4 @@ expected k used m i =
 abbrev pub BlocksTaken : Type 0
 BlocksTaken =
     (k : Kind) (used : ℕ) (m : List ℕ) (h : Held) → length m ≡ 88 → 1 ≤ used → used ≤ 88 → proper h ≡ true → (i : ℕ) → i < 4
-    → step (after h (pieces k used m i)) (piece k used m i) ≡ expected k used m i
+    → step (after h (firstPieces k used m i)) (piece k used m i) ≡ expected k used m i

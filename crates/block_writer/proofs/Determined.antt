@@ -7,7 +7,7 @@ use Rattle.block.specs.Coded.{kindOf}
 use Rattle.block_writer.specs as defs
 use defs.declared.Sent.{Sent}
 use defs.declared.Sent.the-variants.{Done, Refused}
-use defs.Paper.{BlocksLeft, written}
+use defs.Paper.{BlocksLeft, writtenBlocks}
 use defs.Coded.{sentOf}
 
 -- the writer's answer by its number
@@ -23,7 +23,7 @@ sent-output Done o = refl
 sent-output (Refused r) o = refl
 
 pub determined-write-blocks : (m : List ℕ) (k : Kind) (used : ℕ) (out : List ℕ) (r s : Sent) (o q : List ℕ)
-    → sentOf r o ≡ written m (kindOf k) used out → sentOf s q ≡ written m (kindOf k) used out → (r ≡ s) × (o ≡ q)
+    → sentOf r o ≡ writtenBlocks m (kindOf k) used out → sentOf s q ≡ writtenBlocks m (kindOf k) used out → (r ≡ s) × (o ≡ q)
 determined-write-blocks m k used out r s o q a b =
     let e = a ∙ sym b in (
       sym (sentFrom-sentOf r o) ∙ ap (λ (x : BlocksLeft). sentFrom (x .number)) e ∙ sentFrom-sentOf s q,

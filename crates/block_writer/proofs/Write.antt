@@ -4,7 +4,7 @@ use Rattle.laws.proofs.Base.{drop, set, length-append, length-take, length-drop
 use borrow.Rule.Slice.PartMut.{midOf, putMid}
 use Rattle.laws.proofs.Parts.{put-copy}
 use Rattle.laws.proofs.Tests.{true-or-false}
-use Rattle.block.specs.Paper.{Kind, page, schedule, firstCode, codeOf}
+use Rattle.block.specs.Paper.{Kind, page, schedule, firstCode, sequenceCode}
 use Rattle.block_writer.specs.Paper.{typeOf, block, blocks}
 
 firstCode-small : (k : Kind) → firstCode k ≤ 8
@@ -12,7 +12,7 @@ firstCode-small page = lit≤ tt
 firstCode-small schedule = lit≤ tt
 
 -- a sequence code fits its four bits
-pub codeOf-small : (k : Kind) (i : ℕ) → i < 4 → codeOf k i ≤ 8
+pub codeOf-small : (k : Kind) (i : ℕ) → i < 4 → sequenceCode k i ≤ 8
 codeOf-small k i h = true-or-false (eqb i 0) (λ e. rw e (firstCode-small k)) (λ e. rw e (omega arith))
 
 module _ (k : Kind) (used : ℕ) (m : List ℕ) (long : length m ≡ 88) where

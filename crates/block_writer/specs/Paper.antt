@@ -5,7 +5,7 @@ use Prim.Native.Nat.{ℕ, zero, suc, _+_, _*_, _/_}
 use lib.ListN.{length, take, drop}
 use lib.Dec.{eqb, leb, ltb}
 use Rattle.laws.specs.Ruled.{ruled}
-use Rattle.block.specs.Paper.{Kind, codeOf}
+use Rattle.block.specs.Paper.{Kind, sequenceCode}
 
 -- 01 Blocks: the number of the last used block, from 1: used ÷ 22, rounded up
 abbrev pub lastUsed : ℕ → ℕ
@@ -17,7 +17,7 @@ markOf used i = cond (leb (lastUsed used) (suc i)) 1 0
 
 -- 01 Blocks: the type octet of block i, counted from 0: spare bit 0, discriminator 01, LB, code
 abbrev pub typeOf : Kind → ℕ → ℕ → ℕ
-typeOf k used i = 32 + 16 * markOf used i + codeOf k i
+typeOf k used i = 32 + 16 * markOf used i + sequenceCode k i
 
 -- 01 Blocks: block i of a message m, counted from 0: its type octet and its 22 octets
 unfoldable pub block : Kind → ℕ → List ℕ → ℕ → List ℕ
@@ -34,8 +34,8 @@ pub record BlocksLeft : Type 0 where
   pub output : List ℕ
 
 -- 01 Blocks, Order: the block writer; a refusal leaves the output as it was
-unfoldable pub written : List ℕ → Kind → ℕ → List ℕ → BlocksLeft
-written m k used out =
+unfoldable pub writtenBlocks : List ℕ → Kind → ℕ → List ℕ → BlocksLeft
+writtenBlocks m k used out =
     ruled (λ (n : ℕ). record { number = n; output = out })
     ((not (eqb (length out) 92), 15) ∷ (not (eqb (length m) 88), 16) ∷ (eqb used 0 || ltb 88 used, 17) ∷ [])
     (record { number = 0; output = blocks k used m 4 })

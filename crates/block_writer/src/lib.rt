@@ -1,9 +1,9 @@
 // Messages cut into blocks.
 ghost use mathlib.Core.Path.{_≡_};
 ghost use Prim.Native.Nat.{_<_, _≤_};
-ghost use Rattle.block.specs.Paper.{codeOf};
+ghost use Rattle.block.specs.Paper.{sequenceCode};
 ghost use Rattle.block.specs.Coded.{kindOf};
-ghost use Rattle.block_writer.specs.Paper.{typeOf, written};
+ghost use Rattle.block_writer.specs.Paper.{typeOf, writtenBlocks};
 ghost use Rattle.block_writer.specs.Coded.{sentOf};
 use block::BLOCK;
 use block::BLOCKS;
@@ -20,7 +20,7 @@ pub enum Sent {
 
 // Writes the 88 octets of message as four blocks, marked as last from the block of the last used octet on.
 pub fn write_blocks(message: &[u8], kind: Kind, used: usize, out: &mut [u8]) -> Sent
-    ensures { λ r. ⌜ sentOf r (now (out .exit)) ≡ written (now (message .entry)) (kindOf kind) used (now (out .entry)) ⌝ }
+    ensures { λ r. ⌜ sentOf r (now (out .exit)) ≡ writtenBlocks (now (message .entry)) (kindOf kind) used (now (out .entry)) ⌝ }
 {
     if out.len() != BLOCKS {
         return Sent::Refused(Refusal::OutputLength);
@@ -61,7 +61,7 @@ fn block_type(kind: Kind, used: usize, i: usize) -> u8
 // The sequence code of block i, counted from 0.
 fn sequence_code(kind: Kind, i: usize) -> u8
     requires { ⌜ i < 4 ⌝ }
-    ensures { λ r. ⌜ r ≡ codeOf (kindOf kind) i ⌝ }
+    ensures { λ r. ⌜ r ≡ sequenceCode (kindOf kind) i ⌝ }
 {
     if i != 0 {
         return i as u8;

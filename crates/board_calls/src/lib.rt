@@ -5,18 +5,16 @@ ghost use lib.ListN.{length, take};
 ghost use Rattle.board.specs.Coded.{idsOf};
 ghost use Rattle.board_calls.specs.Paper.{decideCall};
 use board::Decision;
+use board::WANTED;
 use board::Wanted;
 use board_held::Held;
 use page::MessageId;
-
-// 01 Numbers given, 42: the most identifiers that are wanted at a time.
-const WANTED: usize = 64;
 
 // A wanted list as the board takes it: the first 64 identifiers, and how many there are.
 fn wanted_of(list: &[u16]) -> Wanted
     ensures { λ r. ⌜ (r .count ≡ length (now (list .entry))) × (length (now (list .entry)) ≤ 64 → take (length (now (list .entry))) (idsOf (r .ids)) ≡ now (list .entry)) ⌝ }
 {
-    let mut ids = [MessageId(0); 64];
+    let mut ids = [MessageId(0); WANTED];
     let mut i = 0;
     while i < WANTED {
         if i >= list.len() {

@@ -1,5 +1,6 @@
 -- Laws of a set of slots held: case by case, and what entering a slot does to it.
-use Rattle.laws.proofs.Base.{_≡_, sym, ap, _∙_, true, false, _&&_, and-false, _⊎_, ⊎-elim, ℕ, _+_, _*_, _-_, _/_, _%_, _^_, _≤_, _<_, eq-or-lt-of-le, one-mul, zero-div, arith, eqb, leb, lit<, le-leb, lt-leb, eqb-true, eqb-false, eq-eqb}
+use Rattle.laws.proofs.Base.{_≡_, sym, ap, _∙_, true, false, _&&_, and-false, _⊎_, ⊎-elim, ℕ, _+_, _*_, _-_, _/_, _%_, _^_, _≤_, _<_}
+use Rattle.laws.proofs.Base.{eq-or-lt-of-le, one-mul, zero-div, arith, eqb, leb, lit<, le-leb, lt-leb, eqb-true, eqb-false, eq-eqb}
 use lib.Pow.{shl-exact}
 use Rattle.laws.proofs.Tests.{true-or-false, le-or-lt}
 use Rattle.board_held.specs.Paper.{isHeld, enter}

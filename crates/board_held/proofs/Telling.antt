@@ -1,5 +1,6 @@
 -- What a schedule tells of a slot, by way of the places of its descriptions.
-use Rattle.laws.proofs.Base.{_≡_, refl, sym, ap, _∙_, Bool, true, false, _&&_, _||_, not, List, ℕ, suc, _+_, _-_, _≤_, _<_, arith, eqb, leb, eqb-true, eqb-false, leb-true, leb-false, ne-eqb, not-false}
+use Rattle.laws.proofs.Base.{_≡_, refl, sym, ap, _∙_, Bool, true, false, _&&_, _||_, not, List, ℕ, suc, _+_, _-_, _≤_, _<_}
+use Rattle.laws.proofs.Base.{arith, eqb, leb, eqb-true, eqb-false, leb-true, leb-false, ne-eqb, not-false}
 use Rattle.laws.proofs.Ruled.{others, unrefused}
 use Rattle.laws.proofs.Tests.{true-or-false, both, neither}
 use Rattle.laws.proofs.Upto.{some-false}

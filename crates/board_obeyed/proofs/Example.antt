@@ -9,7 +9,7 @@ use Rattle.schedule.specs.Paper.{again, new, place, tells, read}
 use Rattle.checker.specs.Paper.{check, isTrue}
 use Rattle.board.specs.Paper.{Wanted, isWanted, reads, decide}
 use Rattle.board_held.specs.Paper.{isHeld, enter, tellsOf, enteredUnder}
-use Rattle.board_obeyed.specs.Claims.{obeyed, Obeys, WantedPage, WantedExactly, Board, after, ended, HeldTruly, Leaves, GetsIn, fresh, noneLost}
+use Rattle.board_obeyed.specs.Claims.{obeyed, Obeys, WantedPage, WantedExactly, Board, boardAfter, ended, HeldTruly, Leaves, GetsIn, fresh, noneLost}
 use Rattle.board_obeyed.proofs.Obeyed.{none-held-truly, period-with-losses, stays-true, reads-once}
 use Rattle.laws.specs.Upto as upto
 
@@ -98,7 +98,7 @@ low-reads = refl
 
 -- at the end of the period the board has the one wanted page, got once
 pub ended-whole : ended current message 22 wanted noneLost fresh ≡ record { held = 1; got = pageAt current 0 ∷ [] }
-unfolding after decide reads tellsOf enteredUnder enter isWanted isHeld some read upto.some upto.count new place tells wholeBlocks
+unfolding boardAfter decide reads tellsOf enteredUnder enter isWanted isHeld some read upto.some upto.count new place tells wholeBlocks
 ended-whole = refl
 
 -- a board that joins after slot 1 gets the page from the repeat in slot 2, and enters it under slot 1
@@ -109,11 +109,11 @@ abbrev joined : Board
 joined = record { held = 1; got = pageAt current 1 ∷ [] }
 
 pub ended-late : ended current message 22 wanted late fresh ≡ joined
-unfolding after decide reads tellsOf enteredUnder enter isWanted isHeld some read upto.some upto.count new place tells wholeBlocks
+unfolding boardAfter decide reads tellsOf enteredUnder enter isWanted isHeld some read upto.some upto.count new place tells wholeBlocks
 ended-late = refl
 
 gets-late : GetsIn current message 22 wanted late fresh 1
-unfolding after decide reads tellsOf isWanted isHeld some read upto.some upto.count new place tells wholeBlocks
+unfolding boardAfter decide reads tellsOf isWanted isHeld some read upto.some upto.count new place tells wholeBlocks
 gets-late = record { page = refl; named = refl; heard = refl; reads = refl }
 
 told-again : tells message 5 ≡ again (lowestAt current 1)
@@ -121,7 +121,7 @@ unfolding new place tells upto.count lowestSlot holds samePage firstFrom
 told-again = refl
 
 -- so it skips the repeat in slot 6
-pub skips-late : decide (obeyed message 22) 6 wanted (after current message 22 wanted late fresh 5 .held) ≡ record { number = 0; read = false }
+pub skips-late : decide (obeyed message 22) 6 wanted (boardAfter current message 22 wanted late fresh 5 .held) ≡ record { number = 0; read = false }
 skips-late = reads-once current previous message 22 wanted obeys late fresh 1 5 gets-late (lit< tt) (lit< tt) told-again
 
 -- what it ends with is true of it, so that a period may begin with it
@@ -140,5 +140,5 @@ unfolding check planNumber bad some read upto.some upto.count upto.lowest new pl
 advising-accepted = refl
 
 pub ended-advised : ended current advising 22 wanted (λ (i : ℕ). not (eqb i 1)) fresh ≡ record { held = 2; got = pageAt current 1 ∷ [] }
-unfolding after decide reads tellsOf enteredUnder enter isWanted isHeld some read upto.some upto.count new place tells wholeBlocks
+unfolding boardAfter decide reads tellsOf enteredUnder enter isWanted isHeld some read upto.some upto.count new place tells wholeBlocks
 ended-advised = refl

@@ -23,7 +23,7 @@ use Rattle.board.specs.Paper.{Wanted, isWanted, Decided, firstMatches, readsFor
 use Rattle.board.proofs.Cases.{decide-reads, reads-told}
 use Rattle.board.proofs.Matching.{low15-wanted, wanted-matches}
 use Rattle.board_obeyed.specs.Claims.{obeyed, Obeys, WantedPage, WantedExactly, Wakes, Why, marked, led, repeated, WakesOnly, Board, fresh, Holds, Has, entering}
-use Rattle.board_obeyed.specs.Claims.{passing, after, LowestSlot, HeldTruly, namesPage, callsFor, PeriodWithLosses, StaysTrue, ReadsOnce, noneLost, Period}
+use Rattle.board_obeyed.specs.Claims.{passing, boardAfter, LowestSlot, HeldTruly, namesPage, callsFor, PeriodWithLosses, StaysTrue, ReadsOnce, noneLost, Period}
 
 -- what is proved of pages that match in 15 bits holds of those whose identifier is wanted, all 16 bits of it
 pub wanted-exactly : (c : Plan) (w : Wanted) (i : ℕ) → WantedExactly c w i → WantedPage c w i
@@ -192,8 +192,8 @@ module _ (c p : Plan) (m : List ℕ) (received : ℕ) (w : Wanted) (o : Obeys c 
   with-page i b = entering c m received i b
 
   -- a slot that isn't lost passes
-  heard : (lost : ℕ → Bool) (b : Board) (i : ℕ) → lost i ≡ false → after c m received w lost b (suc i) ≡ pass i (after c m received w lost b i)
-  unfolding after
+  heard : (lost : ℕ → Bool) (b : Board) (i : ℕ) → lost i ≡ false → boardAfter c m received w lost b (suc i) ≡ pass i (boardAfter c m received w lost b i)
+  unfolding boardAfter
   heard lost b i e = rw e
 
   -- a board that reads a slot with a page gets it
@@ -221,32 +221,32 @@ module _ (c p : Plan) (m : List ℕ) (received : ℕ) (w : Wanted) (o : Obeys c 
 
     module _ (lost : ℕ → Bool) (b : Board) where
       -- it stays from slot n of the period to slot k, whatever is lost
-      kept : (n k : ℕ) → n ≤ k → k ≤ c .count → P (after c m received w lost b n) → P (after c m received w lost b k)
-      unfolding after
+      kept : (n k : ℕ) → n ≤ k → k ≤ c .count → P (boardAfter c m received w lost b n) → P (boardAfter c m received w lost b k)
+      unfolding boardAfter
       kept n zero l far q = ⊎-elim (λ e. rw e at q) (λ s. absurd (not-suc-le-zero s)) (eq-or-lt-of-le l)
       kept n (suc k) l far q =
-          ⊎-elim (λ e. subst (λ (x : ℕ). P (after c m received w lost b x)) e q)
+          ⊎-elim (λ e. subst (λ (x : ℕ). P (boardAfter c m received w lost b x)) e q)
           (λ s.
           let before = kept n k (le-of-suc-le-suc s) (omega arith) q in
-          true-or-false (lost k) (λ e. rw e before) (λ e. rw e (passes k (after c m received w lost b k) far before)))
+          true-or-false (lost k) (λ e. rw e before) (λ e. rw e (passes k (boardAfter c m received w lost b k) far before)))
           (eq-or-lt-of-le l)
 
       -- and from its begin
-      kept-all : (k : ℕ) → k ≤ c .count → P b → P (after c m received w lost b k)
-      unfolding after
+      kept-all : (k : ℕ) → k ≤ c .count → P b → P (boardAfter c m received w lost b k)
+      unfolding boardAfter
       kept-all k far q = kept 0 k (omega arith) far q
 
   -- the lowest slot of a page that is held stays held
   held-on : (lost : ℕ → Bool) (b : Board) (i n k : ℕ) → n ≤ k → k ≤ c .count
-      → Holds (after c m received w lost b n) (lowestAt c i) → Holds (after c m received w lost b k) (lowestAt c i)
+      → Holds (boardAfter c m received w lost b n) (lowestAt c i) → Holds (boardAfter c m received w lost b k) (lowestAt c i)
   held-on lost b i = kept (λ (x : Board). Holds x (lowestAt c i)) (stays-held (lowestAt c i)) lost b
 
   pub reads-once : ReadsOnce c m received w
   reads-once lost b i k g l far e =
       let near : i < c .count = omega arith in
-      let now : Board = after c m received w lost b i in
-      let h : ℕ = after c m received w lost b k .held in
-      let entered : Holds (after c m received w lost b (suc i)) (lowestAt c i) =
+      let now : Board = boardAfter c m received w lost b i in
+      let h : ℕ = boardAfter c m received w lost b k .held in
+      let entered : Holds (boardAfter c m received w lost b (suc i)) (lowestAt c i) =
       rw (heard lost b i (g .heard), gets i now (g .reads) (g .page))
       (holds-lowest i (now .held) near (g .page) (entered-lowest i near (g .named)))
       in
@@ -317,15 +317,15 @@ module _ (c p : Plan) (m : List ℕ) (received : ℕ) (w : Wanted) (o : Obeys c 
       }
     where
       now : Board
-      now = after c m received w lost b i
+      now = boardAfter c m received w lost b i
 
-      passed : after c m received w lost b (suc i) ≡ pass i now
+      passed : boardAfter c m received w lost b (suc i) ≡ pass i now
       passed = heard lost b i e
 
       true-now : HeldTruly c now
       true-now = kept-all (HeldTruly c) true-with-page lost b i (omega (arith, q .below)) true-held
 
-      ends : under i ≡ lowestAt c i → Met (now .held) i → Holds (after c m received w lost b (c .count)) (lowestAt c i)
+      ends : under i ≡ lowestAt c i → Met (now .held) i → Holds (boardAfter c m received w lost b (c .count)) (lowestAt c i)
       ends u k = held-on lost b i (suc i) (c .count) (q .below) (omega arith) (rw passed (holds-after i now q u k))
 
   -- a period without losses: the lowest slot of every wanted page is heard, and told as first or advised
@@ -338,6 +338,6 @@ module _ (c p : Plan) (m : List ℕ) (received : ℕ) (w : Wanted) (o : Obeys c 
       let h = period-with-losses noneLost fresh (none-held-truly c fresh refl) j wanted refl in
       let called : callsFor (tells m j) ≡ true = ⊎-elim (ap callsFor) (ap callsFor) (t .slots j (lowest .below) .lowest-slot (lowest .page) (lowest .own)) in
       record {
-        has = has-same (after c m received w noneLost fresh (c .count)) (pageAt c j) (pageAt c i) (a .same) (h .has called);
+        has = has-same (boardAfter c m received w noneLost fresh (c .count)) (pageAt c j) (pageAt c i) (a .same) (h .has called);
         holds = rw (a .own) at (h .holds-own (lowest .own));
       }

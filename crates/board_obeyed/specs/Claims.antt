@@ -87,14 +87,14 @@ passing c m received w i b =
     cond (decide (obeyed m received) (suc i) w (b .held) .read) (getting c m received i b) b
 
 -- 00 demand 3: a board b after the first n slots of a period. A slot that is lost to its radio gives it nothing, whether it reads or not
-unfoldable pub after : Plan → List ℕ → ℕ → Wanted → (ℕ → Bool) → Board → ℕ → Board
-after c m received w lost b zero = b
-after c m received w lost b (suc n) =
-    cond (lost n) (after c m received w lost b n) (passing c m received w n (after c m received w lost b n))
+unfoldable pub boardAfter : Plan → List ℕ → ℕ → Wanted → (ℕ → Bool) → Board → ℕ → Board
+boardAfter c m received w lost b zero = b
+boardAfter c m received w lost b (suc n) =
+    cond (lost n) (boardAfter c m received w lost b n) (passing c m received w n (boardAfter c m received w lost b n))
 
 -- 00 demand 3: and at the end of the period, after all slots of the plan
 abbrev pub ended : Plan → List ℕ → ℕ → Wanted → (ℕ → Bool) → Board → Board
-ended c m received w lost b = after c m received w lost b (c .count)
+ended c m received w lost b = boardAfter c m received w lost b (c .count)
 
 -- 01 Truthful: slot i is the lowest with its page
 pub record LowestSlot (c : Plan) (i : ℕ) : Type 0 where
@@ -143,13 +143,13 @@ pub record GetsIn (c : Plan) (m : List ℕ) (received : ℕ) (w : Wanted) (lost 
   pub page : entryAt c i .kind ≡ 2
   pub named : namesPage (tells m i) ≡ true
   pub heard : lost i ≡ false
-  pub reads : decide (obeyed m received) (suc i) w (after c m received w lost b i .held) .read ≡ true
+  pub reads : decide (obeyed m received) (suc i) w (boardAfter c m received w lost b i .held) .read ≡ true
 
 -- 00 demand 3: from then on the board skips every slot k that is told as a repeat of that page, whatever it held before and lost since
 abbrev pub ReadsOnce : Plan → List ℕ → ℕ → Wanted → Type 0
 ReadsOnce c m received w =
     (lost : ℕ → Bool) (b : Board) (i k : ℕ) → GetsIn c m received w lost b i → i < k → k < c .count → tells m k ≡ again (lowestAt c i)
-    → decide (obeyed m received) (suc k) w (after c m received w lost b k .held) ≡ record { number = 0; read = false }
+    → decide (obeyed m received) (suc k) w (boardAfter c m received w lost b k .held) ≡ record { number = 0; read = false }
 
 -- 00 demand 3: a radio that loses no slot
 abbrev pub noneLost : ℕ → Bool

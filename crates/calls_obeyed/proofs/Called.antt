@@ -2,20 +2,18 @@
 use Rattle.laws.proofs.Base.{_≡_, refl, sym, ap, _∙_, Bool, true, false, not, List, _∷_, ℕ, zero, suc, _*_, _%_, arith, eqb, length}
 use Rattle.laws.proofs.Ruled.{NoneHolds, ruled-map, none-holds, ruled-none, unless0-numbered}
 use Rattle.plan_read.specs.Paper.{readPlan}
-use Rattle.plan_slots.specs.Paper.{lowestAt}
-use Rattle.sender_message.specs.Paper.{Writing, unwritten}
+use Rattle.sender_message.specs.Paper.{MessageLeft, unwritten}
 use Rattle.sender.specs.Paper.{write}
 use Rattle.checker.specs.Paper.{Checked, unchecked, check}
 use Rattle.block_writer.specs.Paper.{lastUsed}
-use Rattle.board.specs.Paper.{Decided}
 use Rattle.delivery.proofs.Accepted.{ours-accepted}
-use Rattle.board_obeyed.specs.Claims.{Obeys, after}
+use Rattle.board_obeyed.specs.Claims.{Obeys, boardAfter}
 use Rattle.board_obeyed.proofs.Obeyed.{wakes, wakes-only}
 use Rattle.calls.specs.Paper.{bitOf}
 use Rattle.plan_calls.specs.Paper.{fileFaults, writtenFrom, checkedBeside, packedChecked, checkScheduleCall}
 use Rattle.board_calls.specs.Paper.{packedDecided, decidedFor}
 use Rattle.calls_unpacked.proofs.Unpacked.{unpacked-write-schedule, unpacked-check-schedule, unpacked-decide}
-use Rattle.calls_obeyed.specs.Claims.{planIn, listed, CallsAccepted, ObeysCalls, CallsWake, CallsWakeOnly, afterSlots, CallsPeriod}
+use Rattle.calls_obeyed.specs.Claims.{planIn, wantedList, CallsAccepted, ObeysCalls, CallsWake, CallsWakeOnly, afterSlots, CallsPeriod}
 
 -- no test on two files holds
 abbrev Good : List ℕ → List ℕ → Type 0
@@ -29,7 +27,7 @@ module _ (c p : List ℕ) where
       let w = write (planIn c) (planIn p) b o in
       let h =
       none-holds ts (w .number) ((λ t e. omega arith), (unless0-numbered (readPlan c .number), (unless0-numbered (readPlan p .number), tt)))
-      (sym (ruled-map (λ (x : Writing). x .number) (unwritten o) ts w) ∙ z) in
+      (sym (ruled-map (λ (x : MessageLeft). x .number) (unwritten o) ts w) ∙ z) in
       (h .1, ruled-none (unwritten o) ts w h)
 
   -- beside good files the checker answers as for their plans
@@ -55,23 +53,23 @@ calls-accepted c p b o z =
     let number : writtenFrom c p b o .number ≡ 0 = sym (unpacked-write-schedule c p b o .0) ∙ z in
     let w = writes c p b o number in
     let same : writtenFrom c p b o ≡ write (planIn c) (planIn p) b o = w .1 in
-    let a = ours-accepted (planIn c) (planIn p) b o (sym (ap (λ (x : Writing). x .number) same) ∙ number) in
+    let a = ours-accepted (planIn c) (planIn p) b o (sym (ap (λ (x : MessageLeft). x .number) same) ∙ number) in
     rw (unpacked-write-schedule c p b o .1, same)
     (record {
       whole = true-call c p (w .0) (write (planIn c) (planIn p) b o .output) 88 (a .whole);
       blocks = true-call c p (w .0) (write (planIn c) (planIn p) b o .output) (22 * lastUsed (write (planIn c) (planIn p) b o .used)) (a .used);
     })
 
-pub obeys : (c p m : List ℕ) (received : ℕ) (w : List ℕ) → ObeysCalls c p m received w → Obeys (planIn c) (planIn p) m received (listed w)
+pub obeys : (c p m : List ℕ) (received : ℕ) (w : List ℕ) → ObeysCalls c p m received w → Obeys (planIn c) (planIn p) m received (wantedList w)
 obeys c p m received w o = record { accepted = accepts c p m received (o .accepted); few = o .few }
 
 pub calls-wake : CallsWake
 calls-wake c p m received w o held i q l =
-    ap packedDecided (wakes (planIn c) (planIn p) m received (listed w) (obeys c p m received w o) held i q l)
+    ap packedDecided (wakes (planIn c) (planIn p) m received (wantedList w) (obeys c p m received w o) held i q l)
 
 pub calls-wake-only : CallsWakeOnly
 calls-wake-only c p m received w o held i l e =
-    wakes-only (planIn c) (planIn p) m received (listed w) (obeys c p m received w o) held i l
+    wakes-only (planIn c) (planIn p) m received (wantedList w) (obeys c p m received w o) held i l
     (bit-read (decidedFor true m received (suc i) w held .read) (sym (unpacked-decide true m received (suc i) w held .1) ∙ e))
   where
     bit-read : (b : Bool) → bitOf b ≡ 1 → b ≡ true
@@ -84,8 +82,8 @@ read-one true = refl
 read-one false = refl
 
 pub calls-period : CallsPeriod
-unfolding after afterSlots
+unfolding boardAfter afterSlots
 calls-period c m received w lost b zero = refl
 calls-period c m received w lost b (suc n) =
-    let held = after c m received (listed w) lost b n .held in
+    let held = boardAfter c m received (wantedList w) lost b n .held in
     rw (calls-period c m received w lost b n, unpacked-decide true m received (suc n) w held .1, read-one (decidedFor true m received (suc n) w held .read))

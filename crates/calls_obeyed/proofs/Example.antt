@@ -16,7 +16,7 @@ use Rattle.board_held.specs.Paper.{isHeld, tellsOf}
 use Rattle.plan_calls.specs.Paper.{writeScheduleCall}
 use Rattle.board_calls.specs.Paper.{decideCall}
 use Rattle.board_obeyed.specs.Claims.{WantedPage}
-use Rattle.calls_obeyed.specs.Claims.{planIn, listed, ObeysCalls}
+use Rattle.calls_obeyed.specs.Claims.{planIn, wantedList, ObeysCalls}
 
 -- 01 Where the edges are: a plan file of two slots, both serial number 0010, identifier 8001, parameter 11; and one of no slots
 abbrev current : List ℕ
@@ -40,7 +40,7 @@ unfolding readPlan entriesIn entryIn check planNumber bad some read upto.some up
 obeys = record { accepted = refl; few = lit≤ tt }
 
 -- slot 1 is the lowest of a page whose identifier 8001 matches in 15 bits
-pub first-wanted : WantedPage (planIn current) (listed (1 ∷ [])) 0
+pub first-wanted : WantedPage (planIn current) (wantedList (1 ∷ [])) 0
 unfolding readPlan entriesIn entryIn bad some isWanted
 first-wanted = record { below = lit< tt; page = refl; wanted = refl }
 

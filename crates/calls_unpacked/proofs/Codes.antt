@@ -5,7 +5,7 @@ use Rattle.laws.specs.Upto.{some}
 use Rattle.laws.proofs.Upto.{some-at}
 use Rattle.laws.proofs.Outcome.{Outcome, refuses, passes, outcome}
 use Rattle.laws.proofs.Tests.{both, neither}
-use Rattle.schedule.specs.Paper.{begin, end, inBounds, tells, again, isFirst, falseIn, falseRepeat, faults, slotOf, Shown, shown, Given, next, noMore, refusal, givenAt, given}
+use Rattle.schedule.specs.Paper.{begin, end, inBounds, tells, again, isFirst, falseIn, falseRepeat, faults, slotOf, Shown, shown, GivenSlot, next, noMore, refusal, givenAt, given}
 use Rattle.schedule_order.proofs.Ranks.{order-below}
 use Rattle.calls_unpacked.specs.Claims.{RepeatCode}
 
@@ -39,10 +39,10 @@ repeat-code m received k i n s g t = go (outcome (faults m received))
 
     go : Outcome (faults m received) → (1 ≤ n) × (n ≤ 47)
     go (refuses j a f) =
-        let refused : refusal j ≡ next i s = sym (f Given refusal (givenAt m k)) ∙ g in
+        let refused : refusal j ≡ next i s = sym (f GivenSlot refusal (givenAt m k)) ∙ g in
         let z : _≡_ {A = ℕ} 0 1 = cc in
         absurd (omega arith)
     go (passes h f) =
         let range = both (leb 1 (begin m)) (leb (begin m) (end m) && leb (end m) 48) (not-false (inBounds m) (h .1 .1 .1 .0)) in
         let few = leb-true (end m) 48 (both (leb (begin m) (end m)) (leb (end m) 48) (range .1) .1) in
-        at (sym (f Given refusal (givenAt m k)) ∙ g) (h .1 .1 .1 .1 .1 .1 .0) few (ltb k (end m)) refl
+        at (sym (f GivenSlot refusal (givenAt m k)) ∙ g) (h .1 .1 .1 .1 .1 .1 .0) few (ltb k (end m)) refl

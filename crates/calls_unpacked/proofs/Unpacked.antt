@@ -10,12 +10,11 @@ use Rattle.calls.proofs.Packed.{apart, bit-most}
 use Rattle.block.specs.Paper.{refusal as refused, step}
 use Rattle.block_history.proofs.History.{number-small}
 use Rattle.firmware.specs.Paper.{heldIn, moved, intakeCall}
-use Rattle.plan.specs.Paper.{Plan, planNumber, filledPlan, entriesWithin, bad}
-use Rattle.plan_read.specs.Paper.{Read as PlanRead, listed, faults as planFaults, refusal as planRefusal, readPlan}
+use Rattle.plan.specs.Paper.{Plan, planNumber, filledPlan}
+use Rattle.plan_read.specs.Paper.{PlanRead as PlanRead, listed, faults as planFaults, refusal as planRefusal, readPlan}
 use Rattle.plan.proofs.GoodPlan.{plan-low}
-use Rattle.schedule.specs.Paper.{end, faults, Read, unread, good, read, Given, next, noMore, refusal, givenAt, given, Shown}
-use Rattle.page.specs.Paper.{Heading}
-use Rattle.text.specs.Paper.{Writing, written, writerTests, usedOctets, pageOf, Reading, reading, readerTests, shown, trimmed, septetsReceived}
+use Rattle.schedule.specs.Paper.{end, faults, Read, unread, good, read, GivenSlot, next, noMore, refusal, givenAt, given}
+use Rattle.text.specs.Paper.{PageLeft, writtenPage, writerTests, usedOctets, pageOctets, Reading, reading, readerTests, shownText, trimmed, septetsReceived}
 use Rattle.sender_message.specs.Paper as told
 use Rattle.sender.specs.Paper as sender
 use Rattle.checker.specs.Paper as checker
@@ -27,7 +26,7 @@ use Rattle.schedule_calls.proofs.Given.{ends-small, slotNumber, slot-small}
 use Rattle.plan_calls.specs.Paper.{fileFaults, writtenFrom, checkedBeside}
 use Rattle.board_calls.specs.Paper.{decidedFor}
 use Rattle.calls_unpacked.specs.Claims.{UnpackedIntake, UnpackedWriteText, UnpackedReadText, UnpackedReadPlan, UnpackedWriteSchedule}
-use Rattle.calls_unpacked.specs.Claims.{UnpackedCheckSchedule, UnpackedDecide, UnpackedReadSchedule, UnpackedNext, UnpackedRefusal, answeredCall}
+use Rattle.calls_unpacked.specs.Claims.{UnpackedCheckSchedule, UnpackedDecide, UnpackedReadSchedule, UnpackedNext, UnpackedRefusal}
 
 -- the numbers of some tests fit eight bits
 abbrev fitting : List (Bool × ℕ) → Bool
@@ -49,18 +48,18 @@ ruled-fitting {A} number by ts x back f small = go (ruling by ts x)
     go (passes h e) = rw e small
 
 pub unpacked-write-text : UnpackedWriteText
-unfolding written
+unfolding writtenPage
 unpacked-write-text h t p =
-    apart (written h t p .number) (written h t p .used)
-    (ruled-fitting (λ (w : Writing). w .number) (λ (n : ℕ). record { number = n; used = 0; page = p }) (writerTests h t p)
-    (record { number = 0; used = usedOctets t; page = pageOf h t }) (λ n l. l) refl (lit< tt))
+    apart (writtenPage h t p .number) (writtenPage h t p .used)
+    (ruled-fitting (λ (w : PageLeft). w .number) (λ (n : ℕ). record { number = n; used = 0; page = p }) (writerTests h t p)
+    (record { number = 0; used = usedOctets t; page = pageOctets h t }) (λ n l. l) refl (lit< tt))
 
 pub unpacked-read-text : UnpackedReadText
-unfolding reading shown
+unfolding reading shownText
 unpacked-read-text p n t =
     apart (reading p n t .number) (reading p n t .characters)
     (ruled-fitting (λ (w : Reading). w .number) (λ (m : ℕ). record { number = m; characters = 0; text = t }) (readerTests p n t)
-    (shown (trimmed (septetsReceived p n))) (λ n l. l) refl (lit< tt))
+    (shownText (trimmed (septetsReceived p n))) (λ n l. l) refl (lit< tt))
 
 plan-fits : (f : List ℕ) → readPlan f .number < 256
 unfolding readPlan
@@ -82,7 +81,7 @@ unpacked-read-schedule m n =
     (omega arith, omega arith, omega arith)
 
 -- the number of a refusal that is given; 0 for none
-abbrev refusalNumber : Given → ℕ
+abbrev refusalNumber : GivenSlot → ℕ
 refusalNumber (next i s) = 0
 refusalNumber noMore = 0
 refusalNumber (refusal n) = n
@@ -116,13 +115,13 @@ files-fit c p = rw (lt-ltb (readPlan c .number) 256 (plan-fits c), lt-ltb (readP
 message-fits : (c p : Plan) (b : ℕ) (o : List ℕ) → sender.write c p b o .number < 256
 unfolding sender.write
 message-fits c p b o =
-    ruled-fitting (λ (w : told.Writing). w .number) (told.unwritten o) (sender.faults c p b o) (sender.message c p b) (λ n l. l)
+    ruled-fitting (λ (w : told.MessageLeft). w .number) (told.unwritten o) (sender.faults c p b o) (sender.message c p b) (λ n l. l)
     (rw (plan-small c, plan-small p)) (lit< tt)
 
 pub unpacked-write-schedule : UnpackedWriteSchedule
 unpacked-write-schedule c p b o =
     apart (writtenFrom c p b o .number) (writtenFrom c p b o .used)
-    (ruled-fitting (λ (w : told.Writing). w .number) (told.unwritten o) ((not (eqb (length o) 88), 15) ∷ fileFaults c p)
+    (ruled-fitting (λ (w : told.MessageLeft). w .number) (told.unwritten o) ((not (eqb (length o) 88), 15) ∷ fileFaults c p)
     (sender.write (readPlan c .plan) (readPlan p .plan) b o) (λ n l. l) (files-fit c p) (message-fits (readPlan c .plan) (readPlan p .plan) b o))
 
 check-fits : (c p : Plan) (m : List ℕ) (n : ℕ) → checker.check c p m n .number < 256

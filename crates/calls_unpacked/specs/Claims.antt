@@ -13,7 +13,7 @@ use Rattle.block.specs.Paper as block
 use Rattle.page.specs.Paper.{Heading}
 use Rattle.plan_read.specs.Paper.{readPlan}
 use Rattle.schedule.specs.Paper.{end, new, tells, again, Read, read, Shown, next, refusal, given}
-use Rattle.text.specs.Paper.{written, reading}
+use Rattle.text.specs.Paper.{writtenPage, reading}
 use Rattle.firmware.specs.Paper.{heldIn, intakeCall}
 use Rattle.text_calls.specs.Paper.{writeCall, readCall}
 use Rattle.page_calls.specs.Paper.{headed, headerCall}
@@ -33,7 +33,7 @@ UnpackedIntake = (s p o : List ℕ) → TakenApart (intakeCall s p o .returned) 
 
 -- DECISIONS, Several numbers in one: number and used octets, of cb_write_text
 abbrev pub UnpackedWriteText : Type 0
-UnpackedWriteText = (h : Heading) (t p : List ℕ) → TakenApart (writeCall h t p .returned) (written h t p .number) (written h t p .used)
+UnpackedWriteText = (h : Heading) (t p : List ℕ) → TakenApart (writeCall h t p .returned) (writtenPage h t p .number) (writtenPage h t p .used)
 
 -- DECISIONS, Several numbers in one: number and characters, of cb_read_text
 abbrev pub UnpackedReadText : Type 0

@@ -4,7 +4,7 @@ use Rattle.laws.proofs.Tests.{true-or-false}
 use Rattle.sizes.specs.Paper.{wholeBlocks}
 use Rattle.alphabet.specs.Paper.{codePoint}
 use Rattle.page.specs.Paper.{header, octet}
-use Rattle.text.specs.Paper.{Reading, septetsReceived, trimmed, shown, reading}
+use Rattle.text.specs.Paper.{Reading, septetsReceived, trimmed, shownText, reading}
 use Rattle.text.proofs.Cases.{reading-13, reading-0}
 use Rattle.text_back.proofs.Reader.{characters-bounded}
 use Rattle.cbtext.specs.Paper.{textPart, hexPart, body}
@@ -20,15 +20,15 @@ pub record Reads (p : List ℕ) (n : ℕ) (t : List ℕ) (count : ℕ) : Type 0 
   pub shows : body p n ≡ textPart (take count t)
 
 -- the code points shown are at the front
-shown-front : (s t : List ℕ) (count : ℕ) → record { number = 0; characters = count; text = t } ≡ shown s → take count t ≡ map codePoint s
-unfolding shown
+shown-front : (s t : List ℕ) (count : ℕ) → record { number = 0; characters = count; text = t } ≡ shownText s → take count t ≡ map codePoint s
+unfolding shownText
 shown-front s t count e =
     let n : count ≡ length s = ap (λ (r : Reading). r .characters) e in
     let text : t ≡ map codePoint s ++ replicate (93 - length s) 0 = ap (λ (r : Reading). r .text) e in
     rw (n, text) (take-at (map codePoint s) (replicate (93 - length s) 0) (length s) (length-map s codePoint))
 
-shown-number : (s : List ℕ) → shown s .number ≡ 0
-unfolding shown
+shown-number : (s : List ℕ) → shownText s .number ≡ 0
+unfolding shownText
 shown-number s = refl
 
 module _ (p : List ℕ) (n : ℕ) (t₀ t : List ℕ) (size : length t₀ ≡ 93) (long : length p ≡ 88) (blocks : wholeBlocks n ≡ true) where

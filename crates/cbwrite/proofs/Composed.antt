@@ -4,9 +4,9 @@ use Rattle.refusals.specs.Number.{numberOf}
 use Rattle.refusals.specs.declared.Refusal.{Refusal}
 use Rattle.refusals.proofs.Inverse.{numberOf-positive}
 use Rattle.block.specs.Paper.{schedule}
-use Rattle.block_writer.specs.Paper.{written}
+use Rattle.block_writer.specs.Paper.{writtenBlocks}
 use Rattle.plan.specs.Paper.{Plan}
-use Rattle.sender_message.specs.Paper.{Writing}
+use Rattle.sender_message.specs.Paper.{MessageLeft}
 use Rattle.sender_message.specs.Coded.{writingOf}
 use Rattle.sender_message.specs.declared.Writing.{Writing as Answer}
 use Rattle.sender_message.specs.declared.Writing.the-variants.{Written, Refused}
@@ -17,9 +17,9 @@ module _ (c p : Plan) (b : ℕ) (o m : List ℕ) {answer : Answer} (wrote : writ
   -- what the output is by a known answer
   by : (known : Answer) → answer ≡ known → sentBy (writingOf known m) o ≡ composed c p b o
   unfolding composed
-  by known told = ap (λ (w : Writing). sentBy w o) (ap (λ (a : Answer). writingOf a m) (sym told) ∙ wrote)
+  by known told = ap (λ (w : MessageLeft). sentBy w o) (ap (λ (a : Answer). writingOf a m) (sym told) ∙ wrote)
 
-  pub written-composed : {used : ℕ} → answer ≡ Written used → written m schedule used o ≡ composed c p b o
+  pub written-composed : {used : ℕ} → answer ≡ Written used → writtenBlocks m schedule used o ≡ composed c p b o
   written-composed {used} told = by (Written used) told
 
   pub refused-composed : {why : Refusal} → answer ≡ Refused why → record { number = numberOf why; output = o } ≡ composed c p b o

@@ -6,7 +6,6 @@ use Rattle.laws.proofs.Lowest.{Lowest, none-passes, first-passes, lowest-is, lo
 use Rattle.laws.proofs.Ruled.{Other, others, ruled-passes, unrefused, unless0-numbered}
 use Rattle.laws.proofs.Tests.{true-or-false, both}
 use Rattle.schedule.specs.Paper.{shown, begin, end, Read, unread, good, inBounds, read, faults as readFaults}
-use Rattle.schedule.proofs.Answers.{faults-some}
 use Rattle.plan.specs.Paper.{Plan, planNumber}
 use Rattle.checker.specs.Paper.{Checked, unchecked, untrueAt, untrue, isTrue, verdict, faults, check}
 use Rattle.checker_truth.specs.Claims.{Truthful, Names, end-differs, slot-untrue, AcceptedExactly, NeverObeyed}

@@ -10,7 +10,7 @@ use Rattle.plan.specs.Paper.{Plan, planNumber}
 use Rattle.plan.proofs.GoodPlan.{good-counted}
 use Rattle.schedule.specs.Paper.{Shown, shown, end, tells, new, falseIn, falseRepeat, newPast, Read, unread, good, read}
 use Rattle.schedule.specs.Paper as schedule
-use Rattle.sender_message.specs.Paper.{descriptions, messageOf, Writing}
+use Rattle.sender_message.specs.Paper.{descriptions, messageOf, MessageLeft}
 use Rattle.sender.specs.Paper.{planned, write}
 use Rattle.sender.proofs.Cases.{Accepts, accepts}
 use Rattle.checker.specs.Paper.{isTrue, untrue, unchecked, verdict, check}
@@ -83,7 +83,7 @@ module _ (c p : Plan) (b : ℕ) (o : List ℕ) (z : write c p b o .number ≡ 0)
   pub used-bounds : (1 ≤ write c p b o .used) × (write c p b o .used ≤ 88)
   used-bounds =
       let w = accepts c p b o z in
-      let e : write c p b o .used ≡ 8 + length (descriptions (planned c p) (c .count)) = ap (λ (x : Writing). x .used) (w .writes) in
+      let e : write c p b o .used ≡ 8 + length (descriptions (planned c p) (c .count)) = ap (λ (x : MessageLeft). x .used) (w .writes) in
       omega (arith, w .few)
 
   -- the message is accepted wherever its used octets are received
@@ -91,8 +91,8 @@ module _ (c p : Plan) (b : ℕ) (o : List ℕ) (z : write c p b o .number ≡ 0)
   accepted-received received whole-blocks enough =
       let w = accepts c p b o z in
       let f = fits c p b o w in
-      let e : write c p b o .used ≡ 8 + length (descriptions (planned c p) (c .count)) = ap (λ (x : Writing). x .used) (w .writes) in
-      ap (λ (x : Writing). check c p (x .output) received) (w .writes)
+      let e : write c p b o .used ≡ 8 + length (descriptions (planned c p) (c .count)) = ap (λ (x : MessageLeft). x .used) (w .writes) in
+      ap (λ (x : MessageLeft). check c p (x .output) received) (w .writes)
       ∙ checks c p b (messageOf b (planned c p) (c .count)) (w .current) (w .previous) f (reads-back b (planned c p) (c .count) f) received whole-blocks (omega arith)
 
 pub ours-accepted : OursAccepted

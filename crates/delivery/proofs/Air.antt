@@ -4,14 +4,14 @@ use Rattle.laws.proofs.Base.{length-append, length-replicate, replicate-append-
 use Rattle.laws.specs.Upto.{each}
 use Rattle.laws.proofs.Parts.{take-replicate}
 use Rattle.block.specs.Paper.{Kind, page, schedule, kindNumber, Held, Given, filled, start, proper, step}
-use Rattle.block_writer.specs.Paper.{lastUsed, blocks, BlocksLeft, written}
-use Rattle.block_history.specs.Claims.{after, piece, pieces, expected, completes}
+use Rattle.block_writer.specs.Paper.{lastUsed, blocks, BlocksLeft, writtenBlocks}
+use Rattle.block_history.specs.Claims.{after, piece, firstPieces, expected, completes}
 use Rattle.block_history.proofs.History.{standing, standing-proper, number-handed}
 use Rattle.block_history.proofs.Taken.{blocks-taken}
 use Rattle.page.specs.Paper.{Heading, header}
 use Rattle.text.specs.Paper as text
 use Rattle.text_back.proofs.Back.{written-length, used-bounds as text-used, text-back-blocks, heading-back}
-use Rattle.sender_message.specs.Paper.{usedPart, padded, Writing}
+use Rattle.sender_message.specs.Paper.{usedPart, padded, MessageLeft}
 use Rattle.sender_message.proofs.Message.{used-length}
 use Rattle.sender.specs.Paper.{planned, write}
 use Rattle.sender.proofs.Cases.{accepts}
@@ -24,8 +24,8 @@ use own.Accepted.{fits, used-bounds, ours-accepted}
 pub started-proper : StartedProper
 started-proper ps = standing-proper (standing ps)
 
-pieces-each : (k : Kind) (used : ℕ) (m : List ℕ) (n : ℕ) → pieces k used m n ≡ each (blockOf (blocks k used m 4)) n
-unfolding pieces each
+pieces-each : (k : Kind) (used : ℕ) (m : List ℕ) (n : ℕ) → firstPieces k used m n ≡ each (blockOf (blocks k used m 4)) n
+unfolding firstPieces each
 pieces-each k used m zero = refl
 pieces-each k used m (suc n) = rw (pieces-each k used m n)
 
@@ -44,8 +44,8 @@ module _ (m : List ℕ) (used : ℕ) (whole : length m ≡ 88) (most : used ≤ 
   handed-agrees = take-at cut _ (22 * lastUsed used) cut-length
 
 module _ (k : Kind) (m : List ℕ) (used : ℕ) (o : List ℕ) (h : Held) (whole : length m ≡ 88) (some : 1 ≤ used) (most : used ≤ 88) (room : length o ≡ 92) (good : proper h ≡ true) where
-  blocks-written : written m k used o ≡ record { number = 0; output = blocks k used m 4 }
-  unfolding written
+  blocks-written : writtenBlocks m k used o ≡ record { number = 0; output = blocks k used m 4 }
+  unfolding writtenBlocks
   blocks-written = simp (eq-eqb (length o) 92 room, eq-eqb (length m) 88 whole, ne-eqb used 0 (omega arith), le-ltb 88 used most)
 
   taken-expected : (i : ℕ) → i < 4 → takenAt k m used o h i ≡ expected k used m i
@@ -76,9 +76,9 @@ module _ (k : Kind) (m : List ℕ) (used : ℕ) (o : List ℕ) (h : Held) (whole
       }
 
 -- a page with text, taken in order
-module _ (heading : Heading) (t p o : List ℕ) (h : Held) (z : text.written heading t p .number ≡ 0) (room : length o ≡ 92) (good : proper h ≡ true) where
-  abbrev w : text.Writing
-  w = text.written heading t p
+module _ (heading : Heading) (t p o : List ℕ) (h : Held) (z : text.writtenPage heading t p .number ≡ 0) (room : length o ≡ 92) (good : proper h ≡ true) where
+  abbrev w : text.PageLeft
+  w = text.writtenPage heading t p
 
   whole : length (w .page) ≡ 88
   whole = written-length heading t p z
@@ -137,8 +137,8 @@ ours-delivered c p b m o h z room good =
     let bounds = used-bounds c p b m z in
     let k = 22 * lastUsed (w .used) in
     let x = usedPart b (planned c p) (c .count) in
-    let output : w .output ≡ padded x = ap (λ (y : Writing). y .output) (v .writes) in
-    let used : w .used ≡ length x = ap (λ (y : Writing). y .used) (v .writes) ∙ sym (used-length b (planned c p) (c .count)) in
+    let output : w .output ≡ padded x = ap (λ (y : MessageLeft). y .output) (v .writes) in
+    let used : w .used ≡ length x = ap (λ (y : MessageLeft). y .used) (v .writes) ∙ sym (used-length b (planned c p) (c .count)) in
     let whole : length (w .output) ≡ 88 = ap length output ∙ reads-back b (planned c p) (c .count) (fits c p b m v) .whole in
     let sent : Carried schedule (w .output) (w .used) o h = carries schedule (w .output) (w .used) o h whole (bounds .0) (bounds .1) room good in
     let kept : filled (take k (w .output)) ≡ w .output =

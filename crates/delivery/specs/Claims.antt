@@ -6,11 +6,11 @@ use Prim.Native.Nat.{ℕ, _+_, _≤_, _<_, _*_, suc, _-_}
 use lib.ListN.{length, take, drop, replicate}
 use Rattle.laws.specs.Radix.{Below}
 use Rattle.schedule.specs.Paper.{Told, first, again, optional, advised, Shown, type, begin, end, new, tells, place}
-use Rattle.sender_message.specs.Paper.{descriptions, messageOf, Writing}
+use Rattle.sender_message.specs.Paper.{descriptions, messageOf, MessageLeft}
 use Rattle.sender.specs.Paper.{write}
 use Rattle.plan.specs.Paper.{Plan}
 use Rattle.block.specs.Paper.{Kind, page, schedule, Held, Given, filled, start, proper, step}
-use Rattle.block_writer.specs.Paper.{lastUsed, written}
+use Rattle.block_writer.specs.Paper.{lastUsed, writtenBlocks}
 use Rattle.checker.specs.Paper.{check, unchecked}
 use Rattle.laws.specs.Upto.{each}
 use Rattle.page.specs.Paper.{Heading, header}
@@ -49,7 +49,7 @@ abbrev pub ReadsBack : Type 0
 ReadsBack = (b : ℕ) (s : ℕ → Shown) (n : ℕ) → Fits b s n → Reads (messageOf b s n) b s n
 
 -- 01 The plan, our writer: its message is accepted with 88 received, and with 22 times the block that holds the last used octet
-pub record Accepted (c p : Plan) (w : Writing) : Type 0 where
+pub record Accepted (c p : Plan) (w : MessageLeft) : Type 0 where
   pub whole : check c p (w .output) 88 ≡ unchecked 0
   pub used : check c p (w .output) (22 * lastUsed (w .used)) ≡ unchecked 0
 
@@ -67,7 +67,7 @@ blockOf o i = take 23 (drop (23 * i) o)
 
 -- 01 Blocks, Intake: a message m of kind k is cut into blocks by way of the output o: the answer to block i, after the blocks before it, of a board in state h
 abbrev pub takenAt : Kind → List ℕ → ℕ → List ℕ → Held → ℕ → Given
-takenAt k m used o h i = step (after h (each (blockOf (written m k used o .output)) i)) (blockOf (written m k used o .output) i)
+takenAt k m used o h i = step (after h (each (blockOf (writtenBlocks m k used o .output)) i)) (blockOf (writtenBlocks m k used o .output) i)
 
 -- 01 Blocks, Intake: the answer to the last used block
 abbrev pub handedOut : Kind → List ℕ → ℕ → List ℕ → Held → Given
@@ -76,7 +76,7 @@ handedOut k m used o h = takenAt k m used o h (lastUsed used - 1)
 -- 01 Blocks, Intake: what a board in state h answers to the four blocks
 pub record Carried (k : Kind) (m : List ℕ) (used : ℕ) (o : List ℕ) (h : Held) : Type 0 where
   -- all four are written
-  pub done : written m k used o .number ≡ 0
+  pub done : writtenBlocks m k used o .number ≡ 0
   -- those before the last used one are only taken
   pub taken : (i : ℕ) → suc i < lastUsed used → takenAt k m used o h i .number ≡ 1
   -- that one hands the message out, as far as its blocks go and then 2B
@@ -87,11 +87,11 @@ pub record Carried (k : Kind) (m : List ℕ) (used : ℕ) (o : List ℕ) (h : He
 
 -- 01 Page and text: what a board in state h is handed of a text t that is written to a page p
 abbrev pub textHanded : Heading → List ℕ → List ℕ → List ℕ → Held → Given
-textHanded heading t p o h = handedOut page (text.written heading t p .page) (text.written heading t p .used) o h
+textHanded heading t p o h = handedOut page (text.writtenPage heading t p .page) (text.writtenPage heading t p .used) o h
 
 -- 01 Page and text: that text, sent to a board in state h, is heard
 pub record Heard (heading : Heading) (t p o u : List ℕ) (h : Held) : Type 0 where
-  pub carried : Carried page (text.written heading t p .page) (text.written heading t p .used) o h
+  pub carried : Carried page (text.writtenPage heading t p .page) (text.writtenPage heading t p .used) o h
   -- read into u, it is the text that was written
   pub reads : text.reading (textHanded heading t p o h .octets) (textHanded heading t p o h .received) u
       ≡ record { number = 0; characters = length t; text = t ++ replicate (93 - length t) 0 }
@@ -99,13 +99,13 @@ pub record Heard (heading : Heading) (t p o u : List ℕ) (h : Held) : Type 0 wh
 -- 00 demand 2: text written, cut into blocks and taken in order gives the same text, on any board whose state is proper
 abbrev pub OverTheAir : Type 0
 OverTheAir =
-    (heading : Heading) (t p o u : List ℕ) (h : Held) → text.written heading t p .number ≡ 0 → length o ≡ 92 → length u ≡ 93 → proper h ≡ true
+    (heading : Heading) (t p o u : List ℕ) (h : Held) → text.writtenPage heading t p .number ≡ 0 → length o ≡ 92 → length u ≡ 93 → proper h ≡ true
     → Heard heading t p o u h
 
 -- 01 Page and text: its page is handed out with the serial number, identifier, scheme and parameter that were written, on any such board
 abbrev pub HeaderOverTheAir : Type 0
 HeaderOverTheAir =
-    (heading : Heading) (t p o : List ℕ) (h : Held) → text.written heading t p .number ≡ 0 → length o ≡ 92 → proper h ≡ true
+    (heading : Heading) (t p o : List ℕ) (h : Held) → text.writtenPage heading t p .number ≡ 0 → length o ≡ 92 → proper h ≡ true
     → (textHanded heading t p o h .number ≡ completes page) × (header (take 6 (textHanded heading t p o h .octets)) ≡ heading)
 
 -- 01 The plan, our writer: what a board in state h is handed of the schedule message of c and p with Begin b, written to m

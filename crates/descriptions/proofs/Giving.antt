@@ -5,7 +5,7 @@ use Rattle.laws.specs.Upto.{each}
 use Rattle.laws.proofs.Tests.{true-or-false, le-or-lt, below-other}
 use Rattle.laws.proofs.Upto.{each-length, each-at}
 use Rattle.schedule.specs.declared.Description.the-variants.{Optional}
-use Rattle.schedule.specs.Paper.{end, Given, next, noMore, refusal, givenAt, given}
+use Rattle.schedule.specs.Paper.{end, GivenSlot, next, noMore, refusal, givenAt, given}
 use Rattle.schedule.specs.Coded.{shownOf}
 use Rattle.schedule.specs.Inner.{zeroed}
 use Rattle.descriptions.specs as defs
@@ -23,12 +23,12 @@ abbrev blank : NumberedCode
 blank = record { number = 0; slot = record { new = false; description = Optional } }
 
 -- which of the three answers it is, and the number of a refusal
-abbrev kind : Given → ℕ
+abbrev kind : GivenSlot → ℕ
 kind (next n s) = 0
 kind noMore = 1
 kind (refusal n) = 2
 
-abbrev by : Given → ℕ
+abbrev by : GivenSlot → ℕ
 by (next n s) = 0
 by noMore = 0
 by (refusal n) = n

@@ -2,7 +2,7 @@
 use Rattle.laws.proofs.Base.{_≡_, sym, ap, _∙_, List, ℕ, _+_, _≤_, _<_, _^_, arith, lt-ltb, le-ltb}
 use Rattle.laws.proofs.Tests.{le-or-lt}
 use Rattle.schedule_given.specs.declared.Given.{Given as GivenCode}
-use Rattle.schedule.specs.Paper.{end, Given, refusal, givenAt, given}
+use Rattle.schedule.specs.Paper.{end, GivenSlot, refusal, givenAt, given}
 use Rattle.schedule_given.specs.Coded.{givenOf}
 use Rattle.schedule.proofs.Answers.{Answered, answered}
 use Rattle.schedule.proofs.Answers as answers
@@ -22,11 +22,11 @@ module _ (m : List ℕ) (received : ℕ) where
   told = go (answered m received)
     where
       go : Answered m received → Told
-      go (answers.refused n s h) = refused n (λ i. h Given refusal (givenAt m i)) (h Ordered unordered (inOrder m))
-      go (answers.sound w) = whole (w .last) (λ i. w .answers Given refusal (givenAt m i)) (w .answers Ordered unordered (inOrder m))
+      go (answers.refused n s h) = refused n (λ i. h GivenSlot refusal (givenAt m i)) (h Ordered unordered (inOrder m))
+      go (answers.sound w) = whole (w .last) (λ i. w .answers GivenSlot refusal (givenAt m i)) (w .answers Ordered unordered (inOrder m))
 
   -- a call at place k that gives g and passes n
-  module _ (k : ℕ) (g : Given) (n : ℕ) (gives : g ≡ given m received k) (passes : n ≡ passed g) where
+  module _ (k : ℕ) (g : GivenSlot) (n : ℕ) (gives : g ≡ given m received k) (passes : n ≡ passed g) where
     -- a slot is given below End only, so the place past it has room
     pub step-fits : k < 2 ^ 64 → k + n < 2 ^ 64
     step-fits fits = rw (passes, gives) (go told)
@@ -45,4 +45,4 @@ module _ (m : List ℕ) (received : ℕ) where
     step-gave = sym (ap givenOf gave) ∙ ap (λ (s : Stepped). s .given) step
 
     pub step-left : t .place ≡ k + passed (givenOf x)
-    step-left = ap (λ (s : Stepped). s .place) step ∙ ap (λ (y : Given). k + passed y) (sym step-gave)
+    step-left = ap (λ (s : Stepped). s .place) step ∙ ap (λ (y : GivenSlot). k + passed y) (sym step-gave)

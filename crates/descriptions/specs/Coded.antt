@@ -4,7 +4,7 @@ use Prim.Native.Nat.{ℕ}
 use denote.Ref.{now}
 use Rattle.refusals.specs.Number.{numberOf}
 use Rattle.schedule_given.specs.declared.Given.{Given as GivenCode}
-use Rattle.schedule.specs.Paper.{Given}
+use Rattle.schedule.specs.Paper.{GivenSlot}
 use Rattle.schedule.specs.Coded.{shownOf}
 use Rattle.schedule_given.specs.Coded.{givenOf}
 use Rattle.descriptions.specs.declared.Numbered.{Numbered as NumberedCode}
@@ -20,7 +20,7 @@ steppedOf s = record { given = givenOf (s .given); place = s .place }
 
 -- 01 Schedule message: a call of the reader that keeps the lent message: what it gives, and the reader that it leaves
 pub record Called : Type 0 where
-  pub given : Given
+  pub given : GivenSlot
   pub left : Descriptions
 
 abbrev pub calledOf : GivenCode → Descriptions → Called

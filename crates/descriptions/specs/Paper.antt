@@ -4,15 +4,15 @@ use mathlib.Core.List.{List}
 use Prim.Native.Nat.{ℕ, zero, suc, _+_}
 use Rattle.laws.specs.Ruled.{ruled}
 use Rattle.laws.specs.Upto.{each}
-use Rattle.schedule.specs.Paper.{optional, end, faults, Shown, Given, next, noMore, refusal, givenAt, given}
+use Rattle.schedule.specs.Paper.{optional, end, faults, Shown, GivenSlot, next, noMore, refusal, givenAt, given}
 
 -- 01 Schedule message: a call of the reader of descriptions: what it gives, and the place that it leaves; a place is how many slots are given already
 pub record Stepped : Type 0 where
-  pub given : Given
+  pub given : GivenSlot
   pub place : ℕ
 
 -- 01 Schedule message: a call passes the slot that it gives; after the last, and over a refused message, it passes none
-abbrev pub passed : Given → ℕ
+abbrev pub passed : GivenSlot → ℕ
 passed (next n s) = 1
 passed noMore = 0
 passed (refusal n) = 0
@@ -43,7 +43,7 @@ abbrev pub nothing : Numbered
 nothing = record { number = 0; shown = record { new = false; told = optional } }
 
 -- 01 Schedule message: the slot that is given, if one is
-abbrev pub entry : Given → Numbered
+abbrev pub entry : GivenSlot → Numbered
 entry (next n s) = record { number = n; shown = s }
 entry noMore = nothing
 entry (refusal n) = nothing

@@ -6,7 +6,7 @@ use Rattle.laws.specs.Search as search
 use Rattle.laws.specs.Upto.{some, count, picked, each}
 use Rattle.alphabet.specs.Paper.{alphabet, septetOf}
 use Rattle.page.specs.Paper.{headerOctets, samePage}
-use Rattle.text.specs.Paper.{septets, packed, pageOf, badParameter, foreign, endsInCr, written}
+use Rattle.text.specs.Paper.{septets, packed, pageOctets, badParameter, foreign, endsInCr, writtenPage}
 use Rattle.block_writer.specs.Paper.{block, blocks}
 use Rattle.block_writer.specs.Paper as cut
 use Rattle.plan.specs.Paper.{bad, planNumber}
@@ -20,6 +20,6 @@ use Rattle.edges.specs.Claims.{Edges}
 
 pub edges : Edges
 unfolding wholeBlocks value digits search.some search.firstFrom some count picked each alphabet septetOf headerOctets samePage septets packed
-    pageOf badParameter foreign endsInCr written block blocks cut.written bad planNumber holds lowestSlot hasPage new place order tells
+    pageOctets badParameter foreign endsInCr writtenPage block blocks cut.writtenBlocks bad planNumber holds lowestSlot hasPage new place order tells
     read plannedTold newAt octetsOfAll descriptions newBits usedPart padded write isWanted isHeld tellsOf reads decide
 edges = refl

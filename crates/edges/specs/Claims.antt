@@ -11,21 +11,21 @@ use Rattle.block.specs.Paper as block
 use Rattle.block_writer.specs.Paper as writer
 use Rattle.plan.specs.Paper.{Entry, Plan, filledPlan, empty}
 use Rattle.schedule.specs.Paper as schedule
-use Rattle.sender_message.specs.Paper.{Writing, padded}
+use Rattle.sender_message.specs.Paper.{MessageLeft, padded}
 use Rattle.sender.specs.Paper as sender
 use Rattle.board.specs.Paper.{Decided, decide}
 
 -- 01 Blocks: the type octets of the four blocks of a page with some used octets
 abbrev pub types : ℕ → List ℕ
-types used = each (λ (i : ℕ). getD (writer.written (replicate 88 0) block.page used (replicate 92 0) .output) (23 * i) 0) 4
+types used = each (λ (i : ℕ). getD (writer.writtenBlocks (replicate 88 0) block.page used (replicate 92 0) .output) (23 * i) 0) 4
 
 -- 01 Page and text: serial number 0010, identifier 8001, scheme 00, parameter 11
-abbrev pub heading : Heading
-heading = record { serial = 0x0010; id = 0x8001; scheme = 0x00; parameter = 0x11 }
+abbrev pub pageHeading : Heading
+pageHeading = record { serial = 0x0010; id = 0x8001; scheme = 0x00; parameter = 0x11 }
 
 -- 01 Page and text: a text written with that header
-abbrev pub textWritten : List ℕ → text.Writing
-textWritten t = text.written heading t (replicate 88 0)
+abbrev pub textWritten : List ℕ → text.PageLeft
+textWritten t = text.writtenPage pageHeading t (replicate 88 0)
 
 -- 01 Page and text: the number given for a text of some characters A, and how many content octets it uses
 abbrev pub contentUsed : ℕ → List ℕ
@@ -44,11 +44,11 @@ abbrev pub twoSlots : Plan
 twoSlots = filledPlan (slot 0x8001 ∷ slot 0x8001 ∷ [])
 
 -- 01 The plan: the schedule message with Begin 1 beside a previous plan
-abbrev pub scheduled : Plan → Plan → Writing
+abbrev pub scheduled : Plan → Plan → MessageLeft
 scheduled c p = sender.write c p 1 (replicate 88 0)
 
 -- 01 The plan: the writer's number, the used octets and the message
-abbrev pub whole : Writing → List ℕ
+abbrev pub whole : MessageLeft → List ℕ
 whole w = w .number ∷ w .used ∷ w .output
 
 -- 01 The plan: n page slots with k different pages, one after the other and then from the first again
@@ -64,8 +64,8 @@ abbrev pub sent : ℕ → ℕ → List ℕ → List ℕ
 sent x y o = padded (x ∷ y ∷ replicate 6 0 ++ o)
 
 -- 01 Schedule message: what reading it gives, all received: number, Begin, End
-abbrev pub readOf : List ℕ → List ℕ
-readOf m = schedule.read m 88 .number ∷ schedule.read m 88 .begin ∷ schedule.read m 88 .end ∷ []
+abbrev pub readNumbers : List ℕ → List ℕ
+readNumbers m = schedule.read m 88 .number ∷ schedule.read m 88 .begin ∷ schedule.read m 88 .end ∷ []
 
 -- 01 Decision: slot 1 of the two-slot plan's message with one wanted identifier and nothing held
 abbrev pub decided : ℕ → Decided
@@ -73,8 +73,8 @@ decided wanted =
     decide (record { known = true; message = scheduled twoSlots empty .output; received = 88 }) 1 (record { count = 1; ids = wanted ∷ [] }) 0
 
 -- 01 Decision: its number, and 1 for read or 0 for skip
-abbrev pub decidedOf : ℕ → List ℕ
-decidedOf wanted = decided wanted .number ∷ cond (decided wanted .read) 1 0 ∷ []
+abbrev pub decisionNumbers : ℕ → List ℕ
+decisionNumbers wanted = decided wanted .number ∷ cond (decided wanted .read) 1 0 ∷ []
 
 -- 01 Where the edges are, line by line
 abbrev pub cases : List (List ℕ × List ℕ)
@@ -99,13 +99,13 @@ cases =
     ∷ (fitting (pages 40 40), 0 ∷ (8 + 80) ∷ [])
     ∷ (fitting (pages 41 41), 34 ∷ 0 ∷ [])
     -- End octet C2 is End 2; 31 gives 21; first octet 41 gives 20; a repeat in slot 1 gives 24
-    ∷ (readOf (sent 0x01 0xc2 (0x40 ∷ 0x40 ∷ [])), 0 ∷ 1 ∷ 2 ∷ [])
-    ∷ (readOf (sent 0x01 0x31 []), 21 ∷ 0 ∷ 0 ∷ [])
-    ∷ (readOf (sent 0x41 0x02 (0x40 ∷ 0x40 ∷ [])), 20 ∷ 0 ∷ 0 ∷ [])
-    ∷ (readOf (sent 0x01 0x01 (0x01 ∷ [])), 24 ∷ 0 ∷ 0 ∷ [])
+    ∷ (readNumbers (sent 0x01 0xc2 (0x40 ∷ 0x40 ∷ [])), 0 ∷ 1 ∷ 2 ∷ [])
+    ∷ (readNumbers (sent 0x01 0x31 []), 21 ∷ 0 ∷ 0 ∷ [])
+    ∷ (readNumbers (sent 0x41 0x02 (0x40 ∷ 0x40 ∷ [])), 20 ∷ 0 ∷ 0 ∷ [])
+    ∷ (readNumbers (sent 0x01 0x01 (0x01 ∷ [])), 24 ∷ 0 ∷ 0 ∷ [])
     -- wanted 0001 reads the slot of identifier 8001; and for its identifier, as wanted 0002 skips it
-    ∷ (decidedOf 0x0001, 0 ∷ 1 ∷ [])
-    ∷ (decidedOf 0x0002, 0 ∷ 0 ∷ [])
+    ∷ (decisionNumbers 0x0001, 0 ∷ 1 ∷ [])
+    ∷ (decisionNumbers 0x0002, 0 ∷ 0 ∷ [])
     ∷ []
 
 -- 01 Where the edges are: every case is as the document says

@@ -8,7 +8,7 @@ use Rattle.block_history.proofs.History.{standing, standing-proper, after-appen
 use Rattle.block.proofs.Steps.{proper-facts}
 use Rattle.firmware.specs as defs
 use defs.Paper.{IntakeLeft, Started, lent, heldIn, moved, startCall, intakeCall}
-use defs.Claims.{Call, on, off, afterCalls, counted, called, LentHistory, NeverFinishesLeftovers}
+use defs.Claims.{Call, on, off, afterCalls, counted, callAfter, LentHistory, NeverFinishesLeftovers}
 use Rattle.firmware.proofs.Lent.{refused-over}
 
 -- memory that holds what pieces leave is 90 octets long
@@ -58,7 +58,7 @@ unfolding startCall
 started m long = rw (eq-eqb (length m) 90 long)
 
 -- a call in the history is answered as the piece is after those that counted
-called-answered : (m : List ℕ) (cs : List Call) (p o : List ℕ) → length m ≡ 90 → length o ≡ 88 → called m cs p o ≡ moved (answered (counted cs) p) o
+called-answered : (m : List ℕ) (cs : List Call) (p o : List ℕ) → length m ≡ 90 → length o ≡ 88 → callAfter m cs p o ≡ moved (answered (counted cs) p) o
 unfolding after
 called-answered m cs p o long size =
     rw (started m long, lent-after [] cs) (right (lent (after start (counted cs))) p o (length-lent (counted cs)) size)
@@ -107,7 +107,7 @@ module _ (m : List ℕ) (short : length m ≡ 90 → ⊥) where
   calls-leave (on p o ∷ cs) = rw (call-leaves p o) (calls-leave cs)
 
 -- a call that completes a message has lengths that count
-right-lengths : (m : List ℕ) (cs : List Call) (p o : List ℕ) (k : Kind) → called m cs p o .returned % 256 ≡ completes k → (length m ≡ 90) × (length o ≡ 88)
+right-lengths : (m : List ℕ) (cs : List Call) (p o : List ℕ) (k : Kind) → callAfter m cs p o .returned % 256 ≡ completes k → (length m ≡ 90) × (length o ≡ 88)
 right-lengths m cs p o k e =
     true-or-false (eqb (length o) 88)
     (λ eo. true-or-false (eqb (length m) 90)

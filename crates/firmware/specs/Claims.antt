@@ -32,8 +32,8 @@ counted (on p o ∷ cs) = cond (eqb (length o) 88) (p ∷ counted cs) (counted c
 counted (off m w p o ∷ cs) = counted cs
 
 -- a call after a start call on memory m and further calls
-abbrev pub called : List ℕ → List Call → List ℕ → List ℕ → IntakeLeft
-called m cs p o = intakeCall (afterCalls (startCall m .state) cs) p o
+abbrev pub callAfter : List ℕ → List Call → List ℕ → List ℕ → IntakeLeft
+callAfter m cs p o = intakeCall (afterCalls (startCall m .state) cs) p o
 
 -- what a call leaves that completes a message of kind k with the run r
 abbrev pub handedOver : Kind → List (List ℕ) → IntakeLeft
@@ -43,17 +43,17 @@ handedOver k r = record { returned = completes k + 256 * (22 * length r); state 
 pub record LentHistory : Type 0 where
   -- a message is complete exactly when the latest pieces are a run of it
   pub exactly : (m : List ℕ) (cs : List Call) (p o : List ℕ) (k : Kind) → length m ≡ 90 → length o ≡ 88
-      → (called m cs p o .returned % 256 ≡ completes k) ↔ ((r : List (List ℕ)) × Latest (counted cs) p r × Run k r)
+      → (callAfter m cs p o .returned % 256 ≡ completes k) ↔ ((r : List (List ℕ)) × Latest (counted cs) p r × Run k r)
   -- and then it is the run's
   pub gives : (m : List ℕ) (cs : List Call) (p o : List ℕ) (k : Kind) (r : List (List ℕ)) → length m ≡ 90 → length o ≡ 88
-      → Latest (counted cs) p r → Run k r → called m cs p o ≡ handedOver k r
+      → Latest (counted cs) p r → Run k r → callAfter m cs p o ≡ handedOver k r
   -- blocks that the next one may follow are held
   pub takes : (m : List ℕ) (cs : List Call) (p o : List ℕ) (k : Kind) (u : List (List ℕ)) → length m ≡ 90 → length o ≡ 88
       → Latest (counted cs) p u → Unfinished k u
-      → called m cs p o ≡ record { returned = 1; state = lent (holding k u); output = o }
+      → callAfter m cs p o ≡ record { returned = 1; state = lent (holding k u); output = o }
   -- every other piece is refused by 2 to 6, and nothing is held
   pub refuses : (m : List ℕ) (cs : List Call) (p o : List ℕ) → length m ≡ 90 → length o ≡ 88
-      → (GoesOn (counted cs) p → ⊥) → called m cs p o ≡ record { returned = refusedBy p; state = lent start; output = o }
+      → (GoesOn (counted cs) p → ⊥) → callAfter m cs p o ≡ record { returned = refusedBy p; state = lent start; output = o }
   -- and each piece goes on a message or does not
   pub decided : (cs : List Call) (p : List ℕ) → GoesOn (counted cs) p ⊎ (GoesOn (counted cs) p → ⊥)
   -- calls that do not count change nothing
@@ -65,7 +65,7 @@ pub record NeverFinishesLeftovers : Type 0 where
   -- a start answers and leaves the same for any two memories of 90 octets
   pub starts-alike : (m n : List ℕ) → length m ≡ 90 → length n ≡ 90 → startCall m ≡ startCall n
   -- and so does each call after it
-  pub calls-alike : (m n : List ℕ) (cs : List Call) (p o : List ℕ) → length m ≡ 90 → length n ≡ 90 → called m cs p o ≡ called n cs p o
+  pub calls-alike : (m n : List ℕ) (cs : List Call) (p o : List ℕ) → length m ≡ 90 → length n ≡ 90 → callAfter m cs p o ≡ callAfter n cs p o
   -- a message complete, on whatever memory, has a run behind it that was given since the start, and is that run's
-  pub run-behind : (m : List ℕ) (cs : List Call) (p o : List ℕ) (k : Kind) → called m cs p o .returned % 256 ≡ completes k
-      → (r : List (List ℕ)) × Latest (counted cs) p r × Run k r × (called m cs p o ≡ handedOver k r)
+  pub run-behind : (m : List ℕ) (cs : List Call) (p o : List ℕ) (k : Kind) → callAfter m cs p o .returned % 256 ≡ completes k
+      → (r : List (List ℕ)) × Latest (counted cs) p r × Run k r × (callAfter m cs p o ≡ handedOver k r)

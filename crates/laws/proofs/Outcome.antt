@@ -1,6 +1,6 @@
 -- What a list of tests settles, whatever the answers that hang on it.
 use Rattle.laws.proofs as own
-use own.Base.{_≡_, refl, sym, Bool, true, false, List, [], _∷_, _++_, _⊎_, inl, inr, ⊎-elim, ℕ}
+use own.Base.{_≡_, refl, sym, ap, _∙_, Bool, true, false, List, [], _∷_, _++_, _⊎_, inl, inr, ⊎-elim, ℕ}
 use Rattle.laws.specs.Ruled.{ruled}
 use own.Ruled.{Among, NoneHolds}
 use own.Tests.{true-or-false}
@@ -44,3 +44,11 @@ ruled-because (t ∷ ts) x n e =
     true-or-false (t .0)
     (λ q. inr (inl (sym (rw q at e), q)))
     (λ q. ⊎-elim (λ h. inl h) (λ h. inr (inr h)) (ruled-because ts x n (rw q at e)))
+
+-- tests that answer by a number other than 0 refuse by it, whatever is given past them
+pub ruled-refuses : (ts : List (Bool × ℕ)) (n : ℕ) → ruled (λ (k : ℕ). k) ts 0 ≡ n → (n ≡ 0 → ⊥) → (A : Type 0) (by : ℕ → A) (x : A) → ruled by ts x ≡ by n
+ruled-refuses ts n e k A by x = go (outcome ts)
+  where
+    go : Outcome ts → ruled by ts x ≡ by n
+    go (refuses m a q) = q A by x ∙ ap by (sym (q ℕ (λ (j : ℕ). j) 0) ∙ e)
+    go (passes h q) = absurd (k (sym e ∙ q ℕ (λ (j : ℕ). j) 0))

@@ -1,6 +1,6 @@
 -- Laws of `ruled`: what is done to its answer, and which of its tests answered.
 use Rattle.laws.proofs as own
-use own.Base.{_≡_, refl, sym, _∙_, Bool, true, false, cond, not, _&&_, List, [], _∷_, _⊎_, inl, inr, ℕ, _≤_, eqb, leb, leb-true, eqb-false, not-true}
+use own.Base.{_≡_, refl, sym, _∙_, Bool, true, false, cond, not, _&&_, List, [], _∷_, _⊎_, inl, inr, ℕ, eqb, eqb-false, not-true}
 use Rattle.laws.specs.Ruled.{ruled, unless0}
 use own.Tests.{true-or-false, both}
 

@@ -1,11 +1,10 @@
 -- Laws of texts put one behind the other.
 use Rattle.laws.proofs.Base.{_≡_, refl, ap, _∙_, List, [], _∷_, _++_, append-assoc, ℕ, _+_, _≤_, le-refl, arith, length, length-append}
 use Rattle.lines.specs as defs
-use defs.Paper.{PutLeft, decimal, marked, behind, allBehind, flat}
+use defs.Paper.{PutLeft, behind, allBehind, flat}
 use defs.Inner.{Puts}
 use Rattle.lines.proofs as own
 use own.Behind.{ends-inside, length-behind, puts-behind, puts-none, puts-wider, puts-then}
-use own.Numbers.{length-spelled}
 
 -- one text, and others behind it
 pub and-then : (s : List ℕ) (ss : List (List ℕ)) (n : ℕ) (t : List ℕ) {one left : PutLeft} → one ≡ behind s n t → left ≡ allBehind ss (one .end) (one .text)

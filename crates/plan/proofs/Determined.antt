@@ -1,5 +1,7 @@
 -- Answers that meet a contract of `plan` are equal.
 use Rattle.laws.proofs.Base.{_≡_, refl, sym, ap, _∙_, cond, ℕ, eqb, ne-eqb}
+use Rattle.laws.specs.Determined.{Determined}
+use Rattle.laws.proofs.Determined.{determined-by}
 use Rattle.laws.proofs.Map.{map-injective}
 use Rattle.refusals.specs.Number.{numberOf}
 use Rattle.refusals.proofs.Inverse.{refusalOf, refusalOf-numberOf, numberOf-positive}
@@ -30,11 +32,11 @@ verdictFrom-verdictOf (Refused r) = rw (ne-eqb (numberOf r) 0 (numberOf-positive
 pub verdict-injective : (r s : Verdict) → verdictOf r ≡ verdictOf s → r ≡ s
 verdict-injective r s e = sym (verdictFrom-verdictOf r) ∙ ap verdictFrom e ∙ verdictFrom-verdictOf s
 
-pub determined-empty-plan : (r s : PlanCode) → planOf r ≡ empty → planOf s ≡ empty → r ≡ s
-determined-empty-plan r s a b = plan-injective r s (a ∙ sym b)
+pub determined-empty-plan : Determined (λ (r : PlanCode). planOf r ≡ empty)
+determined-empty-plan = determined-by planOf plan-injective
 
-pub determined-plan-answer : (plan : PlanCode) (r s : Verdict) → verdictOf r ≡ planNumber (planOf plan) → verdictOf s ≡ planNumber (planOf plan) → r ≡ s
-determined-plan-answer plan r s a b = verdict-injective r s (a ∙ sym b)
+pub determined-plan-answer : (plan : PlanCode) → Determined (λ (r : Verdict). verdictOf r ≡ planNumber (planOf plan))
+determined-plan-answer plan = determined-by verdictOf verdict-injective
 
-pub determined-plans-answer : (current previous : PlanCode) (r s : Verdict) → verdictOf r ≡ plansNumber (planOf current) (planOf previous) → verdictOf s ≡ plansNumber (planOf current) (planOf previous) → r ≡ s
-determined-plans-answer current previous r s a b = verdict-injective r s (a ∙ sym b)
+pub determined-plans-answer : (current previous : PlanCode) → Determined (λ (r : Verdict). verdictOf r ≡ plansNumber (planOf current) (planOf previous))
+determined-plans-answer current previous = determined-by verdictOf verdict-injective

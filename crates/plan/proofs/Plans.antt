@@ -2,10 +2,9 @@
 use Rattle.laws.proofs.Base.{_≡_, ℕ, _≤_, arith, eqb-true, ne-eqb, not-false}
 use Rattle.laws.specs.Ruled.{ruled}
 use Rattle.laws.proofs.Ruled.{NoneHolds, none-holds, ruled-none, unless0-numbered}
+use Rattle.laws.proofs.Outcome.{ruled-refuses}
 use Rattle.plan.specs.Paper.{Plan, planNumber, plansTests, plansNumber}
-use Rattle.plan.proofs as own
-use own.Answers.{ruled-refuses}
-use own.GoodPlan.{good-counted}
+use Rattle.plan.proofs.GoodPlan.{good-counted}
 
 module _ (c p : Plan) where
   pub plans-current : (n : ℕ) → planNumber c ≡ n → (n ≡ 0 → ⊥) → plansNumber c p ≡ n

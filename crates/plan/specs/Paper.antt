@@ -40,12 +40,12 @@ abbrev pub entryAt : Plan → ℕ → Entry
 entryAt p i = getD (p .entries) i free
 
 -- 01 The plan: all of serial number, message identifier and page parameter 0
-abbrev pub blank : Entry → Bool
-blank e = eqb (e .serial) 0 && (eqb (e .id) 0 && eqb (e .parameter) 0)
+abbrev pub allZero : Entry → Bool
+allZero e = eqb (e .serial) 0 && (eqb (e .id) 0 && eqb (e .parameter) 0)
 
 -- 01 Numbers given, 33: entry kind over 2, or non-zero octets in kind 0 or 1
 unfoldable pub bad : Entry → Bool
-bad e = ltb 2 (e .kind) || (ltb (e .kind) 2 && not (blank e))
+bad e = ltb 2 (e .kind) || (ltb (e .kind) 2 && not (allZero e))
 
 -- 01 The plan: what writer and checker say of a plan by value: a count over 48 gives 32, a bad entry within the count 33
 unfoldable pub planNumber : Plan → ℕ

@@ -14,7 +14,7 @@ use Rattle.plan.specs.Coded.{planOf}
 use Rattle.plan.proofs.GoodPlan.{good-counted}
 use Rattle.sender_message.specs.declared.Writing.{Writing as WritingCode}
 use Rattle.sender_message.specs.declared.Writing.the-variants.{Written}
-use Rattle.sender_message.specs.Paper.{Writing, unwritten}
+use Rattle.sender_message.specs.Paper.{MessageLeft, unwritten}
 use Rattle.sender.specs.Paper.{write}
 use Rattle.sender_message.specs.Coded.{writingOf}
 use Rattle.sender.proofs.Cases.{accepts}
@@ -49,7 +49,7 @@ module _ (c p : List ℕ) (b : ℕ) (o : List ℕ) where
         ∙ ap writtenLeft (files-refused c p (unwritten o) f e (write (readPlan c .plan) (readPlan p .plan) b o) k ∙ past-output)
 
     -- the writer's answer for the plans is that for the files
-    pub as-filed : {w : Writing} → f .verdict ≡ verdicts.Good → w ≡ write (planOf (f .current)) (planOf (f .previous)) b o → w ≡ writtenFrom c p b o
+    pub as-filed : {w : MessageLeft} → f .verdict ≡ verdicts.Good → w ≡ write (planOf (f .current)) (planOf (f .previous)) b o → w ≡ writtenFrom c p b o
     as-filed k q =
         q
         ∙ (λ i. write (e i .current) (e i .previous) b o)
@@ -59,8 +59,8 @@ module _ (c p : List ℕ) (b : ℕ) (o : List ℕ) where
 pub message-small : (c p : Plan) (b : ℕ) (o q : List ℕ) {a : WritingCode} {u : ℕ} → writingOf a q ≡ write c p b o → a ≡ Written u → u ≤ 88
 message-small c p b o q e k =
     let w = rw k at e in
-    let s = accepts c p b o (sym (ap (λ (z : Writing). z .number) w)) in
-    omega (arith, s .few, ap (λ (z : Writing). z .used) (w ∙ s .writes))
+    let s = accepts c p b o (sym (ap (λ (z : MessageLeft). z .number) w)) in
+    omega (arith, s .few, ap (λ (z : MessageLeft). z .used) (w ∙ s .writes))
 
 -- the lowest of n numbers, counted from 1, is no more than n
 lowest-few : (f : ℕ → Bool) (n : ℕ) → lowest f n ≤ n

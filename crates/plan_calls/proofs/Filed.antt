@@ -8,7 +8,7 @@ use Rattle.refusals.specs.Number.{numberOf}
 use Rattle.refusals.proofs.Inverse.{numberOf-positive}
 use Rattle.plan_read.specs.declared.Reading.{Reading}
 use Rattle.plan.specs.declared.Verdict.the-variants.{Good, Refused}
-use Rattle.plan_read.specs.Paper.{Read, readPlan}
+use Rattle.plan_read.specs.Paper.{PlanRead, readPlan}
 use Rattle.plan.specs.Coded.{verdictOf, planOf}
 use Rattle.plan_read.specs.Coded.{readingOf}
 use Rattle.plan_calls.specs as defs
@@ -34,13 +34,13 @@ module _ (c p : List ℕ) where
     pub current-good : x .verdict ≡ Good
         → record { number = verdictOf (y .verdict); current = planOf (x .plan); previous = planOf (y .plan) } ≡ filed c p
     current-good k =
-        let good : readPlan c .number ≡ 0 = sym (ap (λ (r : Read). r .number) d) ∙ ap verdictOf k in
-        with-number (verdictOf (y .verdict)) (rw good (ap (λ (r : Read). r .number) e ∙ unless-self (readPlan p .number)))
+        let good : readPlan c .number ≡ 0 = sym (ap (λ (r : PlanRead). r .number) d) ∙ ap verdictOf k in
+        with-number (verdictOf (y .verdict)) (rw good (ap (λ (r : PlanRead). r .number) e ∙ unless-self (readPlan p .number)))
 
     pub current-refused : {f : Refusal} → x .verdict ≡ Refused f
         → record { number = numberOf f; current = planOf (x .plan); previous = planOf (y .plan) } ≡ filed c p
     current-refused {f} k =
-        let same : numberOf f ≡ readPlan c .number = sym (ap verdictOf k) ∙ ap (λ (r : Read). r .number) d in
+        let same : numberOf f ≡ readPlan c .number = sym (ap verdictOf k) ∙ ap (λ (r : PlanRead). r .number) d in
         with-number (numberOf f) (rw (← same, ne-eqb (numberOf f) 0 (numberOf-positive f)))
 
   -- what the tests of two files make of an answer

@@ -7,7 +7,7 @@ use lib.ListN.{length}
 use Rattle.laws.specs.Ruled.{ruled, unless0}
 use Rattle.calls.specs.Paper.{CallLeft, inOne, leftWith}
 use Rattle.plan_read.specs.Paper.{readPlan}
-use Rattle.sender_message.specs.Paper.{Writing, unwritten}
+use Rattle.sender_message.specs.Paper.{MessageLeft, unwritten}
 use Rattle.sender.specs.Paper.{write}
 use Rattle.checker.specs.Paper.{Checked, unchecked, check}
 
@@ -20,12 +20,12 @@ abbrev pub fileFaults : List ℕ → List ℕ → List (Bool × ℕ)
 fileFaults c p = unless0 (readPlan c .number) ∷ unless0 (readPlan p .number) ∷ []
 
 -- 01 Order, schedule writer: 15, the current plan file c, the previous one p, then as the writer has it for their plans
-abbrev pub writtenFrom : List ℕ → List ℕ → ℕ → List ℕ → Writing
+abbrev pub writtenFrom : List ℕ → List ℕ → ℕ → List ℕ → MessageLeft
 writtenFrom c p begin out =
     ruled (unwritten out) ((not (eqb (length out) 88), 15) ∷ fileFaults c p) (write (readPlan c .plan) (readPlan p .plan) begin out)
 
 -- DECISIONS, Several numbers in one: number + 256 × used octets, and the output
-abbrev pub writtenLeft : Writing → CallLeft
+abbrev pub writtenLeft : MessageLeft → CallLeft
 writtenLeft w = leftWith (w .number) (w .used) (w .output)
 
 -- 01 The plan: the schedule writer for C

@@ -1,14 +1,15 @@
 -- Which test of a plan file answers: those of its front, on plain facts, and after them those of the plan by value.
-use Rattle.laws.proofs.Base.{_≡_, refl, _∙_, Bool, true, false, cond, not, List, [], _∷_, _++_, ℕ, _+_, _*_, _-_, _≤_, _<_, arith, eqb, length, take, drop, replicate, take-append-seam, eq-eqb, ne-eqb, eqb-true, lt-ltb, le-ltb, ltb-false, not-false}
+use Rattle.laws.proofs.Base.{_≡_, refl, _∙_, Bool, true, false, cond, not, List, [], _∷_, _++_, ℕ, _+_, _*_, _-_, _≤_, _<_, arith, eqb, length, take}
+use Rattle.laws.proofs.Base.{drop, replicate, take-append-seam, eq-eqb, ne-eqb, eqb-true, lt-ltb, le-ltb, ltb-false, not-false}
 use Rattle.laws.specs.Ruled.{ruled, unless0}
 use Rattle.laws.specs.Search.{some}
 use Rattle.laws.proofs.Ruled.{NoneHolds, none-holds, ruled-none}
 use Rattle.laws.proofs.Tests.{neither}
 use Rattle.page.specs.Paper.{octet}
 use Rattle.plan.specs.Paper.{Entry, Plan, free, filledPlan, bad, planNumber}
-use Rattle.plan.proofs.Answers.{ruled-refuses}
+use Rattle.laws.proofs.Outcome.{ruled-refuses}
 use Rattle.plan_read.specs as defs
-use defs.Paper.{sixteen, marked, listed, Read, refusal, faults, readPlan}
+use defs.Paper.{sixteen, isMarked, listed, PlanRead, refusal, faults, readPlan}
 use defs.Inner.{frontNumber}
 use Rattle.plan_read.proofs.Entries.{length-entries}
 
@@ -18,11 +19,11 @@ module _ (f : List ℕ) where
   front-short h = simp (lt-ltb (length f) 6 h)
 
   module _ (long : 6 ≤ length f) where
-    pub front-mark : marked f ≡ false → frontNumber f ≡ 30
+    pub front-mark : isMarked f ≡ false → frontNumber f ≡ 30
     unfolding frontNumber
     front-mark m = simp (le-ltb (length f) 6 long, m)
 
-    module _ (m : marked f ≡ true) where
+    module _ (m : isMarked f ≡ true) where
       pub front-version : (sixteen f 4 ≡ 1 → ⊥) → frontNumber f ≡ 31
       unfolding frontNumber
       front-version v = simp (le-ltb (length f) 6 long, m, ne-eqb (sixteen f 4) 1 v)
@@ -44,7 +45,7 @@ module _ (f : List ℕ) where
   -- a front that is refused refuses the file
   pub front-refuses : (n : ℕ) → frontNumber f ≡ n → (n ≡ 0 → ⊥) → readPlan f ≡ refusal n
   unfolding readPlan frontNumber
-  front-refuses n e k = ruled-refuses (take 4 (faults f)) n e k Read refusal _
+  front-refuses n e k = ruled-refuses (take 4 (faults f)) n e k PlanRead refusal _
 
 -- a plan of some entries, no more than 48, is good unless one of them is bad
 pub filled-number : (es : List Entry) → length es ≤ 48 → planNumber (filledPlan es) ≡ cond (some bad es) 33 0

@@ -2,13 +2,13 @@
 use Rattle.laws.proofs.Base.{_≡_, sym, ap, _∙_, List, ℕ}
 use Rattle.plan.proofs.Determined.{plan-injective, verdict-injective}
 use Rattle.plan_read.specs as defs
-use defs.Paper.{Read, readPlan}
+use defs.Paper.{PlanRead, readPlan}
 use defs.Coded.{readingOf}
 use defs.declared.Reading.{Reading}
 
 pub determined-read-plan : (file : List ℕ) (r s : Reading) → readingOf r ≡ readPlan file → readingOf s ≡ readPlan file → r ≡ s
 determined-read-plan file r s a b =
     let e = a ∙ sym b in
-    let verdict = verdict-injective (r .verdict) (s .verdict) (ap (λ (x : Read). x .number) e) in
-    let plan = plan-injective (r .plan) (s .plan) (ap (λ (x : Read). x .plan) e) in
+    let verdict = verdict-injective (r .verdict) (s .verdict) (ap (λ (x : PlanRead). x .number) e) in
+    let plan = plan-injective (r .plan) (s .plan) (ap (λ (x : PlanRead). x .plan) e) in
     λ i. record { verdict = verdict i; plan = plan i }

@@ -14,8 +14,8 @@ abbrev pub sixteen : List ℕ → ℕ → ℕ
 sixteen o n = octet o n * 256 + octet o (n + 1)
 
 -- 01 The plan: CBP in ASCII
-abbrev pub marked : List ℕ → Bool
-marked f = eqb (octet f 1) 0x43 && (eqb (octet f 2) 0x42 && eqb (octet f 3) 0x50)
+abbrev pub isMarked : List ℕ → Bool
+isMarked f = eqb (octet f 1) 0x43 && (eqb (octet f 2) 0x42 && eqb (octet f 3) 0x50)
 
 -- 01 The plan: what six octets say of a slot: kind, serial number, message identifier, page parameter
 unfoldable pub entryIn : List ℕ → Entry
@@ -31,26 +31,26 @@ abbrev pub listed : List ℕ → List Entry
 listed f = entriesIn (octet f 6) (drop 6 f)
 
 -- 01 Order: what reading a plan file gives: its number, and a plan
-pub record Read : Type 0 where
+pub record PlanRead : Type 0 where
   pub number : ℕ
   pub plan : Plan
 
 -- 01 Order: with a refusal the plan is empty
-abbrev pub refusal : ℕ → Read
+abbrev pub refusal : ℕ → PlanRead
 refusal n = record { number = n; plan = empty }
 
 -- 01 Order, a plan: 32 if short, 30, 31, 32, 33
 abbrev pub faults : List ℕ → List (Bool × ℕ)
 faults f =
     (ltb (length f) 6, 32)
-    ∷ (not (marked f), 30)
+    ∷ (not (isMarked f), 30)
     ∷ (not (eqb (sixteen f 4) 1), 31)
     ∷ (ltb 48 (octet f 6) || not (eqb (length f) (6 + 6 * octet f 6)), 32)
     ∷ (some bad (listed f), 33)
     ∷ []
 
 -- 01 The plan, Order: reading a plan file
-unfoldable pub readPlan : List ℕ → Read
+unfoldable pub readPlan : List ℕ → PlanRead
 readPlan f = ruled refusal (faults f) (record { number = 0; plan = filledPlan (listed f) })
 
 -- 01 The plan: the six octets of an entry

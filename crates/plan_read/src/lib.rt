@@ -6,7 +6,7 @@ ghost use lib.ListN.{length, getD, drop, replicate};
 ghost use Rattle.refusals.specs.Number.{numberOf};
 ghost use Rattle.plan.specs.Paper.{free};
 ghost use Rattle.plan.specs.Coded.{entryOf, entriesOf, verdictOf};
-ghost use Rattle.plan_read.specs.Paper.{marked, entryIn, entriesIn, refusal, readPlan};
+ghost use Rattle.plan_read.specs.Paper.{isMarked, entryIn, entriesIn, refusal, readPlan};
 ghost use Rattle.plan_read.specs.Coded.{readingOf};
 ghost use Rattle.plan_read.specs.Inner.{frontNumber};
 use page::MessageId;
@@ -50,7 +50,7 @@ fn sixteen_at(file: &[u8], at: usize) -> u16
 // CBP in ASCII.
 fn is_marked(file: &[u8]) -> bool
     requires { ⌜ 6 ≤ length (now file) ⌝ }
-    ensures { λ r. ⌜ r ≡ marked (now (file .entry)) ⌝ }
+    ensures { λ r. ⌜ r ≡ isMarked (now (file .entry)) ⌝ }
 {
     if file[0] != b'C' {
         return false;

@@ -1,5 +1,6 @@
 -- Marks: two entries with a page have the same one exactly if their marks are equal, so that a search among marks finds a page's slots.
-use Rattle.laws.proofs.Base.{_≡_, refl, sym, ap, _∙_, Bool, true, false, not, _&&_, List, [], _∷_, ℕ, zero, suc, _+_, _<_, min, arith, eqb, ltb, length, getD, take, set, replicate, length-map, length-set, take-all, getD-set-same, getD-set-other, eq-eqb, ne-eqb, eqb-true, eqb-false, ltb-true, ltb-false}
+use Rattle.laws.proofs.Base.{_≡_, refl, sym, ap, _∙_, Bool, true, false, not, _&&_, List, [], _∷_, ℕ, zero, suc, _+_, _<_, min, arith, eqb, ltb, length, getD, take, set}
+use Rattle.laws.proofs.Base.{replicate, length-map, length-set, take-all, getD-set-same, getD-set-other, eq-eqb, ne-eqb, eqb-true, eqb-false, ltb-true, ltb-false}
 use borrow.Author.Count.{below-none, below-more}
 use Rattle.laws.specs.Search.{some, firstFrom}
 use Rattle.laws.proofs.Search.{found-some}

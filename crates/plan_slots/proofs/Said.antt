@@ -1,5 +1,6 @@
 -- What is said of the slots of a plan, told from the marks of it and of the plan before.
-use Rattle.laws.proofs.Base.{_≡_, refl, sym, ap, _∙_, Bool, true, false, cond, List, map, ℕ, _+_, _<_, min, arith, eqb, ltb, getD, take, set, replicate, getD-replicate, length-map, length-set, List·getD-map, ext-getD, getD-take, getD-set-same, getD-set-other, eqb-true, lt-ltb, ltb-true, ltb-false}
+use Rattle.laws.proofs.Base.{_≡_, refl, sym, ap, _∙_, Bool, true, false, cond, List, map, ℕ, _+_, _<_, min, arith, eqb, ltb, getD, take, set, replicate, getD-replicate}
+use Rattle.laws.proofs.Base.{length-map, length-set, List·getD-map, ext-getD, getD-take, getD-set-same, getD-set-other, eqb-true, lt-ltb, ltb-true, ltb-false}
 use borrow.Author.Count.{below-none, below-more}
 use Rattle.laws.specs.Search.{some, firstFrom}
 use Rattle.laws.specs.Upto.{each}

@@ -4,7 +4,7 @@ use Rattle.refusals.proofs.Inverse.{numberOf-positive}
 use Rattle.refusals.specs.declared.Refusal.{Refusal}
 use Rattle.plan_read.specs.declared.Reading.{Reading}
 use Rattle.plan.specs.declared.Verdict.the-variants as verdicts
-use Rattle.plan_read.specs.Paper.{Read, readPlan}
+use Rattle.plan_read.specs.Paper.{PlanRead, readPlan}
 use Rattle.plan.specs.Paper.{planNumber}
 use Rattle.plan.specs.Coded.{planOf, verdictOf}
 use Rattle.plan_read.specs.Coded.{readingOf}
@@ -22,16 +22,16 @@ module _ (t : Taken) where
 
 module _ (f : List ℕ) (r : Reading) (e : readingOf r ≡ readPlan f) where
   number : verdictOf (r .verdict) ≡ readPlan f .number
-  number = ap (λ (x : Read). x .number) e
+  number = ap (λ (x : PlanRead). x .number) e
 
   pub takes-good : r .verdict ≡ verdicts.Good → record { good = true; plan = planOf (r .plan) } ≡ taken f
   unfolding taken
   takes-good v =
       rw (eq-eqb (readPlan f .number) 0 (sym number ∙ ap verdictOf v))
-      (ap (λ (p : _). record { good = true; plan = p }) (ap (λ (x : Read). x .plan) e))
+      (ap (λ (p : _). record { good = true; plan = p }) (ap (λ (x : PlanRead). x .plan) e))
 
   pub takes-refused : (why : Refusal) → r .verdict ≡ verdicts.Refused why → record { good = false; plan = planOf (r .plan) } ≡ taken f
   unfolding taken
   takes-refused why v =
       rw (ne-eqb (readPlan f .number) 0 (λ z. numberOf-positive why (sym (ap verdictOf v) ∙ number ∙ z)))
-      (ap (λ (p : _). record { good = false; plan = p }) (ap (λ (x : Read). x .plan) e))
+      (ap (λ (p : _). record { good = false; plan = p }) (ap (λ (x : PlanRead). x .plan) e))

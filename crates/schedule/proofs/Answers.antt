@@ -4,7 +4,7 @@ use Rattle.laws.specs.Ruled.{ruled}
 use Rattle.laws.proofs.Outcome.{Outcome, refuses, passes, outcome}
 use Rattle.laws.proofs.Ruled.{Among}
 use Rattle.laws.proofs.Tests.{both}
-use Rattle.schedule.specs.Paper.{end, inBounds, headFaults, faults, Read, unread, good, read, Given, refusal, givenAt, given}
+use Rattle.schedule.specs.Paper.{end, inBounds, headFaults, faults, Read, unread, good, read, GivenSlot, refusal, givenAt, given}
 use Rattle.schedule.proofs.Header.{within}
 
 -- none of the tests has the number n, by a look at each
@@ -61,12 +61,12 @@ module _ (m : List ℕ) (received : ℕ) where
   -- a message that is read gives what its places have, and one that is refused its refusal
   pub read-gives : read m received .number ≡ 0 → (k : ℕ) → given m received k ≡ givenAt m k
   unfolding given
-  read-gives e k = read-sound e .answers Given refusal (givenAt m k)
+  read-gives e k = read-sound e .answers GivenSlot refusal (givenAt m k)
 
   pub refused-gives : (n : ℕ) → (n ≡ 0 → ⊥) → read m received .number ≡ n → (k : ℕ) → given m received k ≡ refusal n
   unfolding read given
   refused-gives n s e k = go answered
     where
       go : Answered → given m received k ≡ refusal n
-      go (refused j t h) = h Given refusal (givenAt m k) ∙ ap refusal (sym (ap (λ (r : Read). r .number) (h Read unread (good m))) ∙ e)
+      go (refused j t h) = h GivenSlot refusal (givenAt m k) ∙ ap refusal (sym (ap (λ (r : Read). r .number) (h Read unread (good m))) ∙ e)
       go (sound w) = absurd (s (sym e ∙ ap (λ (r : Read). r .number) (w .answers Read unread (good m))))

@@ -162,19 +162,19 @@ unfoldable pub read : List ℕ → ℕ → Read
 read m received = ruled unread (faults m received) (good m)
 
 -- 01 Schedule message: what the reader of descriptions gives: a slot by its number and what is shown of it, no more, or a refusal
-pub data Given : Type 0 where
-  next : ℕ → Shown → Given
-  noMore : Given
-  refusal : ℕ → Given
+pub data GivenSlot : Type 0 where
+  next : ℕ → Shown → GivenSlot
+  noMore : GivenSlot
+  refusal : ℕ → GivenSlot
 
 -- 01 Schedule message: the slot whose description stands after k others
 abbrev pub slotOf : List ℕ → ℕ → ℕ
 slotOf m k = getD (order m) k 0
 
 -- 01 Schedule message: the next slot with its new bit and description, or no more, where k are given already
-abbrev pub givenAt : List ℕ → ℕ → Given
+abbrev pub givenAt : List ℕ → ℕ → GivenSlot
 givenAt m k = cond (ltb k (end m)) (next (suc (slotOf m k)) (shown m (slotOf m k))) noMore
 
 -- 01 Schedule message, Order: the reader of descriptions; over a refused message each call gives that refusal
-unfoldable pub given : List ℕ → ℕ → ℕ → Given
+unfoldable pub given : List ℕ → ℕ → ℕ → GivenSlot
 given m received k = ruled refusal (faults m received) (givenAt m k)

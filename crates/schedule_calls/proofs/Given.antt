@@ -6,7 +6,7 @@ use Rattle.schedule.specs.declared.Reading.{Reading}
 use Rattle.schedule.specs.declared.Reading.the-variants as readings
 use Rattle.schedule_given.specs.declared.Given.{Given as GivenCode}
 use Rattle.schedule_given.specs.declared.Given.the-variants as givens
-use Rattle.schedule.specs.Paper.{end, faults, Read, unread, good, read, Given, next, noMore, refusal, givenAt, given}
+use Rattle.schedule.specs.Paper.{end, faults, Read, unread, good, read, GivenSlot, next, noMore, refusal, givenAt, given}
 use Rattle.schedule.specs.Coded.{readOf}
 use Rattle.schedule_given.specs.Coded.{givenOf}
 use Rattle.schedule_order.proofs.Ranks.{order-below}
@@ -22,7 +22,7 @@ ends-small m received = go (ruling unread (faults m received) (good m))
     go (passes h e) = rw e (omega arith, omega arith)
 
 -- the slot that is given; 0 for none
-abbrev pub slotNumber : Given → ℕ
+abbrev pub slotNumber : GivenSlot → ℕ
 slotNumber (next i s) = i
 slotNumber noMore = 0
 slotNumber (refusal n) = 0
@@ -36,7 +36,7 @@ slot-small m received k = go (ruling refusal (faults m received) (givenAt m k))
     at true e = rw e (omega (arith, order-below m k (ltb-true k (end m) e)))
     at false e = rw e (omega arith)
 
-    go : {g : Given} → Ruling refusal (faults m received) (givenAt m k) g → slotNumber g < 64
+    go : {g : GivenSlot} → Ruling refusal (faults m received) (givenAt m k) g → slotNumber g < 64
     go (refuses n a e) = rw e (omega arith)
     go (passes h e) = rw e (at (ltb k (end m)) refl)
 

@@ -2,7 +2,7 @@
 use mathlib.Core.List.{List}
 use Prim.Native.Nat.{ℕ, _+_, _*_}
 use Rattle.calls.specs.Paper.{bitOf}
-use Rattle.schedule.specs.Paper.{Told, first, again, optional, advised, Read, read, Given, next, noMore, refusal, given}
+use Rattle.schedule.specs.Paper.{Told, first, again, optional, advised, Read, read, GivenSlot, next, noMore, refusal, given}
 
 -- DECISIONS, Several numbers in one: number + 2^8 × Begin + 2^16 × End
 abbrev pub packedRead : Read → ℕ
@@ -20,7 +20,7 @@ abbrev pub scheduleCall : List ℕ → ℕ → ℕ
 scheduleCall m received = packedRead (read m received)
 
 -- DECISIONS, Several numbers in one: number + 2^8 × slot + 2^16 × new bit + 2^32 × code; all are 0 for no more, and all but the number with a refusal
-abbrev pub packedGiven : Given → ℕ
+abbrev pub packedGiven : GivenSlot → ℕ
 packedGiven (next n s) = 0x100 * n + 0x10000 * bitOf (s .new) + 0x100000000 * codeOf (s .told)
 packedGiven noMore = 0
 packedGiven (refusal n) = n

@@ -1,7 +1,7 @@
 -- Answers that meet a contract of `schedule_given` are equal.
 use Rattle.laws.proofs.Base.{_≡_, refl, sym, ap, _∙_, List, ℕ}
 use Rattle.refusals.proofs.Inverse.{refusalOf, refusalOf-numberOf}
-use Rattle.schedule.specs.Paper.{Given, next, noMore, refusal, given}
+use Rattle.schedule.specs.Paper.{GivenSlot, next, noMore, refusal, given}
 use Rattle.schedule.proofs.Determined.{slotFrom, slotFrom-shownOf}
 use Rattle.schedule_given.specs as defs
 use defs.declared.Given.{Given as GivenCode}
@@ -9,7 +9,7 @@ use defs.Coded.{givenOf}
 use defs.declared.Given.the-variants as givens
 
 -- the code's answer by the paper's
-abbrev givenFrom : Given → GivenCode
+abbrev givenFrom : GivenSlot → GivenCode
 givenFrom (next n s) = givens.Next n (slotFrom s)
 givenFrom noMore = givens.NoMore
 givenFrom (refusal n) = givens.Refused (refusalOf n)

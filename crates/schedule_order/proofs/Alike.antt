@@ -11,7 +11,7 @@ use Rattle.schedule.proofs.Answers.{Answered, refused, sound, answered}
 use Rattle.schedule.proofs.News.{new-octet, new-beyond}
 use Rattle.schedule.proofs.Places.{place-mono}
 use Rattle.schedule.proofs.Repeats.{falseRepeat-agree}
-use Rattle.schedule_order.specs.Claims.{starting, Alike, begun, AlikeButBegin}
+use Rattle.schedule_order.specs.Claims.{starting, Alike, readWithBegin, AlikeButBegin}
 use Rattle.schedule_order.proofs.Ranks.{order-below, rank-below}
 
 -- the first description starts after eight octets
@@ -107,20 +107,20 @@ module _ (m n : List ℕ) (a : Matching m n) where
     unfolding given
     gives-same k = λ p. ruled refusal (faults-same p) (givenAt-same k p)
 
-    begun-same : read n received ≡ begun (begin n) (read m received)
+    read-begun : read n received ≡ readWithBegin (begin n) (read m received)
     unfolding read
-    begun-same = sym (λ p. ruled unread (faults-same p) (good n)) ∙ go (answered m received)
+    read-begun = sym (λ p. ruled unread (faults-same p) (good n)) ∙ go (answered m received)
       where
-        go : Answered m received → ruled unread (faults m received) (good n) ≡ begun (begin n) (read m received)
-        go (refused x s h) = h Read unread (good n) ∙ sym (ap (begun (begin n)) (h Read unread (good m)) ∙ rw (ne-eqb x 0 s))
+        go : Answered m received → ruled unread (faults m received) (good n) ≡ readWithBegin (begin n) (read m received)
+        go (refused x s h) = h Read unread (good n) ∙ sym (ap (readWithBegin (begin n)) (h Read unread (good m)) ∙ rw (ne-eqb x 0 s))
         go (sound w) =
             w .answers Read unread (good n)
-            ∙ sym (ap (begun (begin n)) (w .answers Read unread (good m)) ∙ (λ p. record { number = 0; begin = begin n; end = a .last p }))
+            ∙ sym (ap (readWithBegin (begin n)) (w .answers Read unread (good m)) ∙ (λ p. record { number = 0; begin = begin n; end = a .last p }))
 
     pub alike-but-begin : AlikeButBegin m n received
     alike-but-begin =
         record {
-          reads = begun-same;
+          reads = read-begun;
           places = starting-same;
           shows = shown-same;
           gives = gives-same;

@@ -5,7 +5,7 @@ use Rattle.schedule.specs.Paper.{begin, end, Read, unread, good, read}
 use Rattle.schedule.proofs.Answers.{Answered, refused, sound, answered, read-sound}
 use Rattle.schedule_places.specs.Inner.{Placed, placeAt, unplaced, whole, placed}
 use Rattle.schedule_places.proofs.Known.{read-placed}
-use Rattle.schedule_order.specs.Claims.{starting, Alike, begun, AlikeButBegin}
+use Rattle.schedule_order.specs.Claims.{starting, Alike, readWithBegin, AlikeButBegin}
 use Rattle.schedule_order.proofs.Alike.{below-only}
 
 module _ (m : List ℕ) (received : ℕ) where
@@ -51,27 +51,27 @@ placed-alike m n received a =
     }
 
 -- another Begin leaves the number and End
-begun-number : (b : ℕ) (r : Read) → begun b r .number ≡ r .number
-begun-number b r = go (eqb (r .number) 0) refl
+readWithBegin-number : (b : ℕ) (r : Read) → readWithBegin b r .number ≡ r .number
+readWithBegin-number b r = go (eqb (r .number) 0) refl
   where
     go : (z : Bool) → eqb (r .number) 0 ≡ z → cond z (record { number = 0; begin = b; end = r .end }) r .number ≡ r .number
     go true q = sym (eqb-true (r .number) 0 q)
     go false q = refl
 
-begun-end : (b : ℕ) (r : Read) → begun b r .end ≡ r .end
-begun-end b r = go (eqb (r .number) 0)
+readWithBegin-end : (b : ℕ) (r : Read) → readWithBegin b r .end ≡ r .end
+readWithBegin-end b r = go (eqb (r .number) 0)
   where
     go : (z : Bool) → cond z (record { number = 0; begin = b; end = r .end }) r .end ≡ r .end
     go true = refl
     go false = refl
 
 pub placed-but-begin : (m n : List ℕ) (received : ℕ) → AlikeButBegin m n received
-    → placed n received ≡ record { read = begun (begin n) (placed m received .read); places = placed m received .places }
+    → placed n received ≡ record { read = readWithBegin (begin n) (placed m received .read); places = placed m received .places }
 placed-but-begin m n received a =
     let r = read m received in
-    let number : r .number ≡ read n received .number = sym (ap (λ (x : Read). x .number) (a .reads) ∙ begun-number (begin n) r) in
-    let last : r .end ≡ read n received .end = sym (ap (λ (x : Read). x .end) (a .reads) ∙ begun-end (begin n) r) in
+    let number : r .number ≡ read n received .number = sym (ap (λ (x : Read). x .number) (a .reads) ∙ readWithBegin-number (begin n) r) in
+    let last : r .end ≡ read n received .end = sym (ap (λ (x : Read). x .end) (a .reads) ∙ readWithBegin-end (begin n) r) in
     λ p. record {
-      read = (read-placed n received ∙ a .reads ∙ ap (begun (begin n)) (sym (read-placed m received))) p;
+      read = (read-placed n received ∙ a .reads ∙ ap (readWithBegin (begin n)) (sym (read-placed m received))) p;
       places = sym (places-same m n received number last (a .places)) p;
     }

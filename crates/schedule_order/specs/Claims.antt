@@ -67,12 +67,12 @@ pub record Alike (m n : List ℕ) (received : ℕ) : Type 0 where
   pub gives : (k : ℕ) → given m received k ≡ given n received k
 
 -- 01 Schedule message: what is read, with another Begin; a refusal stays as it is
-abbrev pub begun : ℕ → Read → Read
-begun b r = cond (eqb (r .number) 0) (record { number = 0; begin = b; end = r .end }) r
+abbrev pub readWithBegin : ℕ → Read → Read
+readWithBegin b r = cond (eqb (r .number) 0) (record { number = 0; begin = b; end = r .end }) r
 
 -- 01 Schedule message: n is read as m by every reader, but for Begin, which is its own, with the same of each slot up to End, at the same place
 pub record AlikeButBegin (m n : List ℕ) (received : ℕ) : Type 0 where
-  pub reads : read n received ≡ begun (begin n) (read m received)
+  pub reads : read n received ≡ readWithBegin (begin n) (read m received)
   pub places : (i : ℕ) → i < end m → starting m i ≡ starting n i
   pub shows : (i : ℕ) → i < end m → shown m i ≡ shown n i
   pub gives : (k : ℕ) → given m received k ≡ given n received k
@@ -132,8 +132,8 @@ BeginOnlyItself =
     → (begin (withBegin m b) ≡ b) × AlikeButBegin m (withBegin m b) received
 
 -- 01 Where the edges are: the message of the plan of two slots
-abbrev pub twoSlots : List ℕ
-twoSlots = 0x01 ∷ 0x02 ∷ 0xc0 ∷ 0 ∷ 0 ∷ 0 ∷ 0 ∷ 0 ∷ 0x80 ∷ 0x01 ∷ 0x01 ∷ replicate 77 0x2b
+abbrev pub twoSlotMessage : List ℕ
+twoSlotMessage = 0x01 ∷ 0x02 ∷ 0xc0 ∷ 0 ∷ 0 ∷ 0 ∷ 0 ∷ 0 ∷ 0x80 ∷ 0x01 ∷ 0x01 ∷ replicate 77 0x2b
 
 -- 01 Where the edges are: the same with Begin 2, with End octet C2, and with FF past its last description
 abbrev pub twoSlotsOther : List ℕ
@@ -142,6 +142,6 @@ twoSlotsOther = 0x02 ∷ 0xc2 ∷ 0xc0 ∷ 0 ∷ 0 ∷ 0 ∷ 0 ∷ 0 ∷ 0x80 �
 -- 01 Where the edges are: both are read, and the one is the other with all changed that may be
 abbrev pub TwoSlots : Type 0
 TwoSlots =
-    (read twoSlots 88 ≡ record { number = 0; begin = 1; end = 2 })
-    × (withTail (withSpare (withBegin twoSlots 2) 3) (replicate 77 0xff) ≡ twoSlotsOther)
+    (read twoSlotMessage 88 ≡ record { number = 0; begin = 1; end = 2 })
+    × (withTail (withSpare (withBegin twoSlotMessage 2) 3) (replicate 77 0xff) ≡ twoSlotsOther)
     × (read twoSlotsOther 88 ≡ record { number = 0; begin = 2; end = 2 })

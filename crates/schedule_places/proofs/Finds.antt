@@ -1,5 +1,6 @@
 -- What a group's descriptions are found to be, one after the other.
-use Rattle.laws.proofs.Base.{_≡_, refl, sym, ap, _∙_, Bool, true, false, and-false, List, ℕ, _+_, _≤_, _<_, add-zero, arith, length, getD, set, getD-set-same, getD-set-other, eqb, lt-ltb, le-ltb, eqb-true, eqb-false}
+use Rattle.laws.proofs.Base.{_≡_, refl, sym, ap, _∙_, Bool, true, false, and-false, List, ℕ, _+_, _≤_, _<_, add-zero, arith, length}
+use Rattle.laws.proofs.Base.{getD, set, getD-set-same, getD-set-other, eqb, lt-ltb, le-ltb, eqb-true, eqb-false}
 use Rattle.laws.specs.Upto.{count}
 use Rattle.laws.proofs.Tests.{below-other}
 use Rattle.laws.proofs.Upto.{count-none, count-yes, count-no, count-grows}

@@ -1,5 +1,6 @@
 -- The cases of the reader with all places: refused by the header, by 23 or by 24, or the places of all descriptions.
-use Rattle.laws.proofs.Base.{_≡_, refl, sym, ap, _∙_, Bool, true, false, List, ℕ, _+_, _≤_, _<_, arith, length, getD, replicate, getD-replicate, ext-getD, eqb, ltb, eqb-true, lt-ltb, le-ltb, ltb-true, not-false}
+use Rattle.laws.proofs.Base.{_≡_, refl, sym, ap, _∙_, Bool, true, false, List, ℕ, _+_, _≤_, _<_, arith, length, getD, replicate}
+use Rattle.laws.proofs.Base.{getD-replicate, ext-getD, eqb, ltb, eqb-true, lt-ltb, le-ltb, ltb-true, not-false}
 use Rattle.sizes.specs.Paper.{wholeBlocks}
 use Rattle.laws.specs.Ruled.{ruled}
 use Rattle.laws.specs.Upto.{some, count, each}

@@ -5,7 +5,7 @@ use Rattle.laws.proofs.Ruled.{ruled-map, none-holds, ruled-none, unless0-number
 use Rattle.laws.proofs.Tests.{both}
 use Rattle.plan.specs.Paper.{Plan, planNumber, plansTests, plansNumber}
 use Rattle.plan.proofs.Plans.{plans-refuse, plans-pass, plans-counted}
-use Rattle.sender_message.specs.Paper.{descriptions, Writing, unwritten, writeMessage}
+use Rattle.sender_message.specs.Paper.{descriptions, MessageLeft, unwritten, writeMessage}
 use Rattle.sender.specs as defs
 use defs.Paper.{planned, message, faults, write}
 
@@ -22,13 +22,13 @@ module _ (c p : Plan) where
       past-output = rw (eq-eqb (length o) 88 e)
 
       pub write-plans : (n : ℕ) → plansNumber c p ≡ n → (n ≡ 0 → ⊥) → write c p b o ≡ unwritten o n
-      write-plans n q k = past-output ∙ plans-refuse c p n q k Writing (unwritten o) _
+      write-plans n q k = past-output ∙ plans-refuse c p n q k MessageLeft (unwritten o) _
 
       -- past those of the plans, the writing of what is planned
       pub write-planned : plansNumber c p ≡ 0 → write c p b o ≡ writeMessage b (planned c p) (c .count) o
       unfolding writeMessage
       write-planned z =
-          past-output ∙ plans-pass c p z Writing (unwritten o) _
+          past-output ∙ plans-pass c p z MessageLeft (unwritten o) _
           ∙ rw (eq-eqb (length o) 88 e, le-leb (c .count) 48 (plans-counted c p z), and-true (leb b (c .count)))
 
     -- what the writer is given where it does not refuse, and what it does
@@ -48,7 +48,7 @@ module _ (c p : Plan) where
         let h =
         none-holds ts 0
         ((λ t e. omega arith), (unless0-numbered (planNumber c), (unless0-numbered (planNumber p), ((λ t e. omega arith), ((λ t e. omega arith), ((λ t e. omega arith), tt))))))
-        (sym (ruled-map (λ (w : Writing). w .number) (unwritten o) ts (message c p b)) ∙ z) in
+        (sym (ruled-map (λ (w : MessageLeft). w .number) (unwritten o) ts (message c p b)) ∙ z) in
         let range = both (leb 1 b) (leb b (c .count)) (not-false _ (h .1 .1 .1 .1 .0)) in
         record {
           room = eqb-true (length o) 88 (not-false _ (h .0));

@@ -8,7 +8,7 @@ use Rattle.laws.specs.Ruled.{ruled, unless0}
 use Rattle.schedule.specs.Paper.{Told, first, again, optional, advised, Shown}
 use Rattle.plan.specs.Paper.{Plan, planNumber, entryAt}
 use Rattle.plan_slots.specs.Paper.{hasPage, pageAt, lowestAt, low15At}
-use Rattle.sender_message.specs.Paper.{descriptions, Writing, unwritten, written}
+use Rattle.sender_message.specs.Paper.{descriptions, MessageLeft, unwritten, written}
 
 -- 01 The plan, our writer: first, repeat, 40 and 41 as planned: a page's lowest slot is a first transmission, a later one a repeat that names it
 unfoldable pub plannedTold : Plan → ℕ → Told
@@ -26,7 +26,7 @@ abbrev pub planned : Plan → Plan → ℕ → Shown
 planned c p i = record { new = newAt c p i; told = plannedTold c i }
 
 -- 01 The plan, our writer: the message that tells each slot as planned, and its used octets
-abbrev pub message : Plan → Plan → ℕ → Writing
+abbrev pub message : Plan → Plan → ℕ → MessageLeft
 message c p b = written b (planned c p) (c .count)
 
 -- 01 Order, schedule writer: 15, current plan, previous plan, 35, 21, 34
@@ -41,5 +41,5 @@ faults c p b o =
     ∷ []
 
 -- 01 The plan, Order: writing a schedule message of the current plan c, beside the previous plan p, with Begin b, to the lent output o
-unfoldable pub write : Plan → Plan → ℕ → List ℕ → Writing
+unfoldable pub write : Plan → Plan → ℕ → List ℕ → MessageLeft
 write c p b o = ruled (unwritten o) (faults c p b o) (message c p b)

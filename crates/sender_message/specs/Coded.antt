@@ -8,12 +8,12 @@ use Rattle.schedule.specs.declared.Slot.{Slot}
 use Rattle.schedule.specs.Paper.{Told, Shown}
 use Rattle.schedule.specs.Coded.{toldOf}
 use Rattle.schedule.specs.Inner.{zeroed}
-use Rattle.sender_message.specs.Paper.{Writing, in15}
+use Rattle.sender_message.specs.Paper.{MessageLeft, in15}
 use Rattle.sender_message.specs.declared.Writing.{Writing as WritingCode}
 use Rattle.sender_message.specs.declared.Writing.the-variants.{Written, Refused}
 
 -- the writer's answer and the output that it leaves
-abbrev pub writingOf : WritingCode → List ℕ → Writing
+abbrev pub writingOf : WritingCode → List ℕ → MessageLeft
 writingOf (Written u) o = record { number = 0; used = u; output = o }
 writingOf (Refused r) o = record { number = numberOf r; used = 0; output = o }
 

@@ -58,17 +58,17 @@ abbrev pub messageOf : ℕ → (ℕ → Shown) → ℕ → List ℕ
 messageOf b s n = padded (usedPart b s n)
 
 -- 01 Order: the writer's number, the used octets it reports, and the lent output as it leaves it
-pub record Writing : Type 0 where
+pub record MessageLeft : Type 0 where
   pub number : ℕ
   pub used : ℕ
   pub output : List ℕ
 
 -- 01 Order: a refusal leaves lent memory unchanged, and the other number is 0
-abbrev pub unwritten : List ℕ → ℕ → Writing
+abbrev pub unwritten : List ℕ → ℕ → MessageLeft
 unwritten o n = record { number = n; used = 0; output = o }
 
 -- 01 The plan, our writer: the message, and its used octets, 8 and those of the descriptions
-abbrev pub written : ℕ → (ℕ → Shown) → ℕ → Writing
+abbrev pub written : ℕ → (ℕ → Shown) → ℕ → MessageLeft
 written b s n = record { number = 0; used = 8 + length (descriptions s n); output = messageOf b s n }
 
 -- 01 Order, schedule writer, where it is given what to tell: 15, 21, 34
@@ -76,7 +76,7 @@ abbrev pub messageFaults : ℕ → (ℕ → Shown) → ℕ → List ℕ → List
 messageFaults b s n o = (not (eqb (length o) 88), 15) ∷ (not (bounded b n), 21) ∷ (ltb 80 (length (descriptions s n)), 34) ∷ []
 
 -- 01 Schedule message, Order: writing the message that tells n slots, with Begin b, to the lent output o
-unfoldable pub writeMessage : ℕ → (ℕ → Shown) → ℕ → List ℕ → Writing
+unfoldable pub writeMessage : ℕ → (ℕ → Shown) → ℕ → List ℕ → MessageLeft
 writeMessage b s n o = ruled (unwritten o) (messageFaults b s n o) (written b s n)
 
 -- 000 3.5.5.1: a first transmission is told by 15 bits

@@ -1,5 +1,6 @@
 -- Laws of the loop that tells all slots, and of what its numbers leave a C caller with.
-use Rattle.laws.proofs.Base.{_≡_, refl, sym, ap, _∙_, Bool, true, false, cond, List, [], _∷_, _++_, ℕ, _+_, _*_, _<_, add-one, arith, ltb, length, getD, take, set, take-suc-set, take-all, ltb-true, eq-eqb, ne-eqb}
+use Rattle.laws.proofs.Base.{_≡_, refl, sym, ap, _∙_, Bool, true, false, cond, List, [], _∷_, _++_, ℕ, _+_, _*_, _<_, add-one, arith}
+use Rattle.laws.proofs.Base.{ltb, length, getD, take, set, take-suc-set, take-all, ltb-true, eq-eqb, ne-eqb}
 use Rattle.laws.specs.Ruled.{ruled}
 use Rattle.laws.specs.Upto.{each}
 use Rattle.laws.proofs.Outcome.{Outcome, refuses, passes, outcome}

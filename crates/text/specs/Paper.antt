@@ -23,8 +23,8 @@ unfoldable pub packed : List ℕ → List ℕ
 packed s = digits 256 82 (value 128 s)
 
 -- 01 Page and text: the page, six header octets and 82 content octets
-unfoldable pub pageOf : Heading → List ℕ → List ℕ
-pageOf h t = headerOctets h ++ packed (septets t)
+unfoldable pub pageOctets : Heading → List ℕ → List ℕ
+pageOctets h t = headerOctets h ++ packed (septets t)
 
 -- 01 Page and text: used octets 6 + (7 × characters ÷ 8, rounded up)
 abbrev pub usedOctets : List ℕ → ℕ
@@ -44,7 +44,7 @@ unfoldable pub endsInCr : List ℕ → Bool
 endsInCr t = eqb (getD t (length t - 1) 0) cr
 
 -- 01 Numbers given, what writing leaves: the number given, the used octets and the page
-pub record Writing : Type 0 where
+pub record PageLeft : Type 0 where
   pub number : ℕ
   pub used : ℕ
   pub page : List ℕ
@@ -61,12 +61,12 @@ writerTests h t p =
     ∷ []
 
 -- 01 Page and text: what the text writer leaves of the page p; a refusal leaves it as it was
-unfoldable pub written : Heading → List ℕ → List ℕ → Writing
-written h t p =
+unfoldable pub writtenPage : Heading → List ℕ → List ℕ → PageLeft
+writtenPage h t p =
     ruled
     (λ n. record { number = n; used = 0; page = p })
     (writerTests h t p)
-    (record { number = 0; used = usedOctets t; page = pageOf h t })
+    (record { number = 0; used = usedOctets t; page = pageOctets h t })
 
 -- 01 Page and text: the whole septets of some content octets, 18 of 16, 43 of 38, 68 of 60, 93 of 82: the digits to base 128 of the octets' number
 unfoldable pub wholeOf : List ℕ → List ℕ
@@ -88,8 +88,8 @@ pub record Reading : Type 0 where
   pub text : List ℕ
 
 -- 01 Page and text: the code points of some septets, and 0 in the rest of the 93
-unfoldable pub shown : List ℕ → Reading
-shown s = record { number = 0; characters = length s; text = map codePoint s ++ replicate (93 - length s) 0 }
+unfoldable pub shownText : List ℕ → Reading
+shownText s = record { number = 0; characters = length s; text = map codePoint s ++ replicate (93 - length s) 0 }
 
 -- 01 Order, text reader: 15, 16, 18, 13
 abbrev pub readerTests : List ℕ → ℕ → List ℕ → List (Bool × ℕ)
@@ -102,4 +102,4 @@ readerTests p n t =
 
 -- 01 Page and text: what the text reader leaves of the text t; a refusal leaves it as it was
 unfoldable pub reading : List ℕ → ℕ → List ℕ → Reading
-reading p n t = ruled (λ m. record { number = m; characters = 0; text = t }) (readerTests p n t) (shown (trimmed (septetsReceived p n)))
+reading p n t = ruled (λ m. record { number = m; characters = 0; text = t }) (readerTests p n t) (shownText (trimmed (septetsReceived p n)))

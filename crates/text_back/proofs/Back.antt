@@ -12,7 +12,7 @@ use Rattle.alphabet.specs.Paper.{codePoint, septetOf, noSeptet}
 use Rattle.alphabet.proofs.Laws.{Writes, reads-cr}
 use Rattle.page.specs.Paper.{Heading, header, headerOctets, octet}
 use Rattle.page.proofs.HeaderBack.{header-back, header-length}
-use Rattle.text.specs.Paper.{cr, septets, packed, pageOf, usedOctets, foreign, endsInCr, written, wholeOf, septetsReceived, trimmed, shown}
+use Rattle.text.specs.Paper.{cr, septets, packed, pageOctets, usedOctets, foreign, endsInCr, writtenPage, wholeOf, septetsReceived, trimmed, shownText}
 use Rattle.text.proofs.Cases.{reading-0}
 use Rattle.text.proofs.Septets.{known, septets-count, septets-below}
 use Rattle.text.proofs.Trim.{trim-cr, trim-other, take-last}
@@ -86,52 +86,52 @@ trim-front-back t k h f ends =
     ap trimmed cut ∙ trim-padding (min (k - length m) (93 - length t)) m ∙ trim-found t f ends
 
 -- the content of what agrees with a written page on its first n octets
-content-back : (h : Heading) (t q : List ℕ) (n : ℕ) → take n q ≡ take n (pageOf h t) → take (n - 6) (drop 6 q) ≡ take (n - 6) (packed (septets t))
-unfolding pageOf
+content-back : (h : Heading) (t q : List ℕ) (n : ℕ) → take n q ≡ take n (pageOctets h t) → take (n - 6) (drop 6 q) ≡ take (n - 6) (packed (septets t))
+unfolding pageOctets
 content-back h t q n e =
     sym (drop-take 6 n q)
-    ∙ rw (e, drop-take 6 n (pageOf h t), drop-at (headerOctets h) (packed (septets t)) 6 (header-length h))
+    ∙ rw (e, drop-take 6 n (pageOctets h t), drop-at (headerOctets h) (packed (septets t)) 6 (header-length h))
 
 -- what was written is a page
-pub written-length : (h : Heading) (t p : List ℕ) → written h t p .number ≡ 0 → length (written h t p .page) ≡ 88
-unfolding pageOf packed
+pub written-length : (h : Heading) (t p : List ℕ) → writtenPage h t p .number ≡ 0 → length (writtenPage h t p .page) ≡ 88
+unfolding pageOctets packed
 written-length h t p z =
     rw (writer-accepts h t p z .result)
     (length-append (headerOctets h) (packed (septets t)) ∙ rw (header-length h, length-digits 256 82 (value 128 (septets t))))
 
 -- what agrees with a written page on its header octets has the header that was written
-heading-agrees : (h : Heading) (t q : List ℕ) (n : ℕ) → 6 ≤ n → take n q ≡ take n (pageOf h t) → header (take 6 q) ≡ h
-unfolding pageOf
+heading-agrees : (h : Heading) (t q : List ℕ) (n : ℕ) → 6 ≤ n → take n q ≡ take n (pageOctets h t) → header (take 6 q) ≡ h
+unfolding pageOctets
 heading-agrees h t q n l e =
-    rw (← take-take 6 n q l, e, take-take 6 n (pageOf h t) l, take-at (headerOctets h) (packed (septets t)) 6 (header-length h)) (header-back h)
+    rw (← take-take 6 n q l, e, take-take 6 n (pageOctets h t) l, take-at (headerOctets h) (packed (septets t)) 6 (header-length h)) (header-back h)
 
-scheme-back : (h : Heading) (t q : List ℕ) (n : ℕ) → 6 ≤ n → take n q ≡ take n (pageOf h t) → octet q 5 ≡ h .scheme
+scheme-back : (h : Heading) (t q : List ℕ) (n : ℕ) → 6 ≤ n → take n q ≡ take n (pageOctets h t) → octet q 5 ≡ h .scheme
 unfolding header
 scheme-back h t q n l e = sym (getD-take 6 q 4 0 (lit< tt)) ∙ ap (λ (x : Heading). x .scheme) (heading-agrees h t q n l e)
 
-shown-back : (t : List ℕ) → foreign t ≡ false → shown (map septetOf t) ≡ givenBack t
-unfolding shown
+shown-back : (t : List ℕ) → foreign t ≡ false → shownText (map septetOf t) ≡ givenBack t
+unfolding shownText
 shown-back t f = rw (length-map t septetOf, reads-back t f)
 
 -- what was used is at least the header, and at most the page
-pub used-bounds : (h : Heading) (t p : List ℕ) → written h t p .number ≡ 0 → (6 ≤ written h t p .used) × (written h t p .used ≤ 88)
+pub used-bounds : (h : Heading) (t p : List ℕ) → writtenPage h t p .number ≡ 0 → (6 ≤ writtenPage h t p .used) × (writtenPage h t p .used ≤ 88)
 used-bounds h t p z =
     let a = writer-accepts h t p z in
-    let e : written h t p .used ≡ usedOctets t = rw (a .result) in
+    let e : writtenPage h t p .used ≡ usedOctets t = rw (a .result) in
     omega (arith, e, a .short)
 
 pub text-back : TextBack
 text-back h t p z q u n w used lq lu agree =
     let a = writer-accepts h t p z in
     let b = whole-bounds n w in
-    let e : take n q ≡ take n (pageOf h t) = agree ∙ rw (a .result) in
+    let e : take n q ≡ take n (pageOctets h t) = agree ∙ rw (a .result) in
     let s : octet q 5 ≤ 15 = rw (scheme-back h t q n (omega arith) e) (a .scheme) in
     let got : septetsReceived q n ≡ take (8 * (n - 6) / 7) (septets t) =
     ap wholeOf (content-back h t q n e)
     ∙ front-back (septets t) (n - 6) (septets-count t (a .short)) (omega arith) (septets-below t (a .known)) in
     reading-0 q n u lu lq w s
-    ∙ ap (λ (l : List ℕ). shown (trimmed l)) got
-    ∙ ap shown (trim-front-back t (8 * (n - 6) / 7) (omega arith) (a .known) (a .open-ended))
+    ∙ ap (λ (l : List ℕ). shownText (trimmed l)) got
+    ∙ ap shownText (trim-front-back t (8 * (n - 6) / 7) (omega arith) (a .known) (a .open-ended))
     ∙ shown-back t (a .known)
 
 pub heading-back : HeadingBack
@@ -141,12 +141,12 @@ heading-back h t p q n z l agree =
 pub text-back-whole : TextBackWhole
 text-back-whole h t p u z lu =
     let a = writer-accepts h t p z in
-    text-back h t p z (written h t p .page) u 88 (whole-times 4 (omega arith) (omega arith)) (omega (arith, a .short)) (written-length h t p z) lu refl
+    text-back h t p z (writtenPage h t p .page) u 88 (whole-times 4 (omega arith) (omega arith)) (omega (arith, a .short)) (written-length h t p z) lu refl
 
 pub text-back-blocks : TextBackBlocks
 text-back-blocks h t p q u z lq lu agree =
     let a = writer-accepts h t p z in
-    let e : written h t p .used ≡ usedOctets t = rw (a .result) in
-    let j : ℕ = (written h t p .used + 21) / 22 in
+    let e : writtenPage h t p .used ≡ usedOctets t = rw (a .result) in
+    let j : ℕ = (writtenPage h t p .used + 21) / 22 in
     text-back h t p z q u (22 * j) (whole-times j (omega (arith, a .short)) (omega (arith, a .short)))
     (omega (arith, e)) lq lu agree

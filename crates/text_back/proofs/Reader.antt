@@ -2,7 +2,7 @@
 use Rattle.laws.proofs.Base.{_≡_, sym, ap, _∙_, List, ℕ, _-_, _≤_, _<_, min-le-left, arith, lit≤, length, getD, take, drop, length-take, length-take-le}
 use Rattle.laws.proofs.Radix.{length-digits}
 use Rattle.sizes.proofs.Received.{whole-bounds}
-use Rattle.text.specs.Paper.{Reading, cr, wholeOf, septetsReceived, trimmed, shown, reading}
+use Rattle.text.specs.Paper.{Reading, cr, wholeOf, septetsReceived, trimmed, shownText, reading}
 use Rattle.text.proofs.Trim.{trim-back, trim-rest, trim-length, trim-front}
 use Rattle.text_back.specs.Claims.{CharactersBounded, DropsCrsOnly}
 use Rattle.text_back.proofs as own
@@ -10,9 +10,9 @@ use own.Accepted.{Reads, refused, read, reads}
 use own.Back.{trim-padding}
 
 -- the number of characters is that of the septets left
-count : (p : List ℕ) (n : ℕ) (t : List ℕ) → reading p n t ≡ shown (trimmed (septetsReceived p n))
+count : (p : List ℕ) (n : ℕ) (t : List ℕ) → reading p n t ≡ shownText (trimmed (septetsReceived p n))
     → reading p n t .characters ≡ length (trimmed (septetsReceived p n))
-unfolding shown
+unfolding shownText
 count p n t e = ap (λ (r : Reading). r .characters) e
 
 received-bound : (p : List ℕ) (n : ℕ) → n ≤ 88 → length (septetsReceived p n) ≤ 93

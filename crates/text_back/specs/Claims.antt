@@ -7,7 +7,7 @@ use lib.ListN.{length, getD, take, replicate}
 use Rattle.laws.specs.Radix.{Below, bit}
 use Rattle.sizes.specs.Paper.{wholeBlocks}
 use Rattle.page.specs.Paper.{Heading, header}
-use Rattle.text.specs.Paper.{Reading, cr, packed, usedOctets, written, wholeOf, septetsReceived, reading}
+use Rattle.text.specs.Paper.{Reading, cr, packed, usedOctets, writtenPage, wholeOf, septetsReceived, reading}
 
 -- 01 Page and text: a text as the reader gives it: its characters, and 0 in the rest of the 93
 abbrev pub givenBack : List ℕ → Reading
@@ -16,13 +16,13 @@ givenBack t = record { number = 0; characters = length t; text = t ++ replicate 
 -- any page that agrees with the written one on the octets received, all used ones among them, is read back as the text
 abbrev pub TextBack : Type 0
 TextBack =
-    (h : Heading) (t p : List ℕ) → written h t p .number ≡ 0
+    (h : Heading) (t p : List ℕ) → writtenPage h t p .number ≡ 0
     → (q u : List ℕ) (n : ℕ) → wholeBlocks n ≡ true → usedOctets t ≤ n → length q ≡ 88 → length u ≡ 93
-    → take n q ≡ take n (written h t p .page) → reading q n u ≡ givenBack t
+    → take n q ≡ take n (writtenPage h t p .page) → reading q n u ≡ givenBack t
 
 -- the written page itself, received whole
 abbrev pub TextBackWhole : Type 0
-TextBackWhole = (h : Heading) (t p u : List ℕ) → written h t p .number ≡ 0 → length u ≡ 93 → reading (written h t p .page) 88 u ≡ givenBack t
+TextBackWhole = (h : Heading) (t p u : List ℕ) → writtenPage h t p .number ≡ 0 → length u ≡ 93 → reading (writtenPage h t p .page) 88 u ≡ givenBack t
 
 -- 01 Blocks: the octets of the blocks up to the last used one
 abbrev pub usedBlocks : ℕ → ℕ
@@ -31,14 +31,14 @@ usedBlocks used = 22 * ((used + 21) / 22)
 -- what agrees with the written page on the blocks up to the last used one, received so far
 abbrev pub TextBackBlocks : Type 0
 TextBackBlocks =
-    (h : Heading) (t p q u : List ℕ) → written h t p .number ≡ 0 → length q ≡ 88 → length u ≡ 93
-    → take (usedBlocks (written h t p .used)) q ≡ take (usedBlocks (written h t p .used)) (written h t p .page)
-    → reading q (usedBlocks (written h t p .used)) u ≡ givenBack t
+    (h : Heading) (t p q u : List ℕ) → writtenPage h t p .number ≡ 0 → length q ≡ 88 → length u ≡ 93
+    → take (usedBlocks (writtenPage h t p .used)) q ≡ take (usedBlocks (writtenPage h t p .used)) (writtenPage h t p .page)
+    → reading q (usedBlocks (writtenPage h t p .used)) u ≡ givenBack t
 
 -- the header of any page that agrees with the written one on the octets received is the one that was written
 abbrev pub HeadingBack : Type 0
 HeadingBack =
-    (h : Heading) (t p q : List ℕ) (n : ℕ) → written h t p .number ≡ 0 → 6 ≤ n → take n q ≡ take n (written h t p .page)
+    (h : Heading) (t p q : List ℕ) (n : ℕ) → writtenPage h t p .number ≡ 0 → 6 ≤ n → take n q ≡ take n (writtenPage h t p .page)
     → header (take 6 q) ≡ h
 
 -- the reader gives at most 93 characters

@@ -2,7 +2,7 @@
 ghost use mathlib.Core.Path.{_≡_};
 ghost use Prim.Native.Nat.{_≤_};
 ghost use lib.ListN.{length, replicate};
-ghost use Rattle.text.specs.Paper.{trimmed, wholeOf, shown, reading};
+ghost use Rattle.text.specs.Paper.{trimmed, wholeOf, shownText, reading};
 ghost use Rattle.text_reader.specs.Coded.{readingOf};
 use page::Handing;
 use refusals::Refusal;
@@ -41,7 +41,7 @@ fn blank(text: &mut [u16])
 // Writes the text of some content received, 0 after it, and answers its length.
 fn show(content: &[u8], text: &mut [u16]) -> usize
     requires { ⌜ (length (now content) ≤ 82) × (length (now text) ≡ 93) ⌝ }
-    ensures { λ r. ⌜ readingOf (Got.Characters r) (now (text .exit)) ≡ shown (trimmed (wholeOf (now (content .entry)))) ⌝ }
+    ensures { λ r. ⌜ readingOf (Got.Characters r) (now (text .exit)) ≡ shownText (trimmed (wholeOf (now (content .entry)))) ⌝ }
 {
     let whole = content.len() + content.len() / 7;
     let mut septets = [0u8; CHARACTERS];

@@ -3,8 +3,8 @@ ghost use mathlib.Core.Path.{_≡_};
 ghost use mathlib.Core.List.{_++_};
 ghost use Rattle.page.specs.Paper.{headerOctets};
 ghost use Rattle.page.specs.Coded.{headingOf};
-ghost use Rattle.text.specs.Paper.{badParameter, endsInCr, packed, written};
-ghost use Rattle.text_writer.specs.Coded.{headed, writingOf};
+ghost use Rattle.text.specs.Paper.{badParameter, endsInCr, packed, writtenPage};
+ghost use Rattle.text_writer.specs.Coded.{headingWith, writingOf};
 ghost use Rattle.text_writer.specs.Inner.{Paged};
 use page::Header;
 use page::MessageId;
@@ -57,7 +57,7 @@ pub fn write_text(
     text: &[u16],
     page: &mut [u8],
 ) -> Written
-    ensures { λ r. ⌜ writingOf r (now (page .exit)) ≡ written (headed serial id scheme parameter) (now (text .entry)) (now (page .entry)) ⌝ }
+    ensures { λ r. ⌜ writingOf r (now (page .exit)) ≡ writtenPage (headingWith serial id scheme parameter) (now (text .entry)) (now (page .entry)) ⌝ }
 {
     if page.len() != MESSAGE {
         return Written::Refused(Refusal::OutputLength);

@@ -7,6 +7,7 @@ use crate::told;
 use crate::told::DIFFERS;
 use crate::told::NO_VALUE;
 use board::Decision;
+use board::WANTED;
 use board::Wanted;
 use board_held::Held;
 use board_held::Schedule;
@@ -15,9 +16,6 @@ use schedule::Reading;
 use schedule::Slot;
 use schedule_given::Given;
 use sizes::MESSAGE;
-
-// The most identifiers that are wanted.
-const WANTED: usize = 64;
 
 // S: message, received; number, Begin, End; then for each description, in the message's order: slot, new bit, code.
 pub(crate) fn schedule(line: &[u8]) -> usize {

@@ -1,6 +1,6 @@
 -- The words of a number are their part of all words.
-use Rattle.laws.proofs.Base.{_≡_, refl, sym, ap, _∙_, Bool, true, false, cond, not, _&&_, List, [], _∷_, _++_, ℕ, suc, _+_, _-_, _≤_}
-use Rattle.laws.proofs.Base.{_<_, add-zero, arith, length, getD, take, drop, take-append-drop, eqb, leb, leb-true, ne-eqb, not-false}
+use Rattle.laws.proofs.Base.{_≡_, refl, sym, ap, _∙_, Bool, true, false, cond, not, _&&_, List, [], _∷_, _++_, ℕ, _+_, _-_, _≤_}
+use Rattle.laws.proofs.Base.{_<_, add-zero, arith, length, getD, take, drop, take-append-drop, leb, leb-true, ne-eqb, not-false}
 use Prim.Native.String.{String}
 use Rattle.laws.specs.Upto.{some, each}
 use Rattle.laws.proofs.Upto.{some-false, each-at}

@@ -10,4 +10,4 @@ unfolding alphabet
 code-point-by-requires c κs = refl
 
 pub code-point-spec : {M : Type 1} → statement M
-code-point-spec = tie.close (tie.spec code-point-by-requires (λ c. search needs))
+code-point-spec = tie.close (tie.spec code-point-by-requires (search needs))

@@ -10,4 +10,4 @@ unfolding codePoint
 returns c = rw (c .before .pre)
 
 pub code-point-by-spec : {M : Type 1} → statement M
-code-point-by-spec = tie.close (tie.spec (λ c. search needs) (λ c. search needs) (λ c. search needs) returns)
+code-point-by-spec = tie.close (tie.spec (search needs) (search needs) (search needs) returns)

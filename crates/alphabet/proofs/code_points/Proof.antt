@@ -10,4 +10,4 @@ unfolding alphabet
 code-points-by-requires c κs = refl
 
 pub code-points-spec : {M : Type 1} → statement M
-code-points-spec = tie.close (tie.spec code-points-by-requires (λ c. search needs) (λ c. search needs))
+code-points-spec = tie.close (tie.spec code-points-by-requires (search needs) (λ c. search needs))

@@ -34,6 +34,6 @@ pub code-points-by-spec : {M : Type 1} → statement M
 code-points-by-spec =
     tie.close
     (tie.spec
-    Inv-loop μ-loop (λ c κs. search needs) (λ c. (search needs, c .least .ensures, refl, refl))
-    (λ c. search needs) (λ c κs. search needs) (λ c. search needs) (λ c. search needs)
-    (λ c. search needs) (λ c. search needs) loop-again (λ c. search needs) returns)
+    Inv-loop μ-loop (search needs) (λ c. (search needs, c .least .ensures, refl, refl))
+    (search needs) (λ c. search needs) (search needs) (search needs)
+    (search needs) (search needs) loop-again (search needs) returns)

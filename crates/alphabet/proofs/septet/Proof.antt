@@ -10,4 +10,4 @@ unfolding septetOf alphabet
 septet-by-requires c κs = refl
 
 pub septet-spec : {M : Type 1} → statement M
-septet-spec = tie.close (tie.spec septet-by-requires (λ c. search needs))
+septet-spec = tie.close (tie.spec septet-by-requires (search needs))

@@ -13,4 +13,4 @@ returns c =
 
 pub septet-by-spec : {M : Type 1} → statement M
 septet-by-spec = tie.close (tie.spec
-    (λ c. search needs) returns (λ c. sym (past-table (c .before .args .code) (c .if1 .left))))
+    (search needs) returns (λ c. sym (past-table (c .before .args .code) (c .if1 .left))))

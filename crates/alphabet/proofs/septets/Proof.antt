@@ -10,4 +10,4 @@ unfolding septetOf alphabet
 septets-by-requires c κs = refl
 
 pub septets-spec : {M : Type 1} → statement M
-septets-spec = tie.close (tie.spec septets-by-requires (λ c. search needs) (λ c. search needs))
+septets-spec = tie.close (tie.spec septets-by-requires (search needs) (λ c. search needs))

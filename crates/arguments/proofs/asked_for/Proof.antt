@@ -17,7 +17,7 @@ returns-4 c =
 
 pub asked-for-spec : {M : Type 1} → statement M
 asked-for-spec = tie.close (tie.spec
-    (λ c κs. search needs)
+    (search needs)
     (λ c. asks-for-help _ _ _ _ (sym (c .before .asks-help .ensures) ∙ c .if1 .taken))
     (λ c. asks-too-few _ _ _ _ (sym (c .before .before .asks-help .ensures) ∙ c .before .if1 .left) (c .if2 .taken))
     returns-3 returns-4)

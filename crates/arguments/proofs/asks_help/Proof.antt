@@ -16,4 +16,4 @@ unfolding helpAsked ascii
 returns-2 c = rw (eq-eqb _ 2 (c .before .before .if1 .left)) (same-exactly _ _ _ (c .same .ensures))
 
 pub asks-help-spec : {M : Type 1} → statement M
-asks-help-spec = tie.close (tie.spec returns (λ c. search needs) (λ c κs. search needs) returns-2)
+asks-help-spec = tie.close (tie.spec returns (search needs) (search needs) returns-2)

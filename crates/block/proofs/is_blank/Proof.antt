@@ -31,5 +31,5 @@ pub is-blank-spec : {M : Type 1} → statement M
 is-blank-spec =
     tie.close
     (tie.spec
-    Inv-loop μ-loop (λ c. refl) (λ c. search needs) (λ c. search needs) (λ c. search needs)
+    Inv-loop μ-loop (λ c. refl) (search needs) (search needs) (search needs)
     loop-again returns)

@@ -62,5 +62,5 @@ pub is-proper-spec : {M : Type 1} → statement M
 is-proper-spec =
     tie.close
     (tie.spec
-    returns returns-2 (λ c κs. search needs) returns-3 returns-4 returns-5 returns-6
-    (λ c. search needs) (λ c κs. search needs) returns-7)
+    returns returns-2 (search needs) returns-3 returns-4 returns-5 returns-6
+    (search needs) (search needs) returns-7)

@@ -88,5 +88,5 @@ pub place-of-spec : {M : Type 1} → statement M
 place-of-spec =
     tie.close
     (tie.spec
-    returns (λ c. search needs) returns-2 returns-3 returns-4 returns-5 returns-6 returns-7
+    returns (search needs) returns-2 returns-3 returns-4 returns-5 returns-6 returns-7
     returns-8 returns-9)

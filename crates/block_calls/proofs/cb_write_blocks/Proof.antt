@@ -1,7 +1,7 @@
 -- `block_calls::cb_write_blocks` meets its contract: the block writer's answer and output, for the kind that is told.
 use Rattle.laws.proofs.Base.{_≡_, ap, _∙_, needs}
 use Rattle.block.specs.Paper.{Kind}
-use Rattle.block_writer.specs.Paper.{BlocksLeft, written}
+use Rattle.block_writer.specs.Paper.{BlocksLeft, writtenBlocks}
 use Rattle.block_writer.specs.Coded.{sentOf}
 use Rattle.block_calls.specs.Paper.{kindIf, blocksLeft}
 use Rattle.block_calls.proofs.cb_write_blocks as own
@@ -12,12 +12,12 @@ use own.Tie as tie
 abbrev blocks : tie.After-write-blocks → BlocksLeft
 blocks c =
     let a = c .before .before .before .before .before .args in
-    written (a .message .now) (kindIf (a .schedule)) (a .used) (a .out .now)
+    writtenBlocks (a .message .now) (kindIf (a .schedule)) (a .used) (a .out .now)
 
 writes : (c : tie.After-write-blocks) → sentOf (c .write-blocks .result) (c .write-blocks .last .1 .1 .1 .0) ≡ blocks c
 writes c =
     let a = c .before .before .before .before .before .args in
-    c .write-blocks .ensures ∙ ap (λ (k : Kind). written (a .message .now) k (a .used) (a .out .now)) (c .before .before .kind-of .ensures)
+    c .write-blocks .ensures ∙ ap (λ (k : Kind). writtenBlocks (a .message .now) k (a .used) (a .out .now)) (c .before .before .kind-of .ensures)
 
 returns-2 : tie.Need-returns-2
 returns-2 c =
@@ -29,7 +29,7 @@ pub cb-write-blocks-spec : {M : Type 1} → statement M
 cb-write-blocks-spec =
     tie.close
     (tie.spec
-    (λ c κs. search needs) (λ c κs. search needs) (λ c. search needs) (λ c. search needs)
-    (λ c κs. search needs) (λ c. search needs) (λ c. search needs)
+    (search needs) (search needs) (search needs) (search needs)
+    (search needs) (search needs) (search needs)
     (λ c. ap blocksLeft (rw (c .enum-told .given .1) at (writes (c .before .before .before .before))))
-    (λ c. search needs) returns-2)
+    (search needs) returns-2)

@@ -66,7 +66,7 @@ pub intake-spec : {M : Type 1} → statement M
 intake-spec =
     tie.close
     (tie.spec
-    (λ c κs. search needs) (λ c. search needs) (λ c κs. search needs) (λ c κs. search needs) returns
-    (λ c κs. search needs) (λ c. search needs) (λ c κs. search needs) (λ c. search needs)
-    (λ c κs. search needs) add-requires (λ c. search needs) add-requires-2 returns-2 returns-3
+    (search needs) (λ c. search needs) (search needs) (search needs) returns
+    (search needs) (search needs) (search needs) (search needs)
+    (search needs) add-requires (search needs) add-requires-2 returns-2 returns-3
     returns-4)

@@ -31,4 +31,4 @@ returns-2 c =
 pub block-type-spec : {M : Type 1} → statement M
 block-type-spec =
     tie.close
-    (tie.spec (λ c κs. search needs) (λ c. search needs) (λ c. search needs) add-result returns add-result-2 returns-2)
+    (tie.spec (search needs) (search needs) (search needs) add-result returns add-result-2 returns-2)

@@ -17,5 +17,5 @@ returns-3 c =
 pub sequence-code-spec : {M : Type 1} → statement M
 sequence-code-spec =
     tie.close (tie.spec
-    (λ c. search needs) (λ c. simp (ne-eqb _ _ (c .if1 .taken))) (λ c. search needs)
-    (λ c. search needs) returns-2 returns-3)
+    (search needs) (λ c. simp (ne-eqb _ _ (c .if1 .taken))) (search needs)
+    (search needs) returns-2 returns-3)

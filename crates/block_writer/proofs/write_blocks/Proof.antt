@@ -1,6 +1,6 @@
 -- `block_writer::write_blocks` meets its contract. The invariant: the blocks so far stand at the front, and the rest is as it was.
 use Rattle.laws.proofs.Base.{_≡_, _<_, refl, sym, _∙_, _++_, _+_, _*_, _-_, _≤_, length, drop, length-set, arith, needs, eq-eqb, ne-eqb, le-ltb, lt-ltb}
-use Rattle.block_writer.specs.Paper.{blocks, written}
+use Rattle.block_writer.specs.Paper.{blocks, writtenBlocks}
 use Rattle.block.specs.Coded.{kindOf}
 use Rattle.block_writer.proofs as own
 use own.Write.{write-turn, length-written, written-all}
@@ -15,19 +15,19 @@ abbrev μ-loop : tie.MeasureT-loop
 μ-loop message kind used out₀ i₀ out i = 4 - i
 
 returns : tie.Need-returns Inv-loop μ-loop
-unfolding written
+unfolding writtenBlocks
 returns c = simp (ne-eqb _ _ (c .if1 .taken))
 
 returns-2 : tie.Need-returns-2 Inv-loop μ-loop
-unfolding written
+unfolding writtenBlocks
 returns-2 c = simp (eq-eqb _ _ (c .before .if1 .left), ne-eqb _ _ (c .if2 .taken))
 
 returns-3 : tie.Need-returns-3 Inv-loop μ-loop
-unfolding written
+unfolding writtenBlocks
 returns-3 c = simp (eq-eqb _ _ (c .before .before .if1 .left), eq-eqb _ _ (c .before .if2 .left), c .if3 .taken)
 
 returns-4 : tie.Need-returns-4 Inv-loop μ-loop
-unfolding written
+unfolding writtenBlocks
 returns-4 c =
     let b = c .before .before in
     let over : 88 < c .before .before .before .before .before .before .args .used = omega arith in
@@ -56,7 +56,7 @@ loop-again c =
     (n, again, length-written k (s .args .used) m long (l .loop .i + 1) (s .args .out .now) _ n size again)
 
 returns-5 : tie.Need-returns-5 Inv-loop μ-loop
-unfolding written
+unfolding writtenBlocks
 returns-5 c =
     let l = c .before in
     let s = l .before .before .before .before .before .before .before in
@@ -73,11 +73,11 @@ pub write-blocks-spec : {M : Type 1} → statement M
 write-blocks-spec =
     tie.close
     (tie.spec
-    Inv-loop μ-loop returns returns-2 returns-3 returns-4 loop-holds (λ c κs. search needs)
-    (λ c. search needs) (λ c. search needs) (λ c. search needs) (λ c. search needs)
-    (λ c. search needs) (λ c. search needs) (λ c. search needs) (λ c. search needs)
-    (λ c. search needs) (λ c. search needs) (λ c. search needs) (λ c. search needs)
-    (λ c. search needs) (λ c. search needs) (λ c. simp length-set (omega arith))
-    (λ c κs. search needs) (λ c. search needs) (λ c. search needs) loop-again
+    Inv-loop μ-loop returns returns-2 returns-3 returns-4 loop-holds (search needs)
+    (search needs) (search needs) (search needs) (search needs)
+    (search needs) (search needs) (search needs) (search needs)
+    (search needs) (search needs) (search needs) (search needs)
+    (search needs) (search needs) (λ c. simp length-set (omega arith))
+    (search needs) (search needs) (search needs) loop-again
     (λ c. c .before .loop .inv .2 ∙ sym (c .before .before .before .before .before .if1 .left))
     returns-5)

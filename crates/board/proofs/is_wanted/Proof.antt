@@ -10,4 +10,4 @@ unfolding isWanted
 returns c = c .any-matches .ensures
 
 pub is-wanted-spec : {M : Type 1} → statement M
-is-wanted-spec = tie.close (tie.spec (λ c κs. search needs) returns)
+is-wanted-spec = tie.close (tie.spec (search needs) returns)

@@ -6,6 +6,6 @@ use own.Tie as tie
 
 pub unless-held-spec : {M : Type 1} → statement M
 unless-held-spec = tie.close (tie.spec
-    (λ c κs. search needs)
+    (search needs)
     (λ c. rw (sym (c .before .is-held .ensures) ∙ c .if1 .taken) (sym (and-false (c .before .before .args .matches))))
     (λ c. rw (sym (c .before .is-held .ensures) ∙ c .if1 .left) (sym (and-true (c .before .before .args .matches)))))

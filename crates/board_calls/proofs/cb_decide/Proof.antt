@@ -28,7 +28,7 @@ pub cb-decide-spec : {M : Type 1} → statement M
 cb-decide-spec =
     tie.close
     (tie.spec
-    (λ c κs. search needs) (λ c κs. search needs) (λ c. search needs) (λ c. search needs)
-    (λ c. search needs) (λ c κs. search needs) (λ c. search needs)
+    (search needs) (search needs) (search needs) (search needs)
+    (search needs) (search needs) (search needs)
     (λ c. ap packedDecided (rw (c .enum-told .given .1) at (listed (c .before .before))))
     (λ c. ap packedDecided (rw (c .enum-told2 .given .1) at (listed (c .before .before)))) returns-3)

@@ -38,6 +38,6 @@ pub wanted-of-spec : {M : Type 1} → statement M
 wanted-of-spec =
     tie.close
     (tie.spec
-    Inv-loop μ-loop (λ c. (omega arith, omega arith, refl, refl)) returns (λ c. search needs)
-    (λ c. search needs) (λ c. search needs) (λ c. search needs) (λ c. search needs)
-    (λ c. search needs) loop-again returns-2)
+    Inv-loop μ-loop (λ c. (omega arith, omega arith, refl, refl)) returns (search needs)
+    (search needs) (search needs) (search needs) (search needs)
+    (search needs) loop-again returns-2)

@@ -24,7 +24,8 @@ returns-2 c =
     (sym (c .before .tells-of .ensures) ∙ not-true _ (c .if2 .taken))))
 
 -- the message tells of the slot
-tells : (c : tie.After-places) → let a = c .before .before .before .before .before .before .args in Telling (a .message .now) (a .received) (a .slot) (c .before .before .before .read-places .result .places)
+tells : (c : tie.After-places) → let a = c .before .before .before .before .before .before .args in
+    Telling (a .message .now) (a .received) (a .slot) (c .before .before .before .read-places .result .places)
 tells c =
     let a = c .before .before .before .before .before .before .args in
     let t = c .before .before .before .read-places in
@@ -36,12 +37,13 @@ returns-3 c =
     let t = c .before .before .before .before .before .read-places in
     c .entry-for .ensures
     ∙ ap (entryFor (a .slot)) (c .before .told-at .ensures)
-    ∙ entered-slot (a .known) (a .message .now) (a .received) (a .slot) (t .result) (t .ensures) (not-false _ (c .before .before .before .before .before .before .if1 .left)) (sym (c .before .before .before .before .tells-of .ensures) ∙ not-false _ (c .before .before .before .if2 .left))
+    ∙ entered-slot (a .known) (a .message .now) (a .received) (a .slot) (t .result) (t .ensures)
+    (not-false _ (c .before .before .before .before .before .before .if1 .left)) (sym (c .before .before .before .before .tells-of .ensures) ∙ not-false _ (c .before .before .before .if2 .left))
 
 pub entered-under-on-spec : {M : Type 1} → statement M
 entered-under-on-spec =
     tie.close
     (tie.spec
-    returns (λ c κs. search needs) (λ c κs. search needs) returns-2 (λ c. tells c .some)
-    (λ c. omega (arith, tells c .low)) (λ c. search needs) (λ c κs. search needs)
-    (λ c κs. search needs) returns-3)
+    returns (search needs) (search needs) returns-2 (λ c. tells c .some)
+    (λ c. omega (arith, tells c .low)) (λ c. search needs) (search needs)
+    (search needs) returns-3)

@@ -9,5 +9,5 @@ pub is-held-spec : {M : Type 1} → statement M
 is-held-spec =
     tie.close
     (tie.spec
-    (λ c. sym (held-low _ _ (c .if1 .taken))) (λ c. sym (held-high _ _ (c .if2 .taken))) (λ c. search needs)
+    (λ c. sym (held-low _ _ (c .if1 .taken))) (λ c. sym (held-high _ _ (c .if2 .taken))) (search needs)
     (λ c. sym (held-bit _ _ (record { some = search needs; low = search needs }))))

@@ -24,4 +24,4 @@ returns-3 c =
     sym (ap (λ (r : Reading). answers (readOf r) slot) (c .before .before .answer .given .1) ∙ rw (le-leb 1 slot (c .if1 .left)))
 
 pub tells-of-spec : {M : Type 1} → statement M
-tells-of-spec = tie.close (tie.spec (λ c. search needs) (λ c. search needs) returns returns-2 returns-3)
+tells-of-spec = tie.close (tie.spec (search needs) (search needs) returns returns-2 returns-3)

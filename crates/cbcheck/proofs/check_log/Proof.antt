@@ -14,6 +14,6 @@ pub check-log-spec : {M : Type 1} → statement M
 check-log-spec =
     tie.close
     (tie.spec
-    (λ c κs. search needs) (λ c. search needs) (λ c. search needs) (λ c κs. search needs)
-    (λ c. search needs) array-share-prefix-name (λ c. sym (length-take-le _ _ (array-share-prefix-name (c .before))))
-    (λ c κs. search needs) (λ c. search needs) (λ c. search needs) (λ c. search needs))
+    (search needs) (search needs) (search needs) (search needs)
+    (search needs) array-share-prefix-name (λ c. sym (length-take-le _ _ (array-share-prefix-name (c .before))))
+    (search needs) (search needs) (search needs) (search needs))

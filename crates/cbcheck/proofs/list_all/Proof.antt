@@ -64,10 +64,10 @@ list-all-spec =
     (tie.spec
     Inv-loop μ-loop
     (λ c. let s = c .before .before .before .before in going-start (lineOf (checkBeside (plansOf (s .args .plans)))) 146432 (s .pre) (search needs) (search needs))
-    (λ c κs. search needs) array-share-prefix-log
-    (λ c. sym (length-take-le _ _ (array-share-prefix-log (c .before)))) (λ c. search needs)
+    (search needs) array-share-prefix-log
+    (λ c. sym (length-take-le _ _ (array-share-prefix-log (c .before)))) (search needs)
     list-requires slice-reshare-prefix-write-chunk
     (λ c. sym (length-take-le _ _ (slice-reshare-prefix-write-chunk (c .before))))
-    (λ c κs. search needs) same-length (λ c. search needs) returns loop-less loop-again
+    (search needs) same-length (search needs) returns loop-less loop-again
     (λ c. c .before .loop .inv .state-size ∙ sym (ap length (c .before .before .before .before .before .before .pre .0)))
-    (λ c. search needs) (λ c. c .before .loop .inv .told))
+    (search needs) (λ c. c .before .loop .inv .told))

@@ -16,4 +16,4 @@ returns-2 c =
     rw (eq-eqb (a .returned % 256) 7 (checked .before .if1 .left), ← (checked .check-beside .ensures)) (c .before .before .put-checking .ensures)
 
 pub put-answer-spec : {M : Type 1} → statement M
-put-answer-spec = tie.close (tie.spec returns (λ c. search needs) (λ c κs. search needs) (λ c κs. search needs) (λ c. search needs) returns-2)
+put-answer-spec = tie.close (tie.spec returns (search needs) (search needs) (search needs) (search needs) returns-2)

@@ -18,6 +18,6 @@ pub put-checking-spec : {M : Type 1} → statement M
 put-checking-spec =
     tie.close
     (tie.spec
-    (λ c. search needs) (λ c κs. search needs) (λ c. search needs) (λ c κs. search needs)
-    (λ c. search needs) (λ c κs. search needs) (λ c. search needs) returns (λ c. search needs)
+    (search needs) (search needs) (search needs) (search needs)
+    (search needs) (search needs) (search needs) returns (search needs)
     (λ c. rw (c .before .before .before .before .before .checking .given .1) (c .before .before .put-refused .ensures)))

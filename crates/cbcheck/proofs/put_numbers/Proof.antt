@@ -14,4 +14,4 @@ returns c =
     and-others (marked _ _) _ _ _ (first .put-marked .ensures) (and-others (marked _ _) _ _ _ (second .put-marked2 .ensures) (third .put-marked3 .ensures))
 
 pub put-numbers-spec : {M : Type 1} → statement M
-put-numbers-spec = tie.close (tie.spec (λ c κs. search needs) (λ c κs. search needs) (λ c κs. search needs) (λ c. search needs) returns)
+put-numbers-spec = tie.close (tie.spec (search needs) (search needs) (search needs) (search needs) returns)

@@ -34,6 +34,6 @@ begin-of-spec =
     tie.close
     (tie.spec
     Inv-loop μ-loop (λ c. typed-none _ (c .if1 .taken)) (λ c. (search needs, typed-some _ (c .if1 .left)))
-    (λ c. search needs) returns-2 returns-3 (λ c. search needs) (λ c. search needs) (λ c. search needs)
-    (λ c κs. search needs) (λ c. search needs) (λ c. search needs) loop-again
+    (search needs) returns-2 returns-3 (search needs) (search needs) (search needs)
+    (search needs) (search needs) (search needs) loop-again
     (λ c. sym (c .before .loop .inv .1 ∙ typed-end _ _ _ (c .loop-test .left))))

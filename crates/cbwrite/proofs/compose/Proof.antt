@@ -25,5 +25,5 @@ pub compose-spec : {M : Type 1} → statement M
 compose-spec =
     tie.close
     (tie.spec
-    (λ c. search needs) (λ c κs. search needs) (λ c. search needs) (λ c. search needs)
-    (λ c κs. search needs) (λ c. search needs) (λ c. search needs) returns returns-2)
+    (search needs) (search needs) (search needs) (search needs)
+    (search needs) (search needs) (search needs) returns returns-2)

@@ -21,4 +21,4 @@ returns-2 c =
 
 pub check-beside-spec : {M : Type 1} → statement M
 check-beside-spec =
-    tie.close (tie.spec (λ c. search needs) returns (λ c. search needs) (λ c κs. search needs) returns-2)
+    tie.close (tie.spec (search needs) returns (search needs) (search needs) returns-2)

@@ -16,4 +16,4 @@ returns c =
     ∙ check-beside (planOf (a .current)) (planOf (a .previous)) (a .message .now) (a .received)
 
 pub check-schedule-spec : {M : Type 1} → statement M
-check-schedule-spec = tie.close (tie.spec (λ c κs. search needs) (λ c κs. search needs) returns)
+check-schedule-spec = tie.close (tie.spec (search needs) (search needs) returns)

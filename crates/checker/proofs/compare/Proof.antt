@@ -48,5 +48,5 @@ pub compare-spec : {M : Type 1} → statement M
 compare-spec =
     tie.close
     (tie.spec
-    (λ c κs. search needs) (λ c. search needs) (λ c. search needs) returns first-untrue-requires
+    (search needs) (search needs) (search needs) returns first-untrue-requires
     returns-2 returns-3 returns-4)

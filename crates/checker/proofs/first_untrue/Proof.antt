@@ -17,7 +17,8 @@ abbrev μ-loop : tie.MeasureT-loop
 μ-loop message count all places i₀ i = count - i
 
 -- whether the slot is told truly is answered by its description
-told : (c : tie.After-is-true Inv-loop μ-loop) → let b = c .before .before .before .before in let a = b .before .before .args in not (c .is-true .result) ≡ untrueBy (a .t1) (a .message .now) (a .t3) (b .loop .i)
+told : (c : tie.After-is-true Inv-loop μ-loop) → let b = c .before .before .before .before in let a = b .before .before .args in
+    not (c .is-true .result) ≡ untrueBy (a .t1) (a .message .now) (a .t3) (b .loop .i)
 told c =
     let b = c .before .before .before .before in
     let i = b .loop .i in
@@ -47,6 +48,6 @@ pub first-untrue-spec : {M : Type 1} → statement M
 first-untrue-spec =
     tie.close
     (tie.spec
-    Inv-loop μ-loop (λ c. (omega arith, below-none _)) (λ c. search needs) (λ c. search needs)
-    (λ c κs. search needs) (λ c. search needs) (λ c. search needs) (λ c. search needs) (λ c κs. search needs)
-    (λ c. search needs) returns (λ c. search needs) (λ c. search needs) loop-again returns-2)
+    Inv-loop μ-loop (λ c. (omega arith, below-none _)) (search needs) (λ c. search needs)
+    (search needs) (search needs) (search needs) (search needs) (search needs)
+    (search needs) returns (search needs) (search needs) loop-again returns-2)

@@ -23,4 +23,4 @@ returns-2 c =
 
 pub beside-spec : {M : Type 1} → statement M
 beside-spec =
-    tie.close (tie.spec (λ c κs. search needs) (λ c. search needs) (λ c κs. search needs) returns (λ c. search needs) (λ c κs. search needs) returns-2)
+    tie.close (tie.spec (search needs) (search needs) (search needs) returns (search needs) (search needs) returns-2)

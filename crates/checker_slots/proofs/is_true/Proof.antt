@@ -16,4 +16,4 @@ returns-2 c =
     rw (e, c .new-for .ensures)
 
 pub is-true-spec : {M : Type 1} → statement M
-is-true-spec = tie.close (tie.spec (λ c κs. search needs) returns (λ c κs. search needs) returns-2)
+is-true-spec = tie.close (tie.spec (search needs) returns (search needs) returns-2)

@@ -30,10 +30,10 @@ pub may-tell-spec : {M : Type 1} → statement M
 may-tell-spec =
     tie.close
     (tie.spec
-    (λ c. search needs) (λ c κs. search needs) returns (λ c. search needs) (λ c κs. search needs)
-    returns-2 (λ c. search needs)
+    (search needs) (search needs) returns (search needs) (search needs)
+    returns-2 (search needs)
     (λ c. rw (c .before .before .enum-told .given .1, eq-eqb _ _ (c .if3 .taken)))
-    (λ c κs. search needs) (λ c. search needs)
+    (search needs) (search needs)
     (λ c. rw (c .before .before .enum-told2 .given .1, eq-eqb _ _ (c .if4 .taken))) returns-5
     returns-6
     (λ c. rw (c .before .before .before .enum-told .given .1, ne-eqb _ _ (c .before .if3 .left)) (c .repeats2 .ensures))

@@ -8,4 +8,4 @@ pub repeats-spec : {M : Type 1} → statement M
 repeats-spec =
     tie.close
     (tie.spec
-    (λ c. simp (ne-eqb _ _ (c .if1 .taken))) (λ c. search needs) (λ c. simp (eq-eqb _ _ (c .before .if1 .left))))
+    (λ c. simp (ne-eqb _ _ (c .if1 .taken))) (search needs) (λ c. simp (eq-eqb _ _ (c .before .if1 .left))))

@@ -9,6 +9,6 @@ pub open-log-spec : {M : Type 1} → statement M
 open-log-spec =
     tie.close
     (tie.spec
-    (λ c κs. search needs) (λ c κs. search needs) (λ c. search needs) (λ c. search needs)
-    (λ c. search needs) (λ c κs. search needs) (λ c. search needs)
+    (search needs) (search needs) (search needs) (search needs)
+    (search needs) (search needs) (search needs)
     (λ c. ends-inside _ _ _ (omega arith) (c .before .before .put .ensures)))

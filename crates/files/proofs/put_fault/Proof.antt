@@ -18,5 +18,5 @@ pub put-fault-spec : {M : Type 1} → statement M
 put-fault-spec =
     tie.close
     (tie.spec
-    (λ c κs. search needs) (λ c. search needs) (λ c κs. search needs) (λ c κs. search needs)
-    (λ c. search needs) returns)
+    (search needs) (search needs) (search needs) (search needs)
+    (search needs) returns)

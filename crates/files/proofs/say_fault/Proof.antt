@@ -12,5 +12,5 @@ pub say-fault-spec : {M : Type 1} → statement M
 say-fault-spec =
     tie.close
     (tie.spec
-    (λ c κs. search needs) slice-reshare-prefix-fail (λ c. sym (length-take-le _ _ (slice-reshare-prefix-fail (c .before))))
-    (λ c κs. search needs) (λ c. search needs) (λ c. search needs))
+    (search needs) slice-reshare-prefix-fail (λ c. sym (length-take-le _ _ (slice-reshare-prefix-fail (c .before))))
+    (search needs) (search needs) (λ c. search needs))

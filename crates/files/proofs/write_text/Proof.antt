@@ -8,5 +8,5 @@ pub write-text-spec : {M : Type 1} → statement M
 write-text-spec =
     tie.close
     (tie.spec
-    (λ c. search needs) (λ c κs. search needs) (λ c. search needs) (λ c κs. search needs)
-    (λ c. λ none. absurd (c .before .before .before .before .if1 .left none)) (λ c. search needs))
+    (search needs) (search needs) (search needs) (search needs)
+    (λ c. λ none. absurd (c .before .before .before .before .if1 .left none)) (search needs))

@@ -7,5 +7,5 @@ use own.Tie as tie
 
 pub cb-enter-spec : {M : Type 1} → statement M
 cb-enter-spec = tie.close (tie.spec
-    (λ c κs. search needs) (λ c κs. search needs)
+    (search needs) (search needs)
     (λ c. c .with .ensures ∙ ap (enter (c .before .before .before .args .held)) (c .before .entered-under-on .ensures)))

@@ -6,5 +6,5 @@ use own.Tie as tie
 
 pub hex-digit-spec : {M : Type 1} → statement M
 hex-digit-spec = tie.close (tie.spec
-    (λ c. search needs) (λ c. rw (lt-ltb _ _ (c .if1 .taken))) (λ c. search needs)
-    (λ c. search needs) (λ c. rw (le-ltb _ _ (c .if1 .left))))
+    (search needs) (λ c. rw (lt-ltb _ _ (c .if1 .taken))) (search needs)
+    (search needs) (λ c. rw (le-ltb _ _ (c .if1 .left))))

@@ -29,6 +29,6 @@ pub put-spec : {M : Type 1} → statement M
 put-spec =
     tie.close
     (tie.spec
-    (λ c κs. search needs) returns (λ c. omega (arith, room c)) (λ c. search needs)
-    (λ c. search needs) (λ c. omega (arith, room c)) (λ c κs. search needs) (λ c. search needs)
+    (search needs) returns (λ c. omega (arith, room c)) (search needs)
+    (search needs) (λ c. omega (arith, room c)) (search needs) (search needs)
     returns-2)

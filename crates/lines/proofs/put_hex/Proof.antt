@@ -45,10 +45,10 @@ pub put-hex-spec : {M : Type 1} → statement M
 put-hex-spec =
     tie.close
     (tie.spec
-    Inv-loop μ-loop (λ c κs. search needs) returns
-    (λ c. record { size = refl; few = omega arith; front = refl; back = refl }) (λ c. search needs)
-    (λ c. search needs) (λ c κs. search needs)
+    Inv-loop μ-loop (search needs) returns
+    (λ c. record { size = refl; few = omega arith; front = refl; back = refl }) (search needs)
+    (search needs) (search needs)
     (λ c. omega (arith, room (c .before .before .before), c .before .before .loop .inv .few))
     (λ c. omega (arith, room (c .before .before .before), c .before .before .loop .inv .few, c .before .before .loop .inv .size))
-    (λ c. search needs) loop-again (λ c. omega (arith, room (c .before .before)))
-    (λ c. search needs) returns-2)
+    (search needs) loop-again (λ c. omega (arith, room (c .before .before)))
+    (search needs) returns-2)

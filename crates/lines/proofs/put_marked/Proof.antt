@@ -11,4 +11,4 @@ returns c =
     and-then _ _ _ _ (second .before .before .before .before .put-number .ensures) (and-last _ _ _ (second .put-octet .ensures))
 
 pub put-marked-spec : {M : Type 1} → statement M
-put-marked-spec = tie.close (tie.spec (λ c κs. search needs) (λ c κs. search needs) (λ c. search needs) returns)
+put-marked-spec = tie.close (tie.spec (search needs) (search needs) (search needs) returns)

@@ -12,5 +12,5 @@ pub put-octet-spec : {M : Type 1} → statement M
 put-octet-spec =
     tie.close
     (tie.spec
-    returns (λ c. search needs) (λ c. search needs) (λ c. search needs)
+    returns (search needs) (search needs) (search needs)
     (λ c. behind-octet _ _ _ (omega (arith, c .if1 .left))))

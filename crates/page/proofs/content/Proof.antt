@@ -43,5 +43,5 @@ pub content-spec : {M : Type 1} → statement M
 content-spec =
     tie.close
     (tie.spec
-    (λ c. search needs) returns (λ c κs. search needs) (λ c. search needs) returns-2
+    (search needs) returns (search needs) (search needs) returns-2
     (λ c. omega (arith, within c)) (λ c. omega (arith, within c)) (λ c. omega (arith, within c)) returns-3)

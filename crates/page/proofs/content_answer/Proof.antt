@@ -29,4 +29,4 @@ returns-3 c =
     (sym (c .before .whole-blocks .ensures) ∙ not-false _ (c .if2 .left)))
 
 pub content-answer-spec : {M : Type 1} → statement M
-content-answer-spec = tie.close (tie.spec returns (λ c κs. search needs) returns-2 returns-3)
+content-answer-spec = tie.close (tie.spec returns (search needs) returns-2 returns-3)

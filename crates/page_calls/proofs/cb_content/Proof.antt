@@ -13,7 +13,7 @@ pub cb-content-spec : {M : Type 1} → statement M
 cb-content-spec =
     tie.close
     (tie.spec
-    (λ c κs. search needs) (λ c. search needs) (λ c. search needs) (λ c κs. search needs)
-    (λ c. search needs)
+    (search needs) (search needs) (search needs) (search needs)
+    (search needs)
     (λ c. sym (ap numberOfHanding (c .enum-told .given .1)) ∙ c .before .before .content-answer .ensures)
     returns-2)

@@ -6,5 +6,5 @@ use own.Tie as tie
 
 pub empty-plan-spec : {M : Type 1} → statement M
 empty-plan-spec = tie.close (tie.spec
-    (λ c κs. search needs)
+    (search needs)
     (λ c. λ i. record { count = 0; entries = replicate 48 (c .free-entry .ensures i) }))

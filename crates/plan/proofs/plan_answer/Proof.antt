@@ -19,4 +19,4 @@ returns-3 c =
 pub plan-answer-spec : {M : Type 1} → statement M
 plan-answer-spec = tie.close (tie.spec
     (λ c. sym (over (planOf (c .before .before .args .plan)) (c .if1 .taken)))
-    (λ c κs. search needs) returns-2 returns-3)
+    (search needs) returns-2 returns-3)

@@ -63,5 +63,5 @@ pub plans-answer-spec : {M : Type 1} → statement M
 plans-answer-spec =
     tie.close
     (tie.spec
-    (λ c κs. search needs) (λ c. search needs) returns (λ c. search needs) (λ c κs. search needs)
-    (λ c. search needs) returns-2 (λ c. search needs) returns-3 returns-4)
+    (search needs) (search needs) returns (search needs) (search needs)
+    (search needs) returns-2 (search needs) returns-3 returns-4)

@@ -52,8 +52,8 @@ pub cb-check-schedule-spec : {M : Type 1} → statement M
 cb-check-schedule-spec =
     tie.close
     (tie.spec
-    (λ c κs. search needs) (λ c. search needs) (λ c κs. search needs) (λ c. search needs) returns
-    (λ c. search needs) (λ c κs. search needs) (λ c. search needs) (λ c. search needs)
-    (λ c κs. search needs) (λ c. search needs) (λ c. omega (arith, few c))
+    (search needs) (search needs) (search needs) (search needs) returns
+    (search needs) (search needs) (search needs) (search needs)
+    (search needs) (search needs) (λ c. omega (arith, few c))
     (λ c. omega (arith, few c)) add-result
     (λ c. ap packedChecked (rw (c .enum-told2 .given .1) at (checks (c .before .before)))) returns-3)

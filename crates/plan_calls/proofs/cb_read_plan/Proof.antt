@@ -23,5 +23,5 @@ pub cb-read-plan-spec : {M : Type 1} → statement M
 cb-read-plan-spec =
     tie.close
     (tie.spec
-    (λ c κs. search needs) (λ c. search needs) (λ c. omega (arith, few (c .before .before .before))) (λ c. omega (arith, few (c .before .before .before)))
-    (λ c. search needs) (λ c κs. search needs) (λ c. search needs) returns returns-2)
+    (search needs) (search needs) (λ c. omega (arith, few (c .before .before .before))) (λ c. omega (arith, few (c .before .before .before)))
+    (search needs) (search needs) (search needs) returns returns-2)

@@ -2,7 +2,7 @@
 use Rattle.laws.proofs.Base.{_≡_, ap, _∙_, _≤_, arith, needs}
 use Rattle.calls.proofs.Packed.{left-number, left-done}
 use Rattle.plan.specs.Coded.{planOf}
-use Rattle.sender_message.specs.Paper.{Writing}
+use Rattle.sender_message.specs.Paper.{MessageLeft}
 use Rattle.sender_message.specs.Coded.{writingOf}
 use Rattle.plan_calls.specs.Paper.{writtenFrom, writtenLeft}
 use Rattle.plan_calls.proofs as own
@@ -31,7 +31,7 @@ few c =
     message-small (planOf (f .current)) (planOf (f .previous)) (a .begin) (a .out .now) _ (w .write-schedule .ensures) (c .before .answer .given .1)
 
 -- the writer's answer is that for the files
-abbrev written : tie.After-write-schedule → Writing
+abbrev written : tie.After-write-schedule → MessageLeft
 written c =
     let a = c .before .before .before .before .before .before .before .before .before .before .before .args in
     writtenFrom (a .current .now) (a .previous .now) (a .begin) (a .out .now)
@@ -53,9 +53,9 @@ pub cb-write-schedule-spec : {M : Type 1} → statement M
 cb-write-schedule-spec =
     tie.close
     (tie.spec
-    (λ c κs. search needs) (λ c. search needs) returns (λ c κs. search needs) (λ c. search needs)
-    (λ c κs. search needs) (λ c. search needs) returns-2 (λ c. search needs) (λ c κs. search needs)
-    (λ c. search needs) (λ c. omega (arith, few c)) (λ c. omega (arith, few c)) (λ c. search needs)
-    (λ c κs. search needs) (λ c. search needs) (λ c. search needs)
+    (search needs) (search needs) returns (search needs) (search needs)
+    (search needs) (search needs) returns-2 (search needs) (search needs)
+    (search needs) (λ c. omega (arith, few c)) (λ c. omega (arith, few c)) (search needs)
+    (search needs) (search needs) (search needs)
     (λ c. left-done _ ∙ ap writtenLeft (rw (c .before .answer .given .1) at (writes (c .before .before .before .before .before))))
-    (λ c. search needs) returns-4)
+    (search needs) returns-4)

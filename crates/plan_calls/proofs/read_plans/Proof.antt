@@ -25,5 +25,5 @@ pub read-plans-spec : {M : Type 1} → statement M
 read-plans-spec =
     tie.close
     (tie.spec
-    (λ c κs. search needs) (λ c κs. search needs) (λ c. search needs) (λ c. search needs) returns
+    (search needs) (search needs) (search needs) (search needs) returns
     returns-2)

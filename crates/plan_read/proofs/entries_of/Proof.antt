@@ -40,6 +40,6 @@ pub entries-of-spec : {M : Type 1} → statement M
 entries-of-spec =
     tie.close
     (tie.spec
-    Inv-loop μ-loop (λ c κs. search needs) loop-holds (λ c. search needs) (λ c. search needs)
-    (λ c κs. search needs) (λ c. search needs) (λ c. search needs) (λ c. search needs)
-    (λ c. search needs) loop-again returns)
+    Inv-loop μ-loop (search needs) loop-holds (search needs) (search needs)
+    (search needs) (search needs) (search needs) (search needs)
+    (search needs) loop-again returns)

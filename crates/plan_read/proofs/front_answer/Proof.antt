@@ -1,6 +1,6 @@
 -- `plan_read::front_answer` meets its contract: each return is the first test that holds.
 use Rattle.laws.proofs.Base.{_≡_, sym, _∙_, true, List, ℕ, arith, needs, not-true, not-false}
-use Rattle.plan_read.specs.Paper.{sixteen, marked}
+use Rattle.plan_read.specs.Paper.{sixteen, isMarked}
 use Rattle.plan_read.proofs as own
 use own.Answers.{front-short, front-mark, front-version, front-count, front-length, front-good}
 use own.front_answer.Statement.{statement}
@@ -15,7 +15,7 @@ returns-2 c =
     sym (front-mark (file l) (l .if1 .left) (sym (c .before .is-marked .ensures) ∙ not-true _ (c .if2 .taken)))
 
 -- the mark that was seen
-mark : (m : tie.Else2) → marked (file (m .before .before)) ≡ true
+mark : (m : tie.Else2) → isMarked (file (m .before .before)) ≡ true
 mark m = sym (m .before .is-marked .ensures) ∙ not-false _ (m .if2 .left)
 
 returns-3 : tie.Need-returns-3
@@ -54,6 +54,6 @@ front-answer-spec =
     tie.close
     (tie.spec
     (λ c. sym (front-short (c .before .before .args .file .now) (c .if1 .taken)))
-    (λ c κs. search needs) returns-2 (λ c κs. search needs) returns-3 (λ c. search needs)
-    (λ c. omega (arith, c .shared-slice-known2 .given 5 .fits)) returns-4 (λ c. search needs)
-    (λ c. search needs) returns-5 returns-6)
+    (search needs) returns-2 (search needs) returns-3 (search needs)
+    (λ c. omega (arith, c .shared-slice-known2 .given 5 .fits)) returns-4 (search needs)
+    (search needs) returns-5 returns-6)

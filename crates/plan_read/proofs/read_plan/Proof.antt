@@ -50,7 +50,7 @@ pub read-plan-spec : {M : Type 1} → statement M
 read-plan-spec =
     tie.close
     (tie.spec
-    (λ c κs. search needs) (λ c. search needs) (λ c κs. search needs) returns (λ c. search needs)
+    (search needs) (search needs) (search needs) returns (search needs)
     shared-slice-read-count (λ c. omega (arith, c .shared-slice-known2 .given 5 .fits))
-    entries-of-requires (λ c κs. search needs) (λ c. search needs) (λ c κs. search needs) returns-2
-    (λ c. search needs) returns-3)
+    entries-of-requires (search needs) (search needs) (search needs) returns-2
+    (search needs) returns-3)

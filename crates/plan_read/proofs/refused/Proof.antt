@@ -7,5 +7,5 @@ use own.Tie as tie
 
 pub refused-spec : {M : Type 1} → statement M
 refused-spec = tie.close (tie.spec
-    (λ c κs. search needs)
+    (search needs)
     (λ c. λ i. record { number = numberOf (c .before .args .why); plan = c .empty-plan .ensures i }))

@@ -23,6 +23,6 @@ pub all-planned-spec : {M : Type 1} → statement M
 all-planned-spec =
     tie.close
     (tie.spec
-    (λ c κs. search needs) (λ c κs. search needs) (λ c κs. search needs) (λ c κs. search needs)
-    (λ c. search needs) (λ c. simp length-take (omega arith)) (λ c. search needs)
+    (search needs) (search needs) (search needs) (search needs)
+    (search needs) (λ c. simp length-take (omega arith)) (search needs)
     (λ c. simp length-take (omega arith)) (λ c κs. (simp length-take (omega arith), simp length-take (omega arith))) returns)

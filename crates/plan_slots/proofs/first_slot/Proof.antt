@@ -51,5 +51,5 @@ pub first-slot-spec : {M : Type 1} → statement M
 first-slot-spec =
     tie.close
     (tie.spec
-    Inv-loop μ-loop (λ c. (omega arith, omega arith, refl)) (λ c. search needs) (λ c. search needs)
-    (λ c. search needs) (λ c. search needs) returns (λ c. search needs) (λ c. search needs) loop-again returns-2)
+    Inv-loop μ-loop (λ c. (omega arith, omega arith, refl)) (search needs) (search needs)
+    (search needs) (search needs) returns (search needs) (search needs) loop-again returns-2)

@@ -36,6 +36,6 @@ pub marks-of-spec : {M : Type 1} → statement M
 marks-of-spec =
     tie.close
     (tie.spec
-    Inv-loop μ-loop loop-holds (λ c. search needs) (λ c. search needs) (λ c κs. search needs)
-    (λ c. search needs) (λ c. search needs) (λ c. search needs) (λ c. search needs) loop-again
+    Inv-loop μ-loop loop-holds (search needs) (search needs) (search needs)
+    (search needs) (search needs) (search needs) (search needs) loop-again
     returns)

@@ -21,4 +21,4 @@ returns-2 c =
 
 pub planned-by-spec : {M : Type 1} → statement M
 planned-by-spec =
-    tie.close (tie.spec (λ c κs. search needs) returns (λ c κs. search needs) (λ c κs. search needs) returns-2)
+    tie.close (tie.spec (search needs) returns (search needs) (search needs) returns-2)

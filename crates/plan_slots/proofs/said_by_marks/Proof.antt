@@ -32,8 +32,8 @@ pub said-by-marks-spec : {M : Type 1} → statement M
 said-by-marks-spec =
     tie.close
     (tie.spec
-    Inv-loop μ-loop (λ c κs. search needs)
+    Inv-loop μ-loop (search needs)
     (λ c. (omega arith, says-none _ (c .none-planned .result) (c .none-planned .ensures)))
-    (λ c. search needs) (λ c. search needs) (λ c. search needs) (λ c. search needs)
-    (λ c κs. search needs) (λ c. search needs) (λ c. search needs) (λ c. search needs)
-    (λ c. search needs) loop-again returns)
+    (search needs) (search needs) (search needs) (search needs)
+    (search needs) (search needs) (search needs) (search needs)
+    (search needs) loop-again returns)

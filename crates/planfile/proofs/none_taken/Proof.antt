@@ -8,5 +8,5 @@ use own.Tie as tie
 
 pub none-taken-spec : {M : Type 1} → statement M
 none-taken-spec = tie.close (tie.spec
-    (λ c κs. search needs)
+    (search needs)
     (λ c. ap {B = Taken} (λ (p : Plan). record { good = false; plan = p }) (c .empty-plan .ensures)))

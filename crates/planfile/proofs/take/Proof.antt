@@ -17,8 +17,8 @@ pub take-spec : {M : Type 1} → statement M
 take-spec =
     tie.close
     (tie.spec
-    (λ c κs. search needs) (λ c. search needs) (λ c κs. search needs) (λ c. search needs)
+    (search needs) (search needs) (search needs) (search needs)
     array-share-prefix-path (λ c. sym (length-take-le _ _ (array-share-prefix-path (c .before))))
-    (λ c κs. search needs) (λ c κs. search needs) (λ c. search needs) (λ c κs. search needs)
-    (λ c. search needs)
+    (search needs) (search needs) (search needs) (search needs)
+    (search needs)
     (λ c. untaken-good (takenOf (c .none-taken .result)) (c .none-taken .ensures)))

@@ -18,5 +18,5 @@ pub take-octets-spec : {M : Type 1} → statement M
 take-octets-spec =
     tie.close
     (tie.spec
-    (λ c κs. search needs) (λ c. search needs) (λ c. search needs) (λ c. search needs)
-    (λ c κs. search needs) returns returns-2)
+    (search needs) (search needs) (search needs) (search needs)
+    (search needs) returns returns-2)

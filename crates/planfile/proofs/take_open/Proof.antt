@@ -20,8 +20,8 @@ pub take-open-spec : {M : Type 1} → statement M
 take-open-spec =
     tie.close
     (tie.spec
-    (λ c. search needs) (λ c κs. search needs) (λ c. search needs) array-share-prefix-file
-    (λ c. sym (length-take-le _ _ (array-share-prefix-file (c .before)))) (λ c κs. search needs)
-    (λ c. search needs) (λ c κs. search needs)
+    (search needs) (search needs) (search needs) array-share-prefix-file
+    (λ c. sym (length-take-le _ _ (array-share-prefix-file (c .before)))) (search needs)
+    (search needs) (search needs)
     (λ c. taken-good (takenOf (c .take-octets .result)) _ (c .take-octets .ensures))
     (λ c. untaken-good (takenOf (c .none-taken .result)) (c .none-taken .ensures)))

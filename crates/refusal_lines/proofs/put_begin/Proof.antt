@@ -27,6 +27,6 @@ pub put-begin-spec : {M : Type 1} → statement M
 put-begin-spec =
     tie.close
     (tie.spec
-    (λ c κs. search needs) (λ c. search needs) (λ c κs. search needs) (λ c κs. search needs)
-    (λ c. search needs) (λ c κs. search needs) (λ c κs. search needs) (λ c. search needs)
-    (λ c κs. search needs) (λ c. search needs) returns)
+    (search needs) (search needs) (search needs) (search needs)
+    (search needs) (search needs) (search needs) (search needs)
+    (search needs) (search needs) returns)

@@ -12,5 +12,5 @@ pub say-begin-spec : {M : Type 1} → statement M
 say-begin-spec =
     tie.close
     (tie.spec
-    (λ c κs. search needs) slice-reshare-prefix-write-all (λ c. sym (length-take-le _ _ (slice-reshare-prefix-write-all (c .before))))
-    (λ c κs. search needs) (λ c. search needs) (λ c. search needs))
+    (search needs) slice-reshare-prefix-write-all (λ c. sym (length-take-le _ _ (slice-reshare-prefix-write-all (c .before))))
+    (search needs) (search needs) (λ c. search needs))

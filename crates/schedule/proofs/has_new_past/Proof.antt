@@ -39,4 +39,4 @@ has-new-past-spec =
     (tie.spec
     Inv-loop μ-loop
     (λ c. (omega arith, omega arith, λ k h. newPast-below (c .before .args .message .now) k (omega arith)))
-    (λ c κs. search needs) returns (λ c. search needs) (λ c. search needs) loop-again returns-2)
+    (search needs) returns (search needs) (search needs) loop-again returns-2)

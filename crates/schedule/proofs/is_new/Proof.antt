@@ -14,5 +14,5 @@ pub is-new-spec : {M : Type 1} → statement M
 is-new-spec =
     tie.close
     (tie.spec
-    (λ c. new-beyond _ _ (c .if1 .taken)) (λ c. search needs) (λ c κs. search needs)
-    (λ c. search needs) (λ c. search needs) (λ c. search needs) returns-2)
+    (λ c. new-beyond _ _ (c .if1 .taken)) (search needs) (search needs)
+    (search needs) (search needs) (search needs) returns-2)

@@ -7,4 +7,4 @@ use own.Tie as tie
 pub octet-at-spec : {M : Type 1} → statement M
 octet-at-spec = tie.close (tie.spec
     (λ c. sym (List·getD-eq-default (c .before .args .message .now) 0 (c .if1 .taken)))
-    (λ c. search needs) (λ c. search needs))
+    (search needs) (search needs))

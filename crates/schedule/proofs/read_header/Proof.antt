@@ -51,8 +51,8 @@ pub read-header-spec : {M : Type 1} → statement M
 read-header-spec =
     tie.close
     (tie.spec
-    (λ c. head-length _ _ (c .if1 .taken)) (λ c κs. search needs)
+    (λ c. head-length _ _ (c .if1 .taken)) (search needs)
     (λ c. head-received _ _ (c .before .before .if1 .left) (sym (c .before .whole-blocks .ensures) ∙ not-true _ (c .if2 .taken)))
-    (λ c. search needs) (λ c. omega (arith, c .shared-slice-known2 .given 0 .fits))
-    (λ c. search needs) (λ c. omega (arith, c .shared-slice-known3 .given 1 .fits)) returns-3
-    (λ c κs. search needs) returns-4 has-new-past-requires returns-5 returns-6)
+    (search needs) (λ c. omega (arith, c .shared-slice-known2 .given 0 .fits))
+    (search needs) (λ c. omega (arith, c .shared-slice-known3 .given 1 .fits)) returns-3
+    (search needs) returns-4 has-new-past-requires returns-5 returns-6)

@@ -6,5 +6,5 @@ use own.Tie as tie
 
 pub shown-spec : {M : Type 1} → statement M
 shown-spec = tie.close (tie.spec
-    (λ c κs. search needs) (λ c κs. search needs)
+    (search needs) (search needs)
     (λ c. λ p. record { new = c .before .is-new .ensures p; told = c .told-at .ensures p }))

@@ -26,6 +26,6 @@ pub told-at-spec : {M : Type 1} → statement M
 told-at-spec =
     tie.close
     (tie.spec
-    (λ c κs. search needs) (λ c κs. search needs) returns (λ c. search needs) (λ c. search needs)
-    add-octet-at (λ c κs. search needs) (λ c. search needs) (λ c. search needs) (λ c. search needs)
+    (search needs) (search needs) returns (search needs) (search needs)
+    add-octet-at (search needs) (search needs) (search needs) (search needs)
     returns-2)

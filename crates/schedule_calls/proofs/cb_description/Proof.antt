@@ -32,9 +32,9 @@ pub cb-description-spec : {M : Type 1} → statement M
 cb-description-spec =
     tie.close
     (tie.spec
-    (λ c κs. search needs) (λ c. search needs) (λ c κs. search needs) (λ c. search needs)
-    (λ c. search needs) (λ c. search needs) (λ c. omega (arith, bit c)) (λ c. omega (arith, bit c))
-    (λ c. omega (arith, few c)) (λ c. omega (arith, few c, bit c)) (λ c. search needs)
-    (λ c. search needs) (λ c κs. search needs) (λ c. search needs) returns
+    (search needs) (search needs) (search needs) (search needs)
+    (search needs) (search needs) (λ c. omega (arith, bit c)) (λ c. omega (arith, bit c))
+    (λ c. omega (arith, few c)) (λ c. omega (arith, few c, bit c)) (search needs)
+    (search needs) (search needs) (search needs) returns
     (λ c. ap packedGiven (rw (c .enum-told .given .1) at (c .before .before .description-at .ensures)))
     returns-3)

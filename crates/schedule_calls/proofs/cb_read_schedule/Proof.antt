@@ -22,8 +22,8 @@ pub cb-read-schedule-spec : {M : Type 1} → statement M
 cb-read-schedule-spec =
     tie.close
     (tie.spec
-    (λ c κs. search needs) (λ c. search needs) (λ c. omega (arith, few c))
+    (search needs) (search needs) (λ c. omega (arith, few c))
     (λ c. omega (arith, few c)) (λ c. omega (arith, few c)) (λ c. omega (arith, few c))
-    (λ c. omega (arith, few c)) (λ c. search needs) (λ c κs. search needs) (λ c. search needs)
+    (λ c. omega (arith, few c)) (search needs) (search needs) (search needs)
     (λ c. reads-schedule (c .before .before .before .read-schedule .ensures) (c .before .answer .given .1))
     returns-2)

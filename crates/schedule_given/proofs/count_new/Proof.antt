@@ -37,5 +37,5 @@ pub count-new-spec : {M : Type 1} → statement M
 count-new-spec =
     tie.close
     (tie.spec
-    Inv-loop μ-loop (λ c. (omega arith, sym (count-none _))) (λ c κs. search needs) add-n
-    (λ c. search needs) (λ c. search needs) loop-again returns)
+    Inv-loop μ-loop (λ c. (omega arith, sym (count-none _))) (search needs) add-n
+    (search needs) (search needs) loop-again returns)

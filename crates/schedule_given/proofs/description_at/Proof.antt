@@ -32,7 +32,7 @@ pub description-at-spec : {M : Type 1} → statement M
 description-at-spec =
     tie.close
     (tie.spec
-    (λ c κs. search needs) (λ c. search needs) (λ c. search needs)
+    (search needs) (search needs) (search needs)
     (λ c. given-none _ _ _ _ _ _ (good (c .before .before)) (omega (arith, c .if1 .taken)))
     slot-at-requires (λ c. omega (arith, low c)) (λ c. omega (arith, low c))
-    (λ c. search needs) (λ c κs. search needs) returns-2 returns-3)
+    (λ c. search needs) (search needs) returns-2 returns-3)

@@ -48,5 +48,5 @@ pick-spec =
     (tie.spec
     Inv-loop μ-loop
     (λ c. (omega arith, omega (arith, count-none (grouped (c .before .args .message .now) (c .before .args .new)))))
-    (λ c κs. search needs) returns (λ c. search needs) (λ c. search needs) (λ c. search needs)
+    (search needs) returns (search needs) (search needs) (search needs)
     loop-again returns-2)

@@ -33,4 +33,4 @@ returns-2 c =
 
 pub slot-at-spec : {M : Type 1} → statement M
 slot-at-spec =
-    tie.close (tie.spec (λ c κs. search needs) (λ c κs. search needs) returns pick-requires-2 returns-2)
+    tie.close (tie.spec (search needs) (search needs) returns pick-requires-2 returns-2)

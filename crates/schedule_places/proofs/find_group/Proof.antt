@@ -60,6 +60,6 @@ pub find-group-spec : {M : Type 1} → statement M
 find-group-spec =
     tie.close
     (tie.spec
-    Inv-loop μ-loop loop-holds (λ c κs. search needs) (λ c κs. search needs) (λ c. search needs)
-    (λ c. search needs) returns (λ c. search needs) (λ c. search needs) (λ c κs. search needs)
-    (λ c. search needs) (λ c. search needs) (λ c. search needs) loop-again returns-2)
+    Inv-loop μ-loop loop-holds (search needs) (search needs) (search needs)
+    (search needs) returns (search needs) (search needs) (search needs)
+    (search needs) (search needs) (search needs) loop-again returns-2)

@@ -70,6 +70,6 @@ pub has-false-repeat-spec : {M : Type 1} → statement M
 has-false-repeat-spec =
     tie.close
     (tie.spec
-    Inv-loop μ-loop (λ c. (omega arith, below-none _)) (λ c. search needs) (λ c. search needs)
-    (λ c κs. search needs) (λ c. search needs) returns returns-2 (λ c. search needs)
-    (λ c. search needs) returns-3 (λ c. search needs) (λ c. search needs) loop-again returns-4)
+    Inv-loop μ-loop (λ c. (omega arith, below-none _)) (search needs) (λ c. search needs)
+    (search needs) (search needs) returns returns-2 (search needs)
+    (search needs) returns-3 (search needs) (search needs) loop-again returns-4)

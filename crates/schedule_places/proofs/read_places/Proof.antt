@@ -77,7 +77,7 @@ pub read-places-spec : {M : Type 1} → statement M
 read-places-spec =
     tie.close
     (tie.spec
-    (λ c κs. search needs) (λ c. search needs) (λ c. search needs) (λ c κs. search needs) returns
-    find-group-requires (λ c. search needs) (λ c. search needs) (λ c κs. search needs) returns-2
-    find-group-requires-2 (λ c. search needs) (λ c. search needs) (λ c κs. search needs) returns-3
-    has-false-repeat-requires (λ c κs. search needs) returns-4 returns-5)
+    (search needs) (search needs) (search needs) (search needs) returns
+    find-group-requires (search needs) (search needs) (search needs) returns-2
+    find-group-requires-2 (search needs) (search needs) (search needs) returns-3
+    has-false-repeat-requires (search needs) returns-4 returns-5)

@@ -8,5 +8,5 @@ use own.read_schedule.Tie as tie
 
 pub read-schedule-spec : {M : Type 1} → statement M
 read-schedule-spec = tie.close (tie.spec
-    (λ c κs. search needs)
+    (search needs)
     (λ c. ap (λ (l : Placed). l .read) (c .read-places .ensures) ∙ read-placed _ _))

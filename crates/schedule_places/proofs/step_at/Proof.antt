@@ -32,5 +32,5 @@ pub step-at-spec : {M : Type 1} → statement M
 step-at-spec =
     tie.close
     (tie.spec
-    returns (λ c. search needs) (λ c κs. search needs) (λ c. search needs) returns-2
-    (λ c. search needs) returns-3 (λ c κs. search needs) (λ c. search needs) returns-4)
+    returns (search needs) (search needs) (search needs) returns-2
+    (search needs) returns-3 (search needs) (search needs) returns-4)

@@ -27,4 +27,4 @@ returns-4 c =
     tells-again (plannedOf (a .said)) (a .i) (c .before .before .if2 .left) (λ e. c .if3 .left (e ∙ sym (add-one _)))
 
 pub tell-spec : {M : Type 1} → statement M
-tell-spec = tie.close (tie.spec returns returns-2 (λ c. search needs) (λ c. search needs) returns-3 returns-4)
+tell-spec = tie.close (tie.spec returns returns-2 (search needs) (search needs) returns-3 returns-4)

@@ -42,6 +42,6 @@ pub telling-spec : {M : Type 1} → statement M
 telling-spec =
     tie.close
     (tie.spec
-    Inv-loop μ-loop (λ c κs. search needs) (λ c. (omega arith, refl, below-none _))
-    (λ c. search needs) (λ c. search needs) (λ c κs. search needs) (λ c. search needs) (λ c. search needs)
-    (λ c. search needs) (λ c. search needs) loop-again returns)
+    Inv-loop μ-loop (search needs) (λ c. (omega arith, refl, below-none _))
+    (search needs) (search needs) (search needs) (search needs) (search needs)
+    (search needs) (search needs) loop-again returns)

@@ -57,5 +57,5 @@ pub write-schedule-spec : {M : Type 1} → statement M
 write-schedule-spec =
     tie.close
     (tie.spec
-    returns (λ c κs. search needs) (λ c. search needs) returns-2 (λ c. search needs)
-    (λ c κs. plans-counted (current (start c)) (previous (start c)) (good c)) (λ c κs. search needs) (λ c. search needs) returns-3)
+    returns (search needs) (search needs) returns-2 (search needs)
+    (λ c κs. plans-counted (current (start c)) (previous (start c)) (good c)) (search needs) (search needs) returns-3)

@@ -26,4 +26,4 @@ returns c =
     (c .before .before .put-group .ensures .0) (c .before .before .put-group .ensures .1) (c .put-group2 .ensures .0) (c .put-group2 .ensures .1)
 
 pub compose-spec : {M : Type 1} → statement M
-compose-spec = tie.close (tie.spec (λ c κs. search needs) put-group-requires put-group-requires-2 returns)
+compose-spec = tie.close (tie.spec (search needs) put-group-requires put-group-requires-2 returns)

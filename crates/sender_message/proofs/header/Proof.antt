@@ -35,6 +35,6 @@ pub header-spec : {M : Type 1} → statement M
 header-spec =
     tie.close
     (tie.spec
-    Inv-loop μ-loop (λ c. search needs) (λ c. search needs) (λ c. search needs) (λ c. search needs)
-    loop-holds (λ c κs. search needs) (λ c. search needs) (λ c. search needs) (λ c. search needs)
-    (λ c. search needs) loop-again returns)
+    Inv-loop μ-loop (search needs) (search needs) (search needs) (search needs)
+    loop-holds (search needs) (search needs) (search needs) (search needs)
+    (search needs) loop-again returns)

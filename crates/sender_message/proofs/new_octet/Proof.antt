@@ -46,6 +46,6 @@ pub new-octet-spec : {M : Type 1} → statement M
 new-octet-spec =
     tie.close
     (tie.spec
-    Inv-loop μ-loop loop-holds (λ c. search needs) (λ c. search needs) (λ c. search needs)
-    (λ c. search needs) mul-bits (λ c κs. search needs) add-bits (λ c. search needs)
-    (λ c. search needs) loop-again returns)
+    Inv-loop μ-loop loop-holds (search needs) (search needs) (search needs)
+    (search needs) mul-bits (search needs) add-bits (search needs)
+    (search needs) loop-again returns)

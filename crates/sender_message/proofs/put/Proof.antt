@@ -22,10 +22,10 @@ pub put-spec : {M : Type 1} → statement M
 put-spec =
     tie.close
     (tie.spec
-    (λ c. search needs) (λ c. search needs) (λ c. search needs) (λ c. omega (arith, room-for-two c))
-    (λ c. search needs) (λ c. search needs) (λ c. omega (arith, room-for-two c)) (λ c. search needs)
-    (λ c. search needs) put-octet-requires (λ c. search needs) put-octet-requires-2
-    (λ c. search needs) put-octet-requires-3
+    (search needs) (search needs) (search needs) (λ c. omega (arith, room-for-two c))
+    (search needs) (search needs) (λ c. omega (arith, room-for-two c)) (search needs)
+    (search needs) put-octet-requires (search needs) put-octet-requires-2
+    (search needs) put-octet-requires-3
     (λ c. rw (ap toldAs (c .before .description .given .1)) (rw add-one, refl))
     (λ c. rw (ap toldAs (c .before .before .description2 .given .1)) (c .put-octet .ensures))
     (λ c. rw (ap toldAs (c .before .enum-told .given .1)) (c .put-octet2 .ensures))

@@ -85,6 +85,6 @@ pub write-message-spec : {M : Type 1} → statement M
 write-message-spec =
     tie.close
     (tie.spec
-    returns returns-2 returns-3 returns-4 (λ c κs. search needs) returns-5 prefix
+    returns returns-2 returns-3 returns-4 (search needs) returns-5 prefix
     (λ c. sym (prefix-length (c .before .before .before)))
-    (λ c κs. omega (arith, prefix-length (c .before .before .before .before))) (λ c. search needs) returns-6)
+    (λ c κs. omega (arith, prefix-length (c .before .before .before .before))) (search needs) returns-6)

@@ -43,6 +43,6 @@ pub cb-slots-spec : {M : Type 1} → statement M
 cb-slots-spec =
     tie.close
     (tie.spec
-    (λ c κs. search needs) (λ c. search needs) returns (λ c κs. search needs) (λ c. search needs)
-    (λ c κs. search needs) (λ c. search needs) (λ c. search needs) tell-requires (λ c. omega (arith, few c))
-    (λ c. omega (arith, few c)) (λ c. omega (arith, few c)) (λ c. omega (arith, few c)) (λ c. omega (arith, few c)) returns-2 (λ c. search needs) returns-3)
+    (search needs) (search needs) returns (search needs) (search needs)
+    (search needs) (search needs) (search needs) tell-requires (λ c. omega (arith, few c))
+    (λ c. omega (arith, few c)) (λ c. omega (arith, few c)) (λ c. omega (arith, few c)) (λ c. omega (arith, few c)) returns-2 (search needs) returns-3)

@@ -30,6 +30,6 @@ pub packed-at-spec : {M : Type 1} → statement M
 packed-at-spec =
     tie.close
     (tie.spec
-    returns (λ c κs. search needs) (λ c κs. search needs) (λ c. search needs)
+    returns (search needs) (search needs) (search needs)
     (λ c. omega (arith, bit-small (c .before .before .shown .result .new)))
     (λ c. omega (arith, few c, bit-small (c .before .before .shown .result .new))) returns-2)

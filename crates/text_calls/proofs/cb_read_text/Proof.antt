@@ -27,6 +27,6 @@ pub cb-read-text-spec : {M : Type 1} → statement M
 cb-read-text-spec =
     tie.close
     (tie.spec
-    (λ c κs. search needs) (λ c. search needs) (λ c. omega (arith, few c)) (λ c. omega (arith, few c)) (λ c. search needs)
-    (λ c κs. search needs) (λ c. search needs) (λ c. search needs) returns (λ c. search needs)
+    (search needs) (search needs) (λ c. omega (arith, few c)) (λ c. omega (arith, few c)) (search needs)
+    (search needs) (search needs) (search needs) returns (search needs)
     returns-2)

@@ -4,7 +4,7 @@ use Rattle.laws.specs.Radix.{value, digits}
 use Rattle.laws.specs.Table.{onto}
 use Rattle.alphabet.specs.Paper.{codePoint}
 use Rattle.packing.proofs.Others.{unpacked-into}
-use Rattle.text.specs.Paper.{wholeOf, trimmed, shown}
+use Rattle.text.specs.Paper.{wholeOf, trimmed, shownText}
 use Rattle.text.proofs.Trim.{trim-length}
 use Rattle.text_reader.proofs as own
 use own.Shown.{left-count, left-front, shown-made}
@@ -78,7 +78,7 @@ fits c =
     omega (arith, bound w, c .code-points .kept .1 .0, start (back w) .pre .1)
 
 returns : tie.Need-returns
-unfolding shown
+unfolding shownText
 returns c =
     let p = c .before .before .before .before .before .before in
     let w = p .before .before .before in
@@ -90,18 +90,18 @@ returns c =
     (omega (arith, bound w, count w)) (count w)
     (p .code-points .ensures ∙ ap (λ (l : List ℕ). onto codePoint l t) (front w))
     (c .before .before .blank .ensures) in
-    (λ i. record { number = 0; characters = count w i; text = made i }) ∙ ap (λ (l : List ℕ). shown (trimmed l)) (unpacked-whole u)
+    (λ i. record { number = 0; characters = count w i; text = made i }) ∙ ap (λ (l : List ℕ). shownText (trimmed l)) (unpacked-whole u)
 
 pub show-spec : {M : Type 1} → statement M
 show-spec =
     tie.close
     (tie.spec
-    (λ c. search needs) (λ c. search needs) (λ c. sym (room (c .before .before .before)))
-    (λ c κs. search needs)
+    (search needs) (search needs) (λ c. sym (room (c .before .before .before)))
+    (search needs)
     (λ c. simp length-append (omega (arith, unpacked-length (c .before))))
-    slice-aggregate-without-crs (λ c κs. search needs)
+    slice-aggregate-without-crs (search needs)
     (λ c. simp length-append (omega (arith, within c)))
-    (λ c. count (c .before) ∙ sym (ap length (front (c .before)))) (λ c κs. search needs)
+    (λ c. count (c .before) ∙ sym (ap length (front (c .before)))) (search needs)
     (λ c. omega (arith, bound (c .before .before .before .before .before)))
-    (λ c. fits (c .before .before)) (λ c. fits (c .before .before)) (λ c. search needs)
-    (λ c κs. search needs) (λ c. search needs) returns)
+    (λ c. fits (c .before .before)) (λ c. fits (c .before .before)) (search needs)
+    (search needs) (search needs) returns)

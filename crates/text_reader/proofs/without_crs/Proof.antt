@@ -38,5 +38,5 @@ without-crs-spec =
     tie.close
     (tie.spec
     Inv-loop μ-loop (λ c. (search needs, rw (take-length (now (c .args .septets)))))
-    (λ c. search needs) (λ c. search needs) returns (λ c. search needs) (λ c. search needs)
+    (search needs) (search needs) returns (search needs) (search needs)
     loop-again returns-2)

@@ -2,9 +2,9 @@
 use Rattle.laws.proofs.Base.{_≡_, _≤_, _<_, arith, sym, ap, _∙_, false, List, [], _∷_, _++_, ℕ, _-_, needs, now, length, ltb, eq-eqb, ne-eqb, le-ltb, lt-ltb}
 use Rattle.laws.specs.Ruled.{ruled}
 use Rattle.page.specs.Paper.{Heading, headerOctets}
-use Rattle.text.specs.Paper.{septets, packed, pageOf, usedOctets, badParameter, foreign, endsInCr, written}
+use Rattle.text.specs.Paper.{septets, packed, pageOctets, usedOctets, badParameter, foreign, endsInCr, writtenPage}
 use Rattle.text_writer.specs as defs
-use defs.Coded.{headed}
+use defs.Coded.{headingWith}
 use Rattle.packing.specs.Inner.{others}
 use Rattle.text.proofs.Cases.{unwritten}
 use Rattle.text.proofs.Septets.{septets-made, septets-count, septets-below}
@@ -14,11 +14,11 @@ use own.write_text.Statement.{statement}
 use own.write_text.Tie as tie
 
 returns : tie.Need-returns
-unfolding written
+unfolding writtenPage
 returns c = simp (ne-eqb _ _ (c .if1 .taken))
 
 returns-2 : tie.Need-returns-2
-unfolding written
+unfolding writtenPage
 returns-2 c =
     let over : 15 < c .before .before .before .before .args .scheme = omega arith in
     simp (eq-eqb _ _ (c .before .if1 .left), lt-ltb _ _ over)
@@ -28,7 +28,7 @@ ours : (c : tie.Else2) → ltb 15 (c .before .before .before .before .args .sche
 ours c = let low : c .before .before .before .before .args .scheme ≤ 15 = omega arith in le-ltb _ _ low
 
 returns-3 : tie.Need-returns-3
-unfolding written
+unfolding writtenPage
 returns-3 c =
     let b = c .before .before in
     simp (eq-eqb _ _ (b .before .if1 .left), ours b, sym (c .before .bad-parameter .ensures) ∙ c .if3 .taken)
@@ -38,7 +38,7 @@ good : (c : tie.Else3) → badParameter (c .before .before .before .before .befo
 good c = sym (c .before .bad-parameter .ensures) ∙ c .if3 .left
 
 returns-4 : tie.Need-returns-4
-unfolding written
+unfolding writtenPage
 returns-4 c =
     let b = c .before .before .before in
     let long : 93 < length (now (b .before .before .before .before .args .text)) = omega arith in
@@ -48,7 +48,7 @@ abbrev start : tie.Else4 → tie.Start
 start c = c .before .before .before .before .before .before .before
 
 abbrev heading : tie.Else4 → Heading
-heading c = let a = start c .args in headed (a .serial) (a .id) (a .scheme) (a .parameter)
+heading c = let a = start c .args in headingWith (a .serial) (a .id) (a .scheme) (a .parameter)
 
 abbrev text : tie.Else4 → List ℕ
 text c = now (start c .args .text)
@@ -58,10 +58,10 @@ page c = now (start c .args .page)
 
 -- past the text's length its characters decide
 past : (c : tie.Else4)
-    → written (heading c) (text c) (page c)
+    → writtenPage (heading c) (text c) (page c)
     ≡ ruled (λ n. unwritten n (page c)) ((foreign (text c), 11) ∷ (endsInCr (text c), 12) ∷ [])
-    (record { number = 0; used = usedOctets (text c); page = pageOf (heading c) (text c) })
-unfolding written
+    (record { number = 0; used = usedOctets (text c); page = pageOctets (heading c) (text c) })
+unfolding writtenPage
 past c =
     let short : length (text c) ≤ 93 = omega arith in
     simp (eq-eqb _ _ (c .before .before .before .before .if1 .left), ours (c .before .before .before), good (c .before), le-ltb _ _ short)
@@ -99,7 +99,7 @@ put-page-requires c κs =
     }
 
 returns-7 : tie.Need-returns-7
-unfolding pageOf
+unfolding pageOctets
 returns-7 c =
     let d = c .before .before .before .before .before in
     let b = d .before .before in

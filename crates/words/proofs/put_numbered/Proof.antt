@@ -22,8 +22,8 @@ pub put-numbered-spec : {M : Type 1} → statement M
 put-numbered-spec =
     tie.close
     (tie.spec
-    (λ c. says-none _ _ _ (c .if1 .taken)) (λ c. search needs) (λ c. search needs)
-    (λ c. search needs) (λ c. search needs) (λ c. search needs)
+    (λ c. says-none _ _ _ (c .if1 .taken)) (search needs) (search needs)
+    (search needs) (search needs) (search needs)
     (λ c. part-inside (number c) (low c) .0) (λ c. part-inside (number c) (low c) .0)
     (λ c. rw (c .before .before .before .pre) (part-inside (number c) (low c) .1))
-    (λ c κs. search needs) (λ c. search needs) returns-2)
+    (search needs) (search needs) returns-2)

@@ -19,4 +19,4 @@ returns c =
     c .before .before .put-numbered .ensures ∙ ap (λ (n : ℕ). behind (words n) (a .at) (a .text .now)) (number .number .ensures)
 
 pub put-words-spec : {M : Type 1} → statement M
-put-words-spec = tie.close (tie.spec (λ c κs. search needs) (λ c. search needs) put-numbered-requires (λ c. search needs) returns)
+put-words-spec = tie.close (tie.spec (search needs) (search needs) put-numbered-requires (search needs) returns)

@@ -25,4 +25,4 @@ with-spec =
     tie.close
     (tie.spec
     (λ c. sym (enter-low _ _ (c .if1 .taken))) (λ c. sym (enter-high _ _ (c .if2 .taken)))
-    (λ c κs. search needs) returns-3 (λ c. search needs) add-t8 returns-4)
+    (search needs) returns-3 (search needs) add-t8 returns-4)
