@@ -29,7 +29,7 @@ firstMatches w (again n) = false
 firstMatches w optional = false
 firstMatches w advised = false
 
--- 01 Decision: read for advised, for a first transmission that matches, and for a repeat whose first matches and isn't held; skip the rest. Slots that t tells of count from 0
+-- 01 Decision: read for advised, for a first that matches, and for a repeat whose first matches and whose first's slot isn't held; skip the rest. Slots that t tells of count from 0
 abbrev pub readsFor : (ℕ → Told) → Wanted → ℕ → Told → Bool
 readsFor t w h (first x) = isWanted w x
 readsFor t w h (again n) = firstMatches w (t (n - 1)) && not (isHeld h n)

@@ -50,7 +50,7 @@ abbrev low : Wanted
 low = wanting 1
 
 accepted : check current previous message 22 .number ≡ 0
-unfolding check planNumber bad some read upto.some upto.count upto.lowest new place tells isTrue hasPage lowestSlot holds samePage firstFrom wholeBlocks
+unfolding check planNumber bad some read upto.someBelow upto.count upto.lowest new place tells isTrue hasPage lowestSlot holds samePage firstFrom wholeBlocks
 accepted = refl
 
 -- what the theorems rest on is met, and so is what each asks of a slot
@@ -84,21 +84,21 @@ abbrev decided : Wanted → ℕ → List Bool
 decided w h = map (λ (n : ℕ). decide (obeyed message 22) n w h .read) (1 ∷ 2 ∷ 3 ∷ 4 ∷ 5 ∷ 6 ∷ [])
 
 pub decided-empty : decided wanted 0 ≡ true ∷ true ∷ true ∷ false ∷ false ∷ true ∷ []
-unfolding decide reads tellsOf isWanted isHeld some read upto.some upto.count new place tells wholeBlocks
+unfolding decide reads tellsOf isWanted isHeld some read upto.someBelow upto.count new place tells wholeBlocks
 decided-empty = refl
 
 pub decided-held : decided wanted (enter 0 1) ≡ true ∷ false ∷ true ∷ false ∷ false ∷ false ∷ []
-unfolding decide reads tellsOf isWanted isHeld enter some read upto.some upto.count new place tells wholeBlocks
+unfolding decide reads tellsOf isWanted isHeld enter some read upto.someBelow upto.count new place tells wholeBlocks
 decided-held = refl
 
 -- 01 Where the edges are: wanted 0001 reads the slot of identifier 8001
 pub low-reads : decide (obeyed message 22) 1 low 0 ≡ record { number = 0; read = true }
-unfolding decide reads tellsOf isWanted isHeld some read upto.some upto.count new place tells wholeBlocks
+unfolding decide reads tellsOf isWanted isHeld some read upto.someBelow upto.count new place tells wholeBlocks
 low-reads = refl
 
 -- at the end of the period the board has the one wanted page, got once
 pub ended-whole : ended current message 22 wanted noneLost fresh ≡ record { held = 1; got = pageAt current 0 ∷ [] }
-unfolding boardAfter decide reads tellsOf enteredUnder enter isWanted isHeld some read upto.some upto.count new place tells wholeBlocks
+unfolding boardAfter decide reads tellsOf enteredUnder enter isWanted isHeld some read upto.someBelow upto.count new place tells wholeBlocks
 ended-whole = refl
 
 -- a board that joins after slot 1 gets the page from the repeat in slot 2, and enters it under slot 1
@@ -109,11 +109,11 @@ abbrev joined : Board
 joined = record { held = 1; got = pageAt current 1 ∷ [] }
 
 pub ended-late : ended current message 22 wanted late fresh ≡ joined
-unfolding boardAfter decide reads tellsOf enteredUnder enter isWanted isHeld some read upto.some upto.count new place tells wholeBlocks
+unfolding boardAfter decide reads tellsOf enteredUnder enter isWanted isHeld some read upto.someBelow upto.count new place tells wholeBlocks
 ended-late = refl
 
 gets-late : GetsIn current message 22 wanted late fresh 1
-unfolding boardAfter decide reads tellsOf isWanted isHeld some read upto.some upto.count new place tells wholeBlocks
+unfolding boardAfter decide reads tellsOf isWanted isHeld some read upto.someBelow upto.count new place tells wholeBlocks
 gets-late = record { page = refl; named = refl; heard = refl; reads = refl }
 
 told-again : tells message 5 ≡ again (lowestAt current 1)
@@ -136,9 +136,9 @@ abbrev advising : List ℕ
 advising = telling 0x41
 
 pub advising-accepted : check current previous advising 22 .number ≡ 0
-unfolding check planNumber bad some read upto.some upto.count upto.lowest new place tells isTrue hasPage lowestSlot holds samePage firstFrom wholeBlocks
+unfolding check planNumber bad some read upto.someBelow upto.count upto.lowest new place tells isTrue hasPage lowestSlot holds samePage firstFrom wholeBlocks
 advising-accepted = refl
 
 pub ended-advised : ended current advising 22 wanted (λ (i : ℕ). not (eqb i 1)) fresh ≡ record { held = 2; got = pageAt current 1 ∷ [] }
-unfolding boardAfter decide reads tellsOf enteredUnder enter isWanted isHeld some read upto.some upto.count new place tells wholeBlocks
+unfolding boardAfter decide reads tellsOf enteredUnder enter isWanted isHeld some read upto.someBelow upto.count new place tells wholeBlocks
 ended-advised = refl

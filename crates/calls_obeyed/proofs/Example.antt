@@ -36,7 +36,7 @@ written = refl
 
 -- what the theorems on decisions rest on is met, with one block received and identifier 0001 wanted
 pub obeys : ObeysCalls current previous message 22 (1 ∷ [])
-unfolding readPlan entriesIn entryIn check planNumber bad some read upto.some upto.count upto.lowest new place tells isTrue hasPage lowestSlot holds samePage firstFrom wholeBlocks
+unfolding readPlan entriesIn entryIn check planNumber bad some read upto.someBelow upto.count upto.lowest new place tells isTrue hasPage lowestSlot holds samePage firstFrom wholeBlocks
 obeys = record { accepted = refl; few = lit≤ tt }
 
 -- slot 1 is the lowest of a page whose identifier 8001 matches in 15 bits
@@ -50,5 +50,5 @@ first-lowest = refl
 
 -- slot 1 is read, slot 2 where slot 1 isn't held
 pub decided : map (λ (x : ℕ × ℕ). decideCall true message 22 (x .0) (1 ∷ []) (x .1)) ((1, 0) ∷ (1, 1) ∷ (2, 0) ∷ (2, 1) ∷ []) ≡ 256 ∷ 256 ∷ 256 ∷ 0 ∷ []
-unfolding decide reads tellsOf isWanted isHeld some read upto.some upto.count new place tells wholeBlocks
+unfolding decide reads tellsOf isWanted isHeld some read upto.someBelow upto.count new place tells wholeBlocks
 decided = refl

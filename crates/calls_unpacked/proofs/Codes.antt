@@ -1,7 +1,7 @@
 -- A repeat that is given has a code from 1 to 47.
 use Rattle.laws.proofs.Base.{_≡_, refl, sym, ap, _∙_, Bool, true, false, not, _&&_, _||_, true≢false, List, ℕ, suc}
 use Rattle.laws.proofs.Base.{_-_, _≤_, _<_, arith, eqb, leb, ltb, eqb-false, leb-true, leb-false, ltb-true, not-false}
-use Rattle.laws.specs.Upto.{some}
+use Rattle.laws.specs.Upto.{someBelow}
 use Rattle.laws.proofs.Upto.{some-at}
 use Rattle.laws.proofs.Outcome.{Outcome, refuses, passes, outcome}
 use Rattle.laws.proofs.Tests.{both, neither}
@@ -10,7 +10,7 @@ use Rattle.schedule_order.proofs.Ranks.{order-below}
 use Rattle.calls_unpacked.specs.Claims.{RepeatCode}
 
 -- where no slot up to End has a false repeat, a slot's repeat names a slot below it
-names-below : (m : List ℕ) → some (falseRepeat (tells m)) (end m) ≡ false → (i n : ℕ) → i < end m → tells m i ≡ again n → (1 ≤ n) × (n ≤ i)
+names-below : (m : List ℕ) → someBelow (falseRepeat (tells m)) (end m) ≡ false → (i n : ℕ) → i < end m → tells m i ≡ again n → (1 ≤ n) × (n ≤ i)
 names-below m none i n l e = go (falseRepeat (tells m) i) refl
   where
     go : (b : Bool) → falseRepeat (tells m) i ≡ b → (1 ≤ n) × (n ≤ i)
@@ -25,7 +25,7 @@ pub repeat-code : RepeatCode
 unfolding given
 repeat-code m received k i n s g t = go (outcome (faults m received))
   where
-    at : givenAt m k ≡ next i s → some (falseRepeat (tells m)) (end m) ≡ false → end m ≤ 48 → (b : Bool) → ltb k (end m) ≡ b → (1 ≤ n) × (n ≤ 47)
+    at : givenAt m k ≡ next i s → someBelow (falseRepeat (tells m)) (end m) ≡ false → end m ≤ 48 → (b : Bool) → ltb k (end m) ≡ b → (1 ≤ n) × (n ≤ 47)
     at q none few true h =
         let mine : next (suc (slotOf m k)) (shown m (slotOf m k)) ≡ next i s = rw h at q in
         let same : shown m (slotOf m k) ≡ s = cc in

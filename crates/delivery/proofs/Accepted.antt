@@ -1,7 +1,7 @@
 -- What our writer writes is accepted.
 use Rattle.laws.proofs.Base.{_≡_, refl, ap, _∙_, Bool, true, false, not, List, ℕ, _+_, _*_, _≤_, _<_, arith, length, leb, leb-true, eq-eqb, ne-eqb, le-leb, le-ltb}
 use Rattle.sizes.specs.Paper.{wholeBlocks}
-use Rattle.laws.specs.Upto.{some, lowest}
+use Rattle.laws.specs.Upto.{someBelow, lowest}
 use Rattle.laws.proofs.Lowest.{lowest-none}
 use Rattle.sizes.proofs.Received.{whole-times}
 use Rattle.laws.proofs.Ruled.{ruled-none}
@@ -41,9 +41,9 @@ module _ (c p : Plan) (b : ℕ) (m : List ℕ) (current : planNumber c ≡ 0) (p
   reads-good received whole-blocks enough =
       let within : schedule.inBounds m ≡ true =
       simp (r .begins, r .ends, le-leb 1 b (f .some), le-leb b (c .count) (f .begins), le-leb (c .count) 48 (f .few)) in
-      let bits : some (newPast m) 48 ≡ false = some-none (newPast m) 48 (λ i l. past-none i (leb (end m) i) refl) in
+      let bits : someBelow (newPast m) 48 ≡ false = some-none (newPast m) 48 (λ i l. past-none i (leb (end m) i) refl) in
       let room : schedule.place m (end m) ≤ received = rw (r .ends, r .last) enough in
-      let first-told : some (falseRepeat (tells m)) (end m) ≡ false =
+      let first-told : someBelow (falseRepeat (tells m)) (end m) ≡ false =
       some-none (falseRepeat (tells m)) (end m)
       (λ i l.
       let low : i < c .count = omega (arith, r .ends) in

@@ -3,7 +3,7 @@ use Rattle.laws.proofs.Base.{refl}
 use Rattle.sizes.specs.Paper.{wholeBlocks}
 use Rattle.laws.specs.Radix.{value, digits}
 use Rattle.laws.specs.Search as search
-use Rattle.laws.specs.Upto.{some, count, picked, each}
+use Rattle.laws.specs.Upto.{someBelow, count, picked, each}
 use Rattle.alphabet.specs.Paper.{alphabet, septetOf}
 use Rattle.page.specs.Paper.{headerOctets, samePage}
 use Rattle.text.specs.Paper.{septets, packed, pageOctets, badParameter, foreign, endsInCr, writtenPage}
@@ -19,7 +19,7 @@ use Rattle.board_held.specs.Paper.{isHeld, tellsOf}
 use Rattle.edges.specs.Claims.{Edges}
 
 pub edges : Edges
-unfolding wholeBlocks value digits search.some search.firstFrom some count picked each alphabet septetOf headerOctets samePage septets packed
+unfolding wholeBlocks value digits search.some search.firstFrom someBelow count picked each alphabet septetOf headerOctets samePage septets packed
     pageOctets badParameter foreign endsInCr writtenPage block blocks cut.writtenBlocks bad planNumber holds lowestSlot hasPage new place order tells
     read plannedTold newAt octetsOfAll descriptions newBits usedPart padded write isWanted isHeld tellsOf reads decide
 edges = refl

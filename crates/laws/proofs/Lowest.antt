@@ -1,7 +1,7 @@
 -- Laws of the lowest number below a bound that passes a test.
 use Rattle.laws.proofs as own
 use own.Base.{_≡_, refl, sym, _∙_, Bool, true, false, cond, false≢true, ⊎-elim, ℕ, zero, suc, _<_, not-suc-le-zero, arith}
-use Rattle.laws.specs.Upto.{some, lowest}
+use Rattle.laws.specs.Upto.{someBelow, lowest}
 use own.Tests.{true-or-false}
 use own.Upto.{below-suc, some-at, some-none, some-agree}
 
@@ -12,11 +12,11 @@ module _ (p : ℕ → Bool) where
     first-passes : (i : ℕ) → r ≡ suc i → i < n → p i ≡ true → ((j : ℕ) → j < i → p j ≡ false) → Lowest n r
 
   pub lowest-is : (n : ℕ) → Lowest n (lowest p n)
-  unfolding lowest some
+  unfolding lowest someBelow
   lowest-is zero = none-passes refl (λ i l. absurd (not-suc-le-zero l))
   lowest-is (suc n) = go (lowest-is n)
     where
-      go : Lowest n (lowest p n) → Lowest (suc n) (cond (some p n) (lowest p n) (cond (p n) (suc n) 0))
+      go : Lowest n (lowest p n) → Lowest (suc n) (cond (someBelow p n) (lowest p n) (cond (p n) (suc n) 0))
       go (none-passes e none) =
           rw (some-none p n none)
           (true-or-false (p n)

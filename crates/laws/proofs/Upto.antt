@@ -2,7 +2,7 @@
 use Rattle.laws.proofs as own
 use own.Base.{_≡_, refl, sym, ap, _∙_, Bool, true, false, cond, not, false≢true, or-true, [], _∷_, _⊎_, ⊎-elim, ℕ, zero, suc, _+_, _≤_, _<_}
 use own.Base.{eq-or-lt-of-le, le-of-suc-le-suc, not-suc-le-zero, add-one, arith, length, getD, length-append, List·getD-append, getD-at}
-use Rattle.laws.specs.Upto.{some, count, picked, each}
+use Rattle.laws.specs.Upto.{someBelow, count, picked, each}
 use own.Snoc.{length-snoc}
 use own.Tests.{true-or-false, either}
 
@@ -17,33 +17,33 @@ pub record Passing (p : ℕ → Bool) (n : ℕ) : Type 0 where
   pub passes : p at ≡ true
 
 module _ (p : ℕ → Bool) where
-  pub some-none : (n : ℕ) → ((i : ℕ) → i < n → p i ≡ false) → some p n ≡ false
-  unfolding some
+  pub some-none : (n : ℕ) → ((i : ℕ) → i < n → p i ≡ false) → someBelow p n ≡ false
+  unfolding someBelow
   some-none zero h = refl
   some-none (suc n) h = rw (some-none n (λ i l. h i (omega arith)), h n (omega arith))
 
-  pub some-at : (n i : ℕ) → i < n → p i ≡ true → some p n ≡ true
-  unfolding some
+  pub some-at : (n i : ℕ) → i < n → p i ≡ true → someBelow p n ≡ true
+  unfolding someBelow
   some-at zero i l e = absurd (not-suc-le-zero l)
-  some-at (suc n) i l e = ⊎-elim (λ q. rw (← q, e) (or-true (some p i))) (λ b. rw (some-at n i b e)) (below-suc l)
+  some-at (suc n) i l e = ⊎-elim (λ q. rw (← q, e) (or-true (someBelow p i))) (λ b. rw (some-at n i b e)) (below-suc l)
 
-  pub some-false : (n i : ℕ) → some p n ≡ false → i < n → p i ≡ false
+  pub some-false : (n i : ℕ) → someBelow p n ≡ false → i < n → p i ≡ false
   some-false n i e l = true-or-false (p i) (λ q. absurd (false≢true (sym e ∙ some-at n i l q))) (λ q. q)
 
   -- tests that agree below n have the same verdict
-  pub some-agree : (q : ℕ → Bool) (n : ℕ) → ((i : ℕ) → i < n → p i ≡ q i) → some p n ≡ some q n
-  unfolding some
+  pub some-agree : (q : ℕ → Bool) (n : ℕ) → ((i : ℕ) → i < n → p i ≡ q i) → someBelow p n ≡ someBelow q n
+  unfolding someBelow
   some-agree q zero h = refl
   some-agree q (suc n) h = rw (some-agree q n (λ i l. h i (omega arith)), h n (omega arith))
 
-  pub some-passing : (n : ℕ) → some p n ≡ true → Passing p n
-  unfolding some
+  pub some-passing : (n : ℕ) → someBelow p n ≡ true → Passing p n
+  unfolding someBelow
   some-passing zero e = absurd (false≢true e)
   some-passing (suc n) e =
       ⊎-elim
       (λ q. let w = some-passing n q in record { at = w .at; below = omega arith; passes = w .passes })
       (λ q. record { at = n; below = omega arith; passes = q })
-      (either (some p n) (p n) e)
+      (either (someBelow p n) (p n) e)
 
   pub count-none : count p 0 ≡ 0
   unfolding count

@@ -4,14 +4,14 @@ use mathlib.Core.List.{List, [], _∷_, _++_}
 use Prim.Native.Nat.{ℕ, zero, suc, _+_}
 
 -- some number below n passes the test
-unfoldable pub some : (ℕ → Bool) → ℕ → Bool
-some p zero = false
-some p (suc n) = some p n || p n
+unfoldable pub someBelow : (ℕ → Bool) → ℕ → Bool
+someBelow p zero = false
+someBelow p (suc n) = someBelow p n || p n
 
 -- the lowest number below n that passes the test, counted from 1; 0 where none passes
 unfoldable pub lowest : (ℕ → Bool) → ℕ → ℕ
 lowest p zero = 0
-lowest p (suc n) = cond (some p n) (lowest p n) (cond (p n) (suc n) 0)
+lowest p (suc n) = cond (someBelow p n) (lowest p n) (cond (p n) (suc n) 0)
 
 -- how many numbers below n pass the test
 unfoldable pub count : (ℕ → Bool) → ℕ → ℕ

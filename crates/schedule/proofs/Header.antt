@@ -1,7 +1,7 @@
 -- The cases of the header: which of its tests answers.
 use Rattle.laws.proofs.Base.{_≡_, ap, true, false, _&&_, List, ℕ, _≤_, _<_, arith, length, leb, eq-eqb, ne-eqb, leb-true}
 use Rattle.sizes.specs.Paper.{wholeBlocks}
-use Rattle.laws.specs.Upto.{some}
+use Rattle.laws.specs.Upto.{someBelow}
 use Rattle.laws.proofs.Tests.{both}
 use Rattle.schedule.specs as defs
 use defs.Paper.{octetAt, type, begin, end, bounded, inBounds, newPast, Read, unread}
@@ -48,11 +48,11 @@ module _ (m : List ℕ) (received : ℕ) where
         head-range h = rw (eq-eqb (length m) 88 whole, sent, eq-eqb (type m) 0 type-good, h)
 
         module _ (ok : inBounds m ≡ true) where
-          pub head-new : some (newPast m) 48 ≡ true → unread 22 ≡ headRead m received
+          pub head-new : someBelow (newPast m) 48 ≡ true → unread 22 ≡ headRead m received
           unfolding headRead
           head-new h = rw (eq-eqb (length m) 88 whole, sent, eq-eqb (type m) 0 type-good, ok, h)
 
-          pub head-good : some (newPast m) 48 ≡ false
+          pub head-good : someBelow (newPast m) 48 ≡ false
               → _≡_ {A = Read} (record { number = 0; begin = octetAt m 0; end = end m }) (headRead m received)
           unfolding headRead
           head-good h =

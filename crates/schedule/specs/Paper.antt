@@ -6,7 +6,7 @@ use lib.ListN.{length, take, drop, getD}
 use lib.Dec.{eqb, leb, ltb}
 use Rattle.sizes.specs.Paper.{wholeBlocks}
 use Rattle.laws.specs.Ruled.{ruled}
-use Rattle.laws.specs.Upto.{some, count, picked}
+use Rattle.laws.specs.Upto.{someBelow, count, picked}
 
 -- an octet of a message
 abbrev pub octetAt : List ℕ → ℕ → ℕ
@@ -120,14 +120,14 @@ headFaults m received =
     ∷ (not (wholeBlocks received), 18)
     ∷ (not (eqb (type m) 0), 20)
     ∷ (not (inBounds m), 21)
-    ∷ (some (newPast m) 48, 22)
+    ∷ (someBelow (newPast m) 48, 22)
     ∷ []
 
 -- 01 Order: why a message is refused by its descriptions, 23 for all slots and then 24; one of them passes the received octets exactly if the last does
 abbrev pub bodyFaults : List ℕ → ℕ → List (Bool × ℕ)
 bodyFaults m received =
     (ltb received (place m (end m)), 23)
-    ∷ (some (falseRepeat (tells m)) (end m), 24)
+    ∷ (someBelow (falseRepeat (tells m)) (end m), 24)
     ∷ []
 
 -- 01 Order: why a message is refused

@@ -2,7 +2,7 @@
 ghost use mathlib.Core.Path.{_≡_};
 ghost use Prim.Native.Nat.{_≤_};
 ghost use lib.ListN.{length};
-ghost use Rattle.laws.specs.Upto.{some};
+ghost use Rattle.laws.specs.Upto.{someBelow};
 ghost use Rattle.schedule.specs.Paper.{octetAt, end as endOf, new as newOf, bounded, newPast, short, told};
 ghost use Rattle.schedule.specs.Coded.{toldOf, shownOf, readOf};
 ghost use Rattle.schedule.specs.Inner.{headRead};
@@ -130,7 +130,7 @@ fn is_in_bounds(begin: usize, end: usize) -> bool
 // Whether the new bit of a slot past End is set.
 fn has_new_past(message: &[u8], end: usize) -> bool
     requires { ⌜ (length (now message) ≡ 88) × (end ≡ endOf (now message)) × (end ≤ 48) ⌝ }
-    ensures { λ r. ⌜ r ≡ some (newPast (now (message .entry))) 48 ⌝ }
+    ensures { λ r. ⌜ r ≡ someBelow (newPast (now (message .entry))) 48 ⌝ }
 {
     let mut i = end;
     while i < SLOTS {

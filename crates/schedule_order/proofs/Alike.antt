@@ -3,7 +3,7 @@ use Rattle.laws.proofs.Base.{_≡_, refl, sym, ap, _∙_, Bool, true, false, co
 use Rattle.laws.proofs.Base.{_+_, _-_, _/_, _%_, _^_, _≤_, _<_, arith, length, getD, eqb, leb, ltb, ltb-true, ltb-false, ne-eqb}
 use Rattle.sizes.specs.Paper.{wholeBlocks}
 use Rattle.laws.specs.Ruled.{ruled}
-use Rattle.laws.specs.Upto.{some, count, picked}
+use Rattle.laws.specs.Upto.{someBelow, count, picked}
 use Rattle.laws.proofs.Upto.{some-agree}
 use Rattle.schedule.specs.Paper.{octetAt, type, begin, end, new, told, place, rank, order, tells, falseRepeat, inBounds}
 use Rattle.schedule.specs.Paper.{faults, shown, Read, unread, good, read, next, noMore, refusal, slotOf, givenAt, given}
@@ -86,10 +86,10 @@ module _ (m n : List ℕ) (a : Matching m n) where
   last-same : place m (end m) ≡ place n (end n)
   last-same = a .places (end m) (omega arith) ∙ ap (place n) (a .last)
 
-  false-same : some (falseRepeat (tells m)) (end m) ≡ some (falseRepeat (tells n)) (end n)
+  false-same : someBelow (falseRepeat (tells m)) (end m) ≡ someBelow (falseRepeat (tells n)) (end n)
   false-same =
       some-agree (falseRepeat (tells m)) (falseRepeat (tells n)) (end m) (λ i l. falseRepeat-agree (tells m) (tells n) (end m) i tells-same l)
-      ∙ ap (some (falseRepeat (tells n))) (a .last)
+      ∙ ap (someBelow (falseRepeat (tells n))) (a .last)
 
   module _ (received : ℕ) where
     faults-same : faults m received ≡ faults n received
@@ -98,7 +98,7 @@ module _ (m n : List ℕ) (a : Matching m n) where
         ∷ (not (wholeBlocks received), 18)
         ∷ (not (eqb (a .kind p) 0), 20)
         ∷ (not (a .rule p), 21)
-        ∷ (some (λ (i : ℕ). leb (a .last p) i && new-same p i) 48, 22)
+        ∷ (someBelow (λ (i : ℕ). leb (a .last p) i && new-same p i) 48, 22)
         ∷ (ltb received (last-same p), 23)
         ∷ (false-same p, 24)
         ∷ []

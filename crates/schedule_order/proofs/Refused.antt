@@ -2,7 +2,7 @@
 use Rattle.laws.proofs.Base.{_≡_, refl, sym, ap, _∙_, Bool, true, false, not, cond, _||_, false≢true, List, [], _∷_, _++_, _↔_, inl, inr, ⊎-elim, ℕ, suc}
 use Rattle.laws.proofs.Base.{_+_, _-_, _≤_, _<_, arith, length, eqb, leb, ltb, eq-eqb, eqb-true, le-leb, leb-true, le-ltb, ltb-false, not-true, not-false}
 use Rattle.sizes.specs.Paper.{wholeBlocks}
-use Rattle.laws.specs.Upto.{some}
+use Rattle.laws.specs.Upto.{someBelow}
 use Rattle.laws.proofs.Outcome.{ruled-past}
 use Rattle.laws.proofs.Ruled.{NoneHolds, ruled-map}
 use Rattle.laws.proofs.Tests.{either}
@@ -37,10 +37,10 @@ module _ (m : List ℕ) where
   false-because i l optional e h = absurd (false≢true h)
   false-because i l advised e h = absurd (false≢true h)
 
-  found : some (falseRepeat (tells m)) (end m) ≡ true → FalseRepeat m
+  found : someBelow (falseRepeat (tells m)) (end m) ≡ true → FalseRepeat m
   found h = let w = some-passing (falseRepeat (tells m)) (end m) h in false-because (w .at) (w .below) (tells m (w .at)) refl (w .passes)
 
-  told-of : FalseRepeat m → some (falseRepeat (tells m)) (end m) ≡ true
+  told-of : FalseRepeat m → someBelow (falseRepeat (tells m)) (end m) ≡ true
   told-of f =
       some-at (falseRepeat (tells m)) (end m) (f .slot) (f .below)
       (⊎-elim (false-zero (tells m) (f .slot) (f .number) (f .repeats))
@@ -54,7 +54,7 @@ module _ (m : List ℕ) where
 
     -- 24 itself
     abbrev itself : List (Bool × ℕ)
-    itself = (some (falseRepeat (tells m)) (end m), 24) ∷ []
+    itself = (someBelow (falseRepeat (tells m)) (end m), 24) ∷ []
 
     reaches : NoneHolds before → Reaches24 m received
     reaches h =
@@ -99,7 +99,7 @@ module _ (m : List ℕ) where
         there e =
             let number = sym (ruled-map (λ (r : Read). r .number) unread (faults m received) (good m)) ∙ e in
             let w = ruled-past before itself 0 24 (not-among 24 before refl) number in
-            (reaches (w .0), found (holds (some (falseRepeat (tells m)) (end m)) (w .1)))
+            (reaches (w .0), found (holds (someBelow (falseRepeat (tells m)) (end m)) (w .1)))
 
         back : Reaches24 m received × FalseRepeat m → read m received .number ≡ 24
         back h =

@@ -2,7 +2,7 @@
 use Rattle.laws.proofs.Base.{_≡_, refl, sym, ap, _∙_, Bool, true, false, List, ℕ, zero, suc, _+_, _*_, _/_, _%_, _≤_, _<_, arith, length, take, length-take}
 use Rattle.laws.proofs.Base.{length-set, List·getD-append, List·getD-eq-default, getD-set-same, getD-set-other, getD-take, leb, ltb, le-leb, ltb-true, ltb-false}
 use Rattle.sizes.specs.Paper.{wholeBlocks}
-use Rattle.laws.specs.Upto.{some, count}
+use Rattle.laws.specs.Upto.{someBelow, count}
 use Rattle.schedule.specs.Paper.{octetAt, type, begin, end, width, told, new, place, tells, inBounds, read}
 use Rattle.schedule.proofs.Places.{place-after, width-some}
 use Rattle.schedule_order.specs.Claims.{Alike, AlikeButBegin, SameSlots, Begins, TailIgnored, TailIsIgnored, withBegin, withSpare, withTail, PastIgnored, SpareIgnored, BeginOnlyItself, TwoSlots}
@@ -127,5 +127,5 @@ pub begin-only-itself : BeginOnlyItself
 begin-only-itself = begin-alone
 
 pub two-slots : TwoSlots
-unfolding read place tells new some count wholeBlocks
+unfolding read place tells new someBelow count wholeBlocks
 two-slots = (refl, refl, refl)

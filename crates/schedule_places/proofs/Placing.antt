@@ -3,7 +3,7 @@ use Rattle.laws.proofs.Base.{_≡_, refl, sym, ap, _∙_, Bool, true, false, Li
 use Rattle.laws.proofs.Base.{getD-replicate, ext-getD, eqb, ltb, eqb-true, lt-ltb, le-ltb, ltb-true, not-false}
 use Rattle.sizes.specs.Paper.{wholeBlocks}
 use Rattle.laws.specs.Ruled.{ruled}
-use Rattle.laws.specs.Upto.{some, count, each}
+use Rattle.laws.specs.Upto.{someBelow, count, each}
 use Rattle.sizes.proofs.Received.{whole-bounds}
 use Rattle.laws.proofs.Outcome.{Outcome, refuses, passes, outcome, ruled-append}
 use Rattle.laws.proofs.Upto.{some-agree, each-length, each-at}
@@ -112,17 +112,17 @@ module _ (m : List ℕ) (received : ℕ) where
       reached : place m (end m) ≤ received
       reached = let q : k ≡ place m (end m) = others .reached ∙ ap (place m) (groups-whole m) in omega arith
 
-      agrees : some (falseRepeat (toldBy m s)) e ≡ some (falseRepeat (tells m)) (end m)
+      agrees : someBelow (falseRepeat (toldBy m s)) e ≡ someBelow (falseRepeat (tells m)) (end m)
       unfolding tells
       agrees =
           rw (h .ends)
           (some-agree (falseRepeat (toldBy m s)) (falseRepeat (tells m)) (end m)
           (λ i l. falseRepeat-agree (toldBy m s) (tells m) (end m) i (λ j w. ap (told m) (there j w)) l))
 
-      pub placed-false : some (falseRepeat (toldBy m s)) e ≡ true → unplaced 24 ≡ placed m received
+      pub placed-false : someBelow (falseRepeat (toldBy m s)) e ≡ true → unplaced 24 ≡ placed m received
       placed-false w = sym (h .places ∙ rw (le-ltb received (place m (end m)) reached, sym agrees ∙ w))
 
-      pub placed-good : (r : Read) → r ≡ headRead m received → length s ≡ 48 → some (falseRepeat (toldBy m s)) e ≡ false
+      pub placed-good : (r : Read) → r ≡ headRead m received → length s ≡ 48 → someBelow (falseRepeat (toldBy m s)) e ≡ false
           → _≡_ {A = Placed} (record { read = r; places = s }) (placed m received)
       placed-good r q size w =
           let good-end : placed m received ≡ whole m = h .places ∙ rw (le-ltb received (place m (end m)) reached, sym agrees ∙ w) in

@@ -2,7 +2,7 @@
 ghost use mathlib.Core.Path.{_≡_};
 ghost use Prim.Native.Nat.{_≤_};
 ghost use lib.ListN.{length};
-ghost use Rattle.laws.specs.Upto.{some};
+ghost use Rattle.laws.specs.Upto.{someBelow};
 ghost use Rattle.schedule.specs.Paper.{place as placeOf, base, isFirst, falseRepeat, read};
 ghost use Rattle.schedule.specs.Coded.{toldOf, readOf};
 ghost use Rattle.schedule.specs.Inner.{toldBy};
@@ -164,7 +164,7 @@ fn is_first(description: Description) -> bool
 // Whether a slot up to End repeats what is no first transmission in a slot below it.
 fn has_false_repeat(message: &[u8], places: [u8; SLOTS], firsts: [bool; SLOTS], end: usize) -> bool
     requires { ⌜ (end ≤ 48) × Firsts (now message) places firsts end ⌝ }
-    ensures { λ r. ⌜ r ≡ some (falseRepeat (toldBy (now (message .entry)) places)) end ⌝ }
+    ensures { λ r. ⌜ r ≡ someBelow (falseRepeat (toldBy (now (message .entry)) places)) end ⌝ }
 {
     let mut i = 0;
     while i < end {

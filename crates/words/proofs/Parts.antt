@@ -2,7 +2,7 @@
 use Rattle.laws.proofs.Base.{_≡_, refl, sym, ap, _∙_, Bool, true, false, cond, not, _&&_, List, [], _∷_, _++_, ℕ, _+_, _-_, _≤_}
 use Rattle.laws.proofs.Base.{_<_, add-zero, arith, length, getD, take, drop, take-append-drop, leb, leb-true, ne-eqb, not-false}
 use Prim.Native.String.{String}
-use Rattle.laws.specs.Upto.{some, each}
+use Rattle.laws.specs.Upto.{someBelow, each}
 use Rattle.laws.proofs.Upto.{some-false, each-at}
 use Rattle.laws.proofs.Tests.{both}
 use Rattle.lines.specs.Paper.{PutLeft, ascii, behind}
@@ -31,8 +31,8 @@ part-is all e n h = rw e (sym (each-at part 43 n [] h) ∙ ap (λ (l : List (Lis
 abbrev ordered : ℕ → Bool
 ordered n = leb (getD starts n 0) (getD starts (n + 1) 0) && leb (getD starts (n + 1) 0) (length allWords)
 
-all-ordered : some (λ (n : ℕ). not (ordered n)) 43 ≡ false
-unfolding some ascii joined
+all-ordered : someBelow (λ (n : ℕ). not (ordered n)) 43 ≡ false
+unfolding someBelow ascii joined
 all-ordered = refl
 
 pub part-inside : (n : ℕ) → n < 43 → (getD starts n 0 ≤ getD starts (n + 1) 0) × (getD starts (n + 1) 0 ≤ length allWords)
