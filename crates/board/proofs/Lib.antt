@@ -2,4 +2,5 @@
 pub mod Cases
 pub mod Deciding
 pub mod Determined
+pub mod Filled
 pub mod Matching

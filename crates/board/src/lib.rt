@@ -10,7 +10,7 @@ ghost use Rattle.schedule.specs.Inner.{toldBy};
 ghost use Rattle.board_held.specs.Paper.{isHeld};
 ghost use Rattle.board_held.specs.Coded.{scheduleOf, lentSchedule};
 ghost use Rattle.board.specs.Paper.{matches15, isWanted, firstMatches, readsFor, decide as decideOf};
-ghost use Rattle.board.specs.Inner.{readsBy};
+ghost use Rattle.board.specs.Inner.{filledWanted, readsBy};
 ghost use Rattle.board.specs.Coded.{idsOf, wantedOf, decidedOf};
 use board_held::Held;
 use board_held::Schedule;
@@ -32,6 +32,23 @@ pub enum Decision {
     Read,
     Skip,
     Refused(Refusal),
+}
+
+// A list of identifiers by value: how many there are, so that over 64 are told from 64, and the first 64 of them.
+pub fn wanted_of(list: &[u16]) -> Wanted
+    ensures { λ r. ⌜ wantedOf r ≡ filledWanted (now (list .entry)) ⌝ }
+{
+    let count = list.len();
+    let mut ids = [MessageId(0); WANTED];
+    let mut i = 0;
+    while i < WANTED {
+        if i >= count {
+            return Wanted { count, ids };
+        }
+        ids[i] = MessageId(list[i]);
+        i += 1;
+    }
+    Wanted { count, ids }
 }
 
 // Whether one of the first identifiers matches in 15 bits.

@@ -1,4 +1,3 @@
 -- What `board_calls` proves.
 pub mod Decided
 pub mod Determined
-pub mod Wanted

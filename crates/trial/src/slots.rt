@@ -1,21 +1,22 @@
 // Stored results of schedule messages and of a board's slots, by the reader of descriptions and the board by value.
 ghost use mathlib.Core.Path.{_≡_};
-ghost use Prim.Native.Nat.{_≤_};
 ghost use lib.ListN.{length};
+ghost use Rattle.trial.specs.Inner.{Within};
 use crate::fields;
 use crate::told;
 use crate::told::DIFFERS;
 use crate::told::NO_VALUE;
 use board::Decision;
-use board::WANTED;
 use board::Wanted;
 use board_held::Held;
 use board_held::Schedule;
-use page::MessageId;
 use schedule::Reading;
 use schedule::Slot;
 use schedule_given::Given;
 use sizes::MESSAGE;
+
+// The most numbers of two octets in a list.
+const NUMBERS: usize = 512;
 
 // S: message, received; number, Begin, End; then for each description, in the message's order: slot, new bit, code.
 pub(crate) fn schedule(line: &[u8]) -> usize {
@@ -135,7 +136,7 @@ fn decision_of(
         return NO_VALUE;
     }
     let given = given_of(known, message, received);
-    let list = wanted_of(wanted);
+    let list = wanted_from(wanted);
     let answer = board::decide(given, slot, list, Held(held));
     match answer {
         Decision::Read => decided(line, at, 0, 1),
@@ -199,17 +200,25 @@ fn given_of(known: bool, message: &[u8], received: usize) -> Schedule
     }
 }
 
-// The identifiers that are wanted by value, from two octets each: the first 64, and how many there are.
-fn wanted_of(octets: &[u8]) -> Wanted {
-    let count = octets.len() / 2;
-    let mut ids = [MessageId(0); WANTED];
-    let mut i = 0;
-    while i < WANTED {
-        if i >= count {
-            return Wanted { count, ids };
+// The identifiers that are wanted by value, from two octets each.
+fn wanted_from(octets: &[u8]) -> Wanted {
+    let mut numbers = [0u16; NUMBERS];
+    let count = joined_in(octets, &mut numbers);
+    board::wanted_of(&numbers[..count])
+}
+
+// Puts numbers of two octets each into a room, and answers how many there are.
+fn joined_in(octets: &[u8], room: &mut [u16]) -> usize
+    ensures { λ r. ⌜ Within r (now (room .exit)) ⌝ }
+{
+    let whole = octets.len() / 2;
+    let mut count = 0;
+    while count < room.len() {
+        if count >= whole {
+            return count;
         }
-        ids[i] = MessageId(page::joined(octets[2 * i], octets[2 * i + 1]));
-        i += 1;
+        room[count] = page::joined(octets[2 * count], octets[2 * count + 1]);
+        count += 1;
     }
-    Wanted { count, ids }
+    count
 }

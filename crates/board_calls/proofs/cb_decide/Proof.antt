@@ -16,9 +16,8 @@ decided c =
 
 listed : (c : tie.After-decide-on) → decidedOf (c .decide-on .result) ≡ decided c
 listed c =
-    let w = c .before .wanted-of in
     let a = c .before .before .before .before .args in
-    as-listed (a .known) (a .message .now) (a .received) (a .slot) (a .wanted .now) (a .held) (w .result) (w .ensures) (c .decide-on .ensures)
+    as-listed (a .known) (a .message .now) (a .received) (a .slot) (a .wanted .now) (a .held) (c .before .wanted-of .ensures) (c .decide-on .ensures)
 
 returns-3 : tie.Need-returns-3
 returns-3 c =
