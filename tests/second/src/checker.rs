@@ -11,7 +11,8 @@ pub enum Finding {
     Untrue(usize),
 }
 
-/// Checks a message; refuses by the current plan, the previous plan, 35, the reader's. // 01 Order
+/// Checks a message; refuses by the current plan, the previous plan, 35, the reader's, a plan's with the entry that it
+/// names. // 01 Order, 02 No. 1
 pub fn check_schedule(
     current: Result<Plan, Refusal>,
     previous: Result<Plan, Refusal>,

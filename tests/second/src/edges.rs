@@ -1,5 +1,6 @@
 //! The cases at the edges of each entry, chosen one by one.
 
+use crate::bad_entries;
 use crate::blocks::{BLOCK, FILL, MESSAGE};
 use crate::case::{Case, Entry};
 use crate::intake::STATE;
@@ -21,9 +22,9 @@ pub fn cases(entry: Entry) -> Vec<Case> {
         Entry::Content => contents(),
         Entry::ReadSchedule => schedules(),
         Entry::Description => places(),
-        Entry::ReadPlan => plans(),
-        Entry::WriteSchedule => schedules_written(),
-        Entry::CheckSchedule => checks(),
+        Entry::ReadPlan => [plans(), bad_entries::plans()].concat(),
+        Entry::WriteSchedule => [schedules_written(), bad_entries::written()].concat(),
+        Entry::CheckSchedule => [checks(), bad_entries::checked()].concat(),
         Entry::Decide => decisions(),
         Entry::Enter => enterings(),
         Entry::Slots => slots(),

@@ -43,7 +43,8 @@ pub enum Fault {
     PlanMark(usize),
     PlanVersion(usize),
     PlanLength(usize),
-    PlanEntry(usize),
+    PlanKind(usize),
+    PlanStray(usize),
     NoSlots,
     Begin,
     TooLong,
@@ -66,14 +67,15 @@ fn reader_faults(list: usize, number: usize) -> Vec<(u8, Fault)> {
     ]
 }
 
-/// The faults of a plan file. // 01 Order
+/// The faults of a plan file; of an entry's two, the one put last stands lowest. // 01 Order, 02 No. 1
 fn plan_faults(list: usize) -> Vec<(u8, Fault)> {
     vec![
         (32, Fault::PlanShort(list)),
         (30, Fault::PlanMark(list)),
         (31, Fault::PlanVersion(list)),
         (32, Fault::PlanLength(list)),
-        (33, Fault::PlanEntry(list)),
+        (36, Fault::PlanKind(list)),
+        (37, Fault::PlanStray(list)),
     ]
 }
 
@@ -172,7 +174,8 @@ fn put_one(case: &mut Case, fault: Fault, random: &mut Random) {
         Fault::PlanMark(list) => alter(&mut case.lists[list], random.below(3), random),
         Fault::PlanVersion(list) => alter(&mut case.lists[list], random.within(3, 4), random),
         Fault::PlanLength(list) => put_plan_length(&mut case.lists[list], random),
-        Fault::PlanEntry(list) => put_plan_entry(&mut case.lists[list], random),
+        Fault::PlanKind(list) => put_bad_entry(&mut case.lists[list], put_kind, random),
+        Fault::PlanStray(list) => put_bad_entry(&mut case.lists[list], put_stray, random),
         Fault::NoSlots => case.lists[0] = Plan::default().file(),
         Fault::Begin => put_begin(case, random),
         Fault::TooLong => case.lists[0] = many_pages(random).file(),
@@ -341,19 +344,45 @@ fn put_plan_length(file: &mut Vec<u8>, random: &mut Random) {
     }
 }
 
-fn put_plan_entry(file: &mut Vec<u8>, random: &mut Random) {
-    if file.get(5) == Some(&0) {
-        file[5] = 1;
-        file.extend([0; 6]);
+/// Makes the six octets of an entry bad in some way.
+type Spoil = fn(&mut [u8], &mut Random);
+
+/// A bad entry below all that are bad, or in the place of the first; now and then in a plan of 48 slots, and with
+/// another bad one above it. // 02 No. 1
+fn put_bad_entry(file: &mut Vec<u8>, spoil: Spoil, random: &mut Random) {
+    let slots = if random.once_in(16) { SLOTS } else { file[5].max(1) as usize };
+    file[5] = slots as u8;
+    file.resize(6 + 6 * slots, 0);
+    let good = file[6..].chunks_exact(6).take_while(|entry| !is_bad(entry)).count().max(1);
+    let any = random.within(1, good);
+    let number = random.pick(&[1, good, good, any]);
+    spoil(&mut file[6 * number..6 * number + 6], random);
+    if number < slots && random.once_in(4) {
+        let (above, other) = (random.within(number + 1, slots), random.pick::<Spoil>(&[put_kind, put_stray]));
+        other(&mut file[6 * above..6 * above + 6], random);
     }
-    let entries = (file.len() - 6) / 6;
-    let at = 6 + 6 * random.below(entries);
+}
+
+/// Whether an entry's octets are bad in either way. // 02 No. 1
+fn is_bad(entry: &[u8]) -> bool {
+    entry[0] > 2 || entry[0] < 2 && entry[1..].iter().any(|&octet| octet != 0)
+}
+
+/// A kind over 2, with the octets that there were or with none.
+fn put_kind(entry: &mut [u8], random: &mut Random) {
     if random.once_in(2) {
-        file[at] = random.pick(&[3, 4, 128, 255]);
-    } else {
-        file[at] = random.pick(&[0, 1]);
-        file[at + random.within(1, 5)] = random.pick(&[1, 128, 255]);
+        entry.fill(0);
     }
+    entry[0] = random.pick(&[3, 3, 4, 128, 130, 255]);
+}
+
+/// An octet that isn't 0 in a free slot, alone or beside those that there were.
+fn put_stray(entry: &mut [u8], random: &mut Random) {
+    if random.once_in(2) {
+        entry.fill(0);
+    }
+    entry[0] = random.pick(&[0, 1]);
+    entry[random.within(1, 5)] = random.pick(&[1, 128, 255]);
 }
 
 /// A Begin that isn't 1 to the count of the current plan.

@@ -1,5 +1,6 @@
-//! A second implementation of the base of document 01, written from the documents alone.
+//! A second implementation of the base of document 01 and of document 02's No. 1, written from the documents alone.
 
+pub mod bad_entries;
 pub mod blocks;
 pub mod case;
 pub mod checker;

@@ -68,7 +68,8 @@ fn entry_octets(entry: Entry) -> [u8; ENTRY] {
     }
 }
 
-/// Reads a plan file; refuses by 32 if short, then by 30, 31, 32, 33. // 01 Order
+/// Reads a plan file; refuses by 32 if short, then by 30, 31, 32, and at its lowest bad entry by 36 or 37, with that
+/// entry's number. // 01 Order, 02 No. 1
 pub fn read_plan(file: &[u8]) -> Result<Plan, Refusal> {
     if file.len() < HEAD {
         return Err(Refusal::PlanLength);
@@ -83,21 +84,22 @@ pub fn read_plan(file: &[u8]) -> Result<Plan, Refusal> {
     if count > SLOTS || file.len() != HEAD + ENTRY * count {
         return Err(Refusal::PlanLength);
     }
-    let entries: Result<Vec<Entry>, Refusal> = file[HEAD..].chunks_exact(ENTRY).map(entry).collect();
-    Ok(Plan { entries: entries? })
+    let entries = (1..).zip(file[HEAD..].chunks_exact(ENTRY)).map(|(number, octets)| entry(number, octets));
+    Ok(Plan { entries: entries.collect::<Result<Vec<Entry>, Refusal>>()? })
 }
 
-/// An entry of a plan file; refuses by 33. // 01 The plan
-fn entry(octets: &[u8]) -> Result<Entry, Refusal> {
+/// An entry of a plan file, by its number from 1; refuses by 36 or 37. // 01 The plan, 02 No. 1
+fn entry(number: usize, octets: &[u8]) -> Result<Entry, Refusal> {
     let blank = octets[1..].iter().all(|&octet| octet == 0);
     match octets[0] {
-        0 if blank => Ok(Entry::Optional),
-        1 if blank => Ok(Entry::Advised),
+        0 | 1 if !blank => Err(Refusal::PlanStray(number)),
+        0 => Ok(Entry::Optional),
+        1 => Ok(Entry::Advised),
         2 => Ok(Entry::Page(Page {
             serial: u16::from_be_bytes([octets[1], octets[2]]),
             identifier: u16::from_be_bytes([octets[3], octets[4]]),
             parameter: octets[5],
         })),
-        _ => Err(Refusal::PlanEntry),
+        _ => Err(Refusal::PlanKind(number)),
     }
 }

@@ -1,42 +1,81 @@
-//! The refusals of document 01's table of numbers.
+//! The refusals of document 01's table of numbers, with those of document 02's No. 1 in the place of its 33.
 
-/// A refusal; its value is its number. // 01 Numbers given
+/// A refusal; one of an entry in a plan has that entry's number, from 1. // 01 Numbers given, 02 No. 1
 #[derive(Clone, Copy, Debug, PartialEq, Eq)]
-#[repr(u8)]
 pub enum Refusal {
-    PieceLength = 2,
-    Discriminator = 3,
-    ReservedCode = 4,
-    NullCode = 5,
-    NotNext = 6,
-    State = 8,
-    TextLength = 10,
-    NotInAlphabet = 11,
-    EndsInCr = 12,
-    Scheme = 13,
-    Parameter = 14,
-    OutputLength = 15,
-    MessageLength = 16,
-    Used = 17,
-    Received = 18,
-    ScheduleType = 20,
-    BeginEnd = 21,
-    NewBitPastEnd = 22,
-    DescriptionPassesReceived = 23,
-    FalseRepeat = 24,
-    PlanMark = 30,
-    PlanVersion = 31,
-    PlanLength = 32,
-    PlanEntry = 33,
-    DescriptionsTooLong = 34,
-    NoSlots = 35,
-    SlotOutside = 41,
-    WantedTooMany = 42,
+    PieceLength,
+    Discriminator,
+    ReservedCode,
+    NullCode,
+    NotNext,
+    State,
+    TextLength,
+    NotInAlphabet,
+    EndsInCr,
+    Scheme,
+    Parameter,
+    OutputLength,
+    MessageLength,
+    Used,
+    Received,
+    ScheduleType,
+    BeginEnd,
+    NewBitPastEnd,
+    DescriptionPassesReceived,
+    FalseRepeat,
+    PlanMark,
+    PlanVersion,
+    PlanLength,
+    DescriptionsTooLong,
+    NoSlots,
+    PlanKind(usize),
+    PlanStray(usize),
+    SlotOutside,
+    WantedTooMany,
 }
 
 impl Refusal {
+    /// The number of a refusal. // 01 Numbers given, 02 No. 1
     pub fn number(self) -> u8 {
-        self as u8
+        match self {
+            Refusal::PieceLength => 2,
+            Refusal::Discriminator => 3,
+            Refusal::ReservedCode => 4,
+            Refusal::NullCode => 5,
+            Refusal::NotNext => 6,
+            Refusal::State => 8,
+            Refusal::TextLength => 10,
+            Refusal::NotInAlphabet => 11,
+            Refusal::EndsInCr => 12,
+            Refusal::Scheme => 13,
+            Refusal::Parameter => 14,
+            Refusal::OutputLength => 15,
+            Refusal::MessageLength => 16,
+            Refusal::Used => 17,
+            Refusal::Received => 18,
+            Refusal::ScheduleType => 20,
+            Refusal::BeginEnd => 21,
+            Refusal::NewBitPastEnd => 22,
+            Refusal::DescriptionPassesReceived => 23,
+            Refusal::FalseRepeat => 24,
+            Refusal::PlanMark => 30,
+            Refusal::PlanVersion => 31,
+            Refusal::PlanLength => 32,
+            Refusal::DescriptionsTooLong => 34,
+            Refusal::NoSlots => 35,
+            Refusal::PlanKind(_) => 36,
+            Refusal::PlanStray(_) => 37,
+            Refusal::SlotOutside => 41,
+            Refusal::WantedTooMany => 42,
+        }
+    }
+
+    /// The entry that a refusal names, from 1; 0 where it names none. // 02 No. 1
+    pub fn entry(self) -> usize {
+        match self {
+            Refusal::PlanKind(entry) | Refusal::PlanStray(entry) => entry,
+            _ => 0,
+        }
     }
 }
 

@@ -6,7 +6,7 @@ use crate::refusal::Refusal;
 use crate::schedule::{Description, Told, DESCRIPTIONS};
 
 /// Writes the message of a plan and gives its used octets; refuses by 15, the current plan's, the previous
-/// plan's, 35, 21, 34 in this order. // 01 Order
+/// plan's, 35, 21, 34 in this order, a plan's with the entry that it names. // 01 Order, 02 No. 1
 pub fn write_schedule(
     current: Result<Plan, Refusal>,
     previous: Result<Plan, Refusal>,

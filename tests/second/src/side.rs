@@ -46,9 +46,17 @@ pub trait Side {
 /// This implementation.
 pub struct Ours;
 
-/// number + 256 × value, the value 0 with a refusal. // 01 Order
+/// number + 256 × value; with a refusal the value is the entry that it names, or 0. // 01 Order, 02 No. 1
 fn packed(result: Result<usize, Refusal>) -> u64 {
-    number_of(&result) as u64 + 256 * result.unwrap_or(0) as u64
+    match result {
+        Ok(value) => 256 * value as u64,
+        Err(refusal) => refused(refusal),
+    }
+}
+
+/// number + 256 × the entry that it names. // 02 No. 1
+fn refused(refusal: Refusal) -> u64 {
+    refusal.number() as u64 + 256 * refusal.entry() as u64
 }
 
 /// number + 2^8 × Begin + 2^16 × End, both 0 with a refusal. // 01 Order
@@ -116,7 +124,7 @@ impl Side for Ours {
         match check_schedule(read_plan(current), read_plan(previous), message, received) {
             Ok(Finding::True) => 0,
             Ok(Finding::Untrue(slot)) => 40 + 256 * slot as u64,
-            Err(refusal) => refusal.number() as u64,
+            Err(refusal) => refused(refusal),
         }
     }
 

@@ -40,7 +40,7 @@ pub fn files() -> Vec<(&'static str, Vec<String>)> {
         ("schedule.txt", [lines(Entry::ReadSchedule, 200), lines(Entry::Description, 60)].concat()),
         ("plan.txt", lines(Entry::ReadPlan, 120)),
         ("writer.txt", lines(Entry::WriteSchedule, 120)),
-        ("checker.txt", lines(Entry::CheckSchedule, 200)),
+        ("checker.txt", lines(Entry::CheckSchedule, 120)),
         ("decision.txt", lines(Entry::Decide, 120)),
         ("enter.txt", lines(Entry::Enter, 80)),
         ("slots.txt", lines(Entry::Slots, 80)),

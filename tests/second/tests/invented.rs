@@ -74,7 +74,7 @@ fn stored_results_cover_every_number() {
         let lines = files.iter().flat_map(|(_, lines)| lines).filter(|line| line.starts_with(letter));
         lines.map(|line| u8::from_str_radix(line.split(' ').nth(at).unwrap(), 16).unwrap()).collect()
     };
-    let plan = [0, 30, 31, 32, 33];
+    let plan = [0, 30, 31, 32, 36, 37];
     let reader = [0, 16, 18, 20, 21, 22, 23, 24];
     assert_eq!(numbers("B ", 5), BTreeSet::from([0, 15, 16, 17]));
     assert_eq!(numbers("N ", 2), BTreeSet::from([0, 8]));
@@ -90,6 +90,31 @@ fn stored_results_cover_every_number() {
     assert_eq!(numbers("D ", 7), BTreeSet::from([0, 41, 42]));
     assert_eq!(numbers("L ", 4), reader.into_iter().chain([15]).collect());
     assert_eq!(numbers("H ", 2), BTreeSet::from([0, 16]));
+}
+
+/// The entries that stored lines of a letter name with 36 and with 37; `at` is the field of the number, the next is the
+/// entry's.
+fn named(files: &[(&str, Vec<String>)], letter: &str, at: usize) -> [BTreeSet<u64>; 2] {
+    let lines = files.iter().flat_map(|(_, lines)| lines).filter(|line| line.starts_with(letter));
+    let fields: Vec<Vec<&str>> = lines.map(|line| line.split(' ').collect()).collect();
+    let value = |field: &str| u64::from_str_radix(field, 16).unwrap();
+    [36, 37].map(|number| {
+        let with_number = fields.iter().filter(|fields| value(fields[at]) == number);
+        with_number.map(|fields| value(fields[at + 1])).collect()
+    })
+}
+
+#[test]
+fn stored_results_name_entries_from_the_first_to_the_last() {
+    let files = files();
+    let [kinds, strays] = named(&files, "P ", 2);
+    assert!((1..=48).all(|entry| kinds.contains(&entry) || strays.contains(&entry)));
+    for (letter, at) in [("P ", 2), ("W ", 5), ("K ", 5)] {
+        for entries in named(&files, letter, at) {
+            assert!([1, 2, 3, 24, 48].iter().all(|entry| entries.contains(entry)), "{letter}: {entries:?}");
+            assert!(entries.iter().all(|entry| (1..=48).contains(entry)), "{letter}: {entries:?}");
+        }
+    }
 }
 
 /// A stored line of entering: whether the schedule is known, its number, the slot, and the slot that is entered.
@@ -144,7 +169,8 @@ fn a_case_is_read_back_from_its_text() {
 }
 
 /// This implementation, but for a decision that compares 16 bits, a reader of text and one of slots that touch memory
-/// with a refusal, a repeat entered under its own slot, and a serial number taken for an identifier.
+/// with a refusal, a repeat entered under its own slot, a serial number taken for an identifier, and entries of a plan
+/// counted from 0.
 struct Wrong;
 
 impl Side for Wrong {
@@ -177,7 +203,12 @@ impl Side for Wrong {
         Ours.description(message, received, place)
     }
     fn read_plan(&self, file: &mut [u8]) -> u64 {
-        Ours.read_plan(file)
+        let returned = Ours.read_plan(file);
+        if [36, 37].contains(&(returned & 0xFF)) {
+            returned - 256
+        } else {
+            returned
+        }
     }
     fn write_schedule(&self, current: &mut [u8], previous: &mut [u8], begin: usize, out: &mut [u8]) -> u64 {
         Ours.write_schedule(current, previous, begin, out)
@@ -246,6 +277,13 @@ fn numbers_in_each_others_place_are_found() {
     let compared = compare(&[Entry::ReadHeader], 7, Duration::from_secs(20), &Ours, &Wrong);
     let case = compared.difference.expect("a difference");
     assert_eq!(case.lists[0].iter().filter(|&&octet| octet != 0).count(), 1);
+}
+
+#[test]
+fn an_entry_counted_from_0_is_found() {
+    let compared = compare(&[Entry::ReadPlan], 9, Duration::from_secs(20), &Ours, &Wrong);
+    let case = compared.difference.expect("a difference");
+    assert_eq!((run(&case, &Ours).returned[0] >> 8, case.lists[0].len()), (1, 12), "nothing but the bad entry is left");
 }
 
 #[test]
