@@ -13,7 +13,7 @@
 
 #include "csobvarit.h"
 
-/* Each number of the header beside that of document 01. */
+/* Each number of the header beside that of documents 01 and 02. */
 #define NUMBER(name, paper) {#name, name, paper}
 static const struct {
     const char *name;
@@ -55,9 +55,10 @@ static const struct {
     NUMBER(CB_PLAN_MARK, 30),
     NUMBER(CB_PLAN_VERSION, 31),
     NUMBER(CB_PLAN_LENGTH, 32),
-    NUMBER(CB_PLAN_ENTRY, 33),
     NUMBER(CB_DESCRIPTIONS_TOO_LONG, 34),
     NUMBER(CB_PLAN_EMPTY, 35),
+    NUMBER(CB_PLAN_KIND, 36),
+    NUMBER(CB_PLAN_STRAY, 37),
     NUMBER(CB_UNTRUE, 40),
     NUMBER(CB_SLOT_NUMBER, 41),
     NUMBER(CB_WANTED_COUNT, 42),
@@ -73,7 +74,7 @@ static int numbers_wrong(void)
 
     for (size_t i = 0; i < sizeof numbers / sizeof numbers[0]; i++)
         if (numbers[i].header != numbers[i].paper) {
-            fprintf(stderr, "tests/header: %s is %" PRIu32 " in the header and %" PRIu32 " in document 01\n",
+            fprintf(stderr, "tests/header: %s is %" PRIu32 " in the header and %" PRIu32 " in the documents\n",
                     numbers[i].name, numbers[i].header, numbers[i].paper);
             wrong = 1;
         }
