@@ -12,11 +12,16 @@
 
 enum { DESCRIPTIONS = 8, FILLER = 0x2B };
 
-/* Shows how many slots a plan has. */
+/* Shows how many slots a plan has, or says which entry is wrong: whoever typed the plan has to find the row. */
 static void show_plan(const char *which, const uint8_t *file, size_t length)
 {
     uint32_t read = cb_read_plan(file, length);
 
+    if (CB_NUMBER(read) == CB_PLAN_KIND || CB_NUMBER(read) == CB_PLAN_STRAY) {
+        fprintf(stderr, PROGRAM ": %s: refused by %u: entry %u, of kind %u\n", which, (unsigned)CB_NUMBER(read),
+                (unsigned)CB_COUNT(read), (unsigned)file[6 * CB_COUNT(read)]);
+        exit(1);
+    }
     if (CB_NUMBER(read) != 0)
         exit(fail(which, CB_NUMBER(read)));
     printf("%s: %u slots\n", which, (unsigned)CB_COUNT(read));

@@ -116,10 +116,10 @@ uint32_t cb_intake(uint8_t *state, size_t state_len, const uint8_t *piece, size_
 
 /*
  * What most calls return is number + 256 * count. What is counted is told with each: used octets, characters, slots, the
- * slot that 40 names, or CB_READ.
+ * slot that 40 names, the entry that 36 and 37 name, or CB_READ.
  */
 #define CB_NUMBER(returned) ((uint32_t)(returned) & 0xFFu)
-#define CB_COUNT(returned)  ((uint32_t)(returned) >> 8) /* 0 with a refusal other than 40 */
+#define CB_COUNT(returned)  ((uint32_t)(returned) >> 8) /* 0 with a refusal other than 36, 37 and 40 */
 
 /*
  * Writes a page of 88 octets: header, and the text packed, with CR after it up to 93 characters.
@@ -262,13 +262,17 @@ uint64_t cb_description(const uint8_t *message, size_t message_len, size_t recei
 #define CB_PLAN_MARK    30 /* refused: the file doesn't begin with CBP */
 #define CB_PLAN_VERSION 31 /* refused: its version isn't 1 */
 #define CB_PLAN_LENGTH  32 /* refused: under 6 octets, a count over 48, or a length that isn't 6 + 6 * count */
-#define CB_PLAN_ENTRY   33 /* refused: a kind over 2, or an octet that isn't 0 in kind 0 or 1 */
+#define CB_PLAN_KIND    36 /* refused: an entry of a kind over 2, whatever its other octets */
+#define CB_PLAN_STRAY   37 /* refused: an entry of kind 0 or 1 with another octet that isn't 0 */
 
 /*
- * Reads a plan file, of any length: number + 256 * count. Nothing is written.
+ * Reads a plan file, of any length: number + 256 * count, or the entry with 36 and 37. Nothing is written.
  *
  *   0                           the file is good; the count is its slots, 0 to 48
- *   32 if short, 30, 31, 32, 33 the first of these that applies, in this order; the count is 0
+ *   32 if short, 30, 31, 32     the first of these that applies, in this order; the count is 0
+ *   36, 37                      none of those applies, and an entry is bad; the count is the number of the lowest bad
+ *                               entry, 1 to 48, and 36 or 37 what is wrong with that one. Its six octets begin at
+ *                               file[6 * count], the kind first
  */
 uint32_t cb_read_plan(const uint8_t *file, size_t file_len);
 
@@ -281,24 +285,26 @@ uint32_t cb_read_plan(const uint8_t *file, size_t file_len);
 #define CB_UNTRUE                40 /* the message isn't true to the plans */
 
 /*
- * Writes the schedule message of the current plan, 88 octets: number + 256 * used octets. It is accepted by
- * cb_check_schedule beside the same files, and goes to cb_write_blocks with its used octets.
+ * Writes the schedule message of the current plan, 88 octets: number + 256 * used octets, or the entry with 36 and 37. It
+ * is accepted by cb_check_schedule beside the same files, and goes to cb_write_blocks with its used octets.
  *
  *   0                           out: the message, then 2B; the count is its used octets, 9 to 88
  *   15, the current file's, the previous file's, 35, 21, 34
  *                               out: untouched; the first of these that applies, in this order. 15 is an out_len that
- *                               isn't 88; a file's refusals are those of cb_read_plan; 21 is a Begin that isn't 1 to the
- *                               current plan's count
+ *                               isn't 88; a file's refusals are those of cb_read_plan, with 36 and 37 the count is the
+ *                               entry, and with the others it is 0; 21 is a Begin that isn't 1 to the current plan's
+ *                               count. Which of the files is refused isn't told: cb_read_plan of each tells it
  */
 uint32_t cb_write_schedule(const uint8_t *current, size_t current_len, const uint8_t *previous, size_t previous_len,
                            size_t begin, uint8_t *out, size_t out_len);
 
 /*
- * Checks a schedule message beside the plans: number + 256 * slot. Nothing is written.
+ * Checks a schedule message beside the plans: number + 256 * slot, or the entry with 36 and 37. Nothing is written.
  *
  *   0                           the message is true to the plans at every slot
  *   the current file's, the previous file's, 35, 16, 18, 20, 21, 22, 23, 24
- *                               the first of these that applies, in this order; the slot is 0
+ *                               the first of these that applies, in this order; with a file's 36 and 37 the count is
+ *                               the entry, and with the others it is 0
  *   40                          it reads well but isn't true; the count is the lowest slot that is untrue, 1 to 48, or
  *                               0 where End differs from the current plan's count
  */

@@ -10,8 +10,9 @@ use Rattle.calls.proofs.Packed.{apart, bit-most}
 use Rattle.block.specs.Paper.{refusal as refused, step}
 use Rattle.block_history.proofs.History.{number-small}
 use Rattle.firmware.specs.Paper.{heldIn, moved, intakeCall}
-use Rattle.plan.specs.Paper.{Plan, planNumber, filledPlan}
-use Rattle.plan_read.specs.Paper.{PlanRead as PlanRead, listed, faults as planFaults, refusal as planRefusal, readPlan}
+use Rattle.plan.specs.Paper.{Plan, lowestFault, planNumber, plansEntry}
+use Rattle.plan.proofs.Answers.{fault-low}
+use Rattle.plan_read.specs.Paper.{PlanRead as PlanRead, listed, faults as planFaults, refusal as planRefusal, goodFile, readPlan}
 use Rattle.plan.proofs.GoodPlan.{plan-low}
 use Rattle.schedule.specs.Paper.{end, faults, Read, unread, good, read, GivenSlot, next, noMore, refusal, givenAt, given}
 use Rattle.text.specs.Paper.{PageLeft, writtenPage, writerTests, usedOctets, pageOctets, Reading, reading, readerTests, shownText, trimmed, septetsReceived}
@@ -23,7 +24,7 @@ use Rattle.board_held.specs.Paper.{Schedule}
 use Rattle.board_held.specs.Coded.{lentSchedule}
 use Rattle.schedule_calls.specs.Paper.{packedGiven}
 use Rattle.schedule_calls.proofs.Given.{ends-small, slotNumber, slot-small}
-use Rattle.plan_calls.specs.Paper.{fileFaults, writtenFrom, checkedBeside}
+use Rattle.plan_calls.specs.Paper.{fileFaults, filesEntry, writtenFrom, checkedBeside}
 use Rattle.board_calls.specs.Paper.{decidedFor}
 use Rattle.calls_unpacked.specs.Claims.{UnpackedIntake, UnpackedWriteText, UnpackedReadText, UnpackedReadPlan, UnpackedWriteSchedule}
 use Rattle.calls_unpacked.specs.Claims.{UnpackedCheckSchedule, UnpackedDecide, UnpackedReadSchedule, UnpackedNext, UnpackedRefusal}
@@ -64,11 +65,11 @@ unpacked-read-text p n t =
 plan-fits : (f : List ℕ) → readPlan f .number < 256
 unfolding readPlan
 plan-fits f =
-    ruled-fitting (λ (r : PlanRead). r .number) planRefusal (planFaults f) (record { number = 0; plan = filledPlan (listed f) }) (λ n l. l)
-    refl (lit< tt)
+    ruled-fitting (λ (r : PlanRead). r .number) (planRefusal f) (planFaults f) (goodFile f) (λ n l. l)
+    (rw (lt-ltb (lowestFault (listed f)) 256 (omega (arith, fault-low (listed f))))) (lit< tt)
 
 pub unpacked-read-plan : UnpackedReadPlan
-unpacked-read-plan f = apart (readPlan f .number) (readPlan f .plan .count) (plan-fits f)
+unpacked-read-plan f = apart (readPlan f .number) _ (plan-fits f)
 
 read-fits : (m : List ℕ) (n : ℕ) → read m n .number < 256
 unfolding read
@@ -120,14 +121,14 @@ message-fits c p b o =
 
 pub unpacked-write-schedule : UnpackedWriteSchedule
 unpacked-write-schedule c p b o =
-    apart (writtenFrom c p b o .number) (writtenFrom c p b o .used)
-    (ruled-fitting (λ (w : told.MessageLeft). w .number) (told.unwritten o) ((not (eqb (length o) 88), 15) ∷ fileFaults c p)
-    (sender.write (readPlan c .plan) (readPlan p .plan) b o) (λ n l. l) (files-fit c p) (message-fits (readPlan c .plan) (readPlan p .plan) b o))
+    apart (writtenFrom c p b o .left .number) _
+    (ruled-fitting (λ (w : sender.ScheduleLeft). w .left .number) (sender.unwrittenNaming (filesEntry c p) o) ((not (eqb (length o) 88), 15) ∷ fileFaults c p)
+    (sender.writeSchedule (readPlan c .plan) (readPlan p .plan) b o) (λ n l. l) (files-fit c p) (message-fits (readPlan c .plan) (readPlan p .plan) b o))
 
 check-fits : (c p : Plan) (m : List ℕ) (n : ℕ) → checker.check c p m n .number < 256
 unfolding checker.check
 check-fits c p m n =
-    ruled-fitting (λ (x : checker.Checked). x .number) checker.unchecked (checker.faults c p m n) (checker.verdict c p m) (λ n l. l)
+    ruled-fitting (λ (x : checker.Checked). x .number) (checker.refusedAt (plansEntry c p)) (checker.faults c p m n) (checker.verdict c p m) (λ n l. l)
     (rw (plan-small c, plan-small p, lt-ltb (read m n .number) 256 (read-fits m n)))
     (verdict (eqb (end m) (c .count)) (eqb (lowest (checker.untrue c p m) (c .count)) 0))
   where
@@ -140,7 +141,7 @@ check-fits c p m n =
 pub unpacked-check-schedule : UnpackedCheckSchedule
 unpacked-check-schedule c p m n =
     apart (checkedBeside c p m n .number) (checkedBeside c p m n .slot)
-    (ruled-fitting (λ (x : checker.Checked). x .number) checker.unchecked (fileFaults c p) (checker.check (readPlan c .plan) (readPlan p .plan) m n)
+    (ruled-fitting (λ (x : checker.Checked). x .number) (checker.refusedAt (filesEntry c p)) (fileFaults c p) (checker.check (readPlan c .plan) (readPlan p .plan) m n)
     (λ n l. l) (files-fit c p) (check-fits (readPlan c .plan) (readPlan p .plan) m n))
 
 decide-fits : (s : Schedule) (n : ℕ) (w : Wanted) (h : ℕ) → decide s n w h .number < 256

@@ -1,5 +1,5 @@
 -- What each call for C packs into one number comes out of it again by the divisions and remainders of the header's macros.
-use mathlib.Core.Bool.{Bool, not}
+use mathlib.Core.Bool.{Bool, cond, not}
 use mathlib.Core.List.{List, [], _∷_}
 use mathlib.Core.Path.{_≡_}
 use Prim.Native.Nat.{ℕ, _/_, _%_, _≤_, _<_}
@@ -11,7 +11,8 @@ use Rattle.calls.specs.Paper.{bitOf}
 use Rattle.calls.specs.Claims.{TakenApart}
 use Rattle.block.specs.Paper as block
 use Rattle.page.specs.Paper.{Heading}
-use Rattle.plan_read.specs.Paper.{readPlan}
+use Rattle.plan.specs.Claims.{Naming, LowestBad}
+use Rattle.plan_read.specs.Paper.{listed, readPlan}
 use Rattle.schedule.specs.Paper.{end, new, tells, again, Read, read, Shown, next, refusal, given}
 use Rattle.text.specs.Paper.{writtenPage, reading}
 use Rattle.firmware.specs.Paper.{heldIn, intakeCall}
@@ -19,7 +20,7 @@ use Rattle.text_calls.specs.Paper.{writeCall, readCall}
 use Rattle.page_calls.specs.Paper.{headed, headerCall}
 use Rattle.schedule_calls.specs.Paper.{codeOf, scheduleCall, descriptionCall}
 use Rattle.slots_calls.specs.Paper.{slotsCall}
-use Rattle.plan_calls.specs.Paper.{planCall, writtenFrom, writeScheduleCall, checkedBeside, checkScheduleCall}
+use Rattle.plan_calls.specs.Paper.{besideNumber, planCall, writtenFrom, writeScheduleCall, checkedBeside, checkScheduleCall}
 use Rattle.board_calls.specs.Paper.{decidedFor, decideCall}
 
 -- 01 Intake, Order: the intake's answer to a call before it is packed: a wrong length of output or state is a refusal like the others;
@@ -39,17 +40,17 @@ UnpackedWriteText = (h : Heading) (t p : List ℕ) → TakenApart (writeCall h t
 abbrev pub UnpackedReadText : Type 0
 UnpackedReadText = (p : List ℕ) (n : ℕ) (t : List ℕ) → TakenApart (readCall p n t .returned) (reading p n t .number) (reading p n t .characters)
 
--- DECISIONS, Several numbers in one: number and count, of cb_read_plan
+-- DECISIONS, Several numbers in one: number, and count or entry, of cb_read_plan
 abbrev pub UnpackedReadPlan : Type 0
-UnpackedReadPlan = (f : List ℕ) → TakenApart (planCall f) (readPlan f .number) (readPlan f .plan .count)
+UnpackedReadPlan = (f : List ℕ) → TakenApart (planCall f) (readPlan f .number) (besideNumber (readPlan f .number) (readPlan f .plan .count) (readPlan f .entry))
 
--- DECISIONS, Several numbers in one: number and used octets, of cb_write_schedule
+-- DECISIONS, Several numbers in one: number, and used octets or entry, of cb_write_schedule
 abbrev pub UnpackedWriteSchedule : Type 0
 UnpackedWriteSchedule =
-    (c p : List ℕ) (b : ℕ) (o : List ℕ)
-    → TakenApart (writeScheduleCall c p b o .returned) (writtenFrom c p b o .number) (writtenFrom c p b o .used)
+    (c p : List ℕ) (b : ℕ) (o : List ℕ) → let w = writtenFrom c p b o in
+    TakenApart (writeScheduleCall c p b o .returned) (w .left .number) (besideNumber (w .left .number) (w .left .used) (w .entry))
 
--- DECISIONS, Several numbers in one: number and slot, of cb_check_schedule
+-- DECISIONS, Several numbers in one: number, and slot or entry, of cb_check_schedule
 abbrev pub UnpackedCheckSchedule : Type 0
 UnpackedCheckSchedule =
     (c p m : List ℕ) (n : ℕ) → TakenApart (checkScheduleCall c p m n) (checkedBeside c p m n .number) (checkedBeside c p m n .slot)
@@ -114,3 +115,19 @@ UnpackedReadHeader =
     × (headerCall p / 0x10000 % 0x10000 ≡ headed p .heading .serial)
     × (headerCall p / 0x100000000 % 0x10000 ≡ headed p .heading .id)
     × (headerCall p / 0x1000000000000 ≡ headed p .heading .parameter)
+
+-- 02 No. 1: of two plan files the current one if it is refused, else the previous one
+abbrev pub firstRefusedFile : List ℕ → List ℕ → List ℕ
+firstRefusedFile c p = cond (eqb (readPlan c .number) 0) p c
+
+-- 02 No. 1: where 36 or 37 comes out of what a call returned, the entry that comes out of it is the file's lowest bad one; 40 aside, 0 comes
+-- out with every other refusal
+pub record NamedByCall (f : List ℕ) (returned : ℕ) : Type 0 where
+  pub named : Naming (returned % 256) → LowestBad (listed f) (returned % 256) (returned / 256)
+  pub unnamed : (returned % 256 ≡ 0 → ⊥) → (Naming (returned % 256) → ⊥) → (returned % 256 ≡ 40 → ⊥) → returned / 256 ≡ 0
+
+-- 02 No. 1: so of cb_read_plan, cb_write_schedule and cb_check_schedule
+pub record CallsNameLowestBad : Type 0 where
+  pub reader : (f : List ℕ) → NamedByCall f (planCall f)
+  pub writer : (c p : List ℕ) (b : ℕ) (o : List ℕ) → NamedByCall (firstRefusedFile c p) (writeScheduleCall c p b o .returned)
+  pub checker : (c p m : List ℕ) (received : ℕ) → NamedByCall (firstRefusedFile c p) (checkScheduleCall c p m received)

@@ -6,15 +6,15 @@ use Rattle.lines.proofs.Texts.{flat-append}
 use Rattle.words.specs.Paper.{words}
 use Rattle.words.proofs.Few.{words-few}
 use Rattle.checker.specs.Paper.{Checked}
-use Rattle.cbcheck.specs.Paper.{reason, said, line}
+use Rattle.cbcheck.specs.Paper.{namesUntrue, reason, said, line}
 
 reason-wide : (n slot : ℕ) → length (flat (reason n slot)) ≤ 79
 unfolding flat ascii reason
-reason-wide n slot = go (eqb slot 0)
+reason-wide n slot = go (namesUntrue n slot)
   where
-    go : (b : Bool) → length (flat (cond b (words n ∷ []) (ascii "slot " ∷ decimal slot ∷ ascii " is not told as planned" ∷ []))) ≤ 79
-    go true = rw (length-append (words n)) (omega (arith, words-few n))
-    go false = simp length-append (omega (arith, length-spelled 19 slot))
+    go : (b : Bool) → length (flat (cond b (ascii "slot " ∷ decimal slot ∷ ascii " is not told as planned" ∷ []) (words n ∷ []))) ≤ 79
+    go true = simp length-append (omega (arith, length-spelled 19 slot))
+    go false = rw (length-append (words n)) (omega (arith, words-few n))
 
 said-wide : (n slot : ℕ) → length (flat (said n slot)) ≤ 80
 unfolding flat ascii said

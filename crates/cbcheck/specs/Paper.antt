@@ -1,5 +1,5 @@
 -- The lines of a log's schedule messages, by what checks a message of which some octets are received.
-use mathlib.Core.Bool.{cond}
+use mathlib.Core.Bool.{Bool, cond, not, _&&_}
 use mathlib.Core.List.{List, [], _∷_, _++_}
 use Prim.Native.Nat.{ℕ}
 use lib.Dec.{eqb}
@@ -13,9 +13,13 @@ use Rattle.words.specs.Paper.{words}
 abbrev pub numbers : ℕ → ℕ → ℕ → List (List ℕ)
 numbers n answer slot = marked n 32 ++ (marked answer 32 ++ marked slot 32)
 
--- why a message is refused by a number: a slot that comes with it is untrue, else the number's words
+-- 01 Numbers given, 40: whether a slot that is told untruly comes with a number
+abbrev pub namesUntrue : ℕ → ℕ → Bool
+namesUntrue number slot = not (eqb slot 0) && eqb number 40
+
+-- why a message is refused by a number: a slot that is told untruly, else the number's words
 unfoldable pub reason : ℕ → ℕ → List (List ℕ)
-reason number slot = cond (eqb slot 0) (words number ∷ []) (ascii "slot " ∷ decimal slot ∷ ascii " is not told as planned" ∷ [])
+reason number slot = cond (namesUntrue number slot) (ascii "slot " ∷ decimal slot ∷ ascii " is not told as planned" ∷ []) (words number ∷ [])
 
 -- what is said of a message that is accepted by 0, or refused, and the line's end
 unfoldable pub said : ℕ → ℕ → List (List ℕ)

@@ -12,7 +12,7 @@ ghost use Rattle.checker_plans.specs.Coded.{plansOf};
 ghost use Rattle.lines.specs.Paper.{allBehind};
 ghost use Rattle.logs.specs.Paper.{cut};
 ghost use Rattle.logs.specs.Inner.{Continues};
-ghost use Rattle.cbcheck.specs.Paper.{numbers, reason, line, lineOf, lines};
+ghost use Rattle.cbcheck.specs.Paper.{numbers, namesUntrue, reason, line, lineOf, lines};
 ghost use Rattle.cbcheck.specs.Inner.{lineFor};
 use arguments::Asked;
 use checker::Checking;
@@ -193,11 +193,21 @@ fn put_numbers(number: u64, answer: u64, slot: u64, out: &mut [u8], at: usize) -
     lines::put_marked(slot, b' ', out, b)
 }
 
-// Puts the words of a refusal. One that names a slot says that this slot is untrue.
+// Whether a slot that is told untruly comes with a refusal.
+fn names_untrue(refusal: Refusal, slot: usize) -> bool
+    ensures { λ r. ⌜ r ≡ namesUntrue (numberOf refusal) slot ⌝ }
+{
+    if slot == 0 {
+        return false;
+    }
+    refusals::number(refusal) == 40
+}
+
+// Puts why a message is refused: the slot that is told untruly, or the words of the refusal.
 fn put_reason(refusal: Refusal, slot: usize, out: &mut [u8], at: usize) -> usize
     ensures { λ r. ⌜ record { end = r; text = now (out .exit) } ≡ allBehind (reason (numberOf refusal) slot) at (now (out .entry)) ⌝ }
 {
-    if slot == 0 {
+    if !names_untrue(refusal, slot) {
         return words::put_words(refusal, out, at);
     }
     let a = lines::put(b"slot ", out, at);

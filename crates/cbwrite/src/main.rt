@@ -11,7 +11,7 @@ use block_writer::Sent;
 use libc::STDERR_FILENO;
 use plan::Plan;
 use refusals::Refusal;
-use sender_message::Writing;
+use sender::Sending;
 use sizes::MESSAGE;
 
 // Begin as an argument tells it.
@@ -141,7 +141,7 @@ fn compose(current: Plan, previous: Plan, begin: usize, out: &mut [u8]) -> Sent
     let mut message = [0u8; MESSAGE];
     let answer = sender::write_schedule(current, previous, begin, &mut message);
     match answer {
-        Writing::Written(used) => block_writer::write_blocks(&message, Kind::Schedule, used, out),
-        Writing::Refused(refusal) => Sent::Refused(refusal),
+        Sending::Written(used) => block_writer::write_blocks(&message, Kind::Schedule, used, out),
+        Sending::Refused(refusal, _) => Sent::Refused(refusal),
     }
 }

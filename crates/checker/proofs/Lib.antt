@@ -2,4 +2,5 @@
 pub mod Answers
 pub mod Comparing
 pub mod Determined
+pub mod Named
 pub mod Telling

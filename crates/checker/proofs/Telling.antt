@@ -8,6 +8,7 @@ use Rattle.plan.specs.Paper.{Plan, planNumber, entryAt}
 use Rattle.plan_slots.specs.Inner.{nonePlanned, saidAt, allPlanned}
 use Rattle.plan_slots.specs.Paper.{Planned, plannedAt}
 use Rattle.plan.proofs.GoodPlan.{good-counted}
+use Rattle.plan.proofs.Plans.{unnamed}
 use Rattle.checker_slots.specs.Paper.{trueBy}
 use Rattle.checker_plans.specs.Inner.{beside}
 use Rattle.checker.specs as defs
@@ -53,6 +54,9 @@ check-beside c p m received =
     (λ f.
     true-or-false (eqb (c .count) 0)
     (λ g. simp (e, f, g))
-    (λ g. let same = verdict-said c p m (good-counted c (eqb-true (planNumber c) 0 e)) in simp (e, f, g, same)))
+    (λ g.
+    let same = verdict-said c p m (good-counted c (eqb-true (planNumber c) 0 e)) in
+    let none = unnamed c p (eqb-true (planNumber c) 0 e) (eqb-true (planNumber p) 0 f) in
+    simp (e, f, g, same, none)))
     (λ f. simp (e, f)))
     (λ e. simp e)

@@ -11,7 +11,7 @@ use Rattle.plan_slots.specs.Paper.{Planned}
 use Rattle.plan_slots.specs.Inner.{nonePlanned}
 use Rattle.checker_slots.specs.Paper.{trueBy}
 use Rattle.checker_plans.specs.Inner.{Plans}
-use Rattle.checker.specs.Paper.{Checked, unchecked, untrueAt}
+use Rattle.checker.specs.Paper.{Checked, unchecked, refusedAt, untrueAt}
 
 -- 01 Numbers given, 40: what a message shows of a slot is untrue by what is said of it
 abbrev pub untrueTo : List Planned → List ℕ → ℕ → Bool
@@ -30,4 +30,4 @@ compared n v m received = ruled unchecked (unless0 (read m received .number) ∷
 
 -- 01 Order: checking a message of which some octets are received by what is said
 unfoldable pub checkBeside : Plans → List ℕ → ℕ → Checked
-checkBeside b m received = ruled unchecked (unless0 (b .number) ∷ []) (compared (b .count) (b .said) m received)
+checkBeside b m received = ruled (refusedAt (b .entry)) (unless0 (b .number) ∷ []) (compared (b .count) (b .said) m received)

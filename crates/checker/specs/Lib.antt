@@ -2,3 +2,4 @@
 pub mod Paper
 pub mod Inner
 pub mod Coded
+pub mod Claims

@@ -6,7 +6,7 @@ use lib.Dec.{eqb}
 use Rattle.laws.specs.Ruled.{ruled, unless0}
 use Rattle.laws.specs.Upto.{lowest}
 use Rattle.schedule.specs.Paper.{Shown, shown, end, read}
-use Rattle.plan.specs.Paper.{Plan, planNumber}
+use Rattle.plan.specs.Paper.{Plan, planNumber, plansEntry}
 use Rattle.plan_slots.specs.Paper.{plannedAt}
 use Rattle.checker_slots.specs.Paper.{trueBy}
 
@@ -18,7 +18,7 @@ isTrue c p i s = trueBy (plannedAt c p i) (suc i) s
 abbrev pub untrue : Plan → Plan → List ℕ → ℕ → Bool
 untrue c p m i = not (isTrue c p i (shown m i))
 
--- 01 Order: the checker's number, and the slot that comes with 40
+-- 01 Order, 02 No. 1: the checker's number, and the slot that comes with 40, or the one whose entry 36 and 37 name
 pub record Checked : Type 0 where
   pub number : ℕ
   pub slot : ℕ
@@ -26,6 +26,10 @@ pub record Checked : Type 0 where
 -- 01 Order: with a refusal the other number is 0
 abbrev pub unchecked : ℕ → Checked
 unchecked n = record { number = n; slot = 0 }
+
+-- 02 No. 1: a refusal with the entry e that the plans name, 0 where they name none
+abbrev pub refusedAt : ℕ → ℕ → Checked
+refusedAt e n = record { number = n; slot = e }
 
 -- 01 Numbers given, 40: untrue, with a slot
 abbrev pub untrueAt : ℕ → Checked
@@ -43,6 +47,7 @@ abbrev pub faults : Plan → Plan → List ℕ → ℕ → List (Bool × ℕ)
 faults c p m received =
     unless0 (planNumber c) ∷ unless0 (planNumber p) ∷ (eqb (c .count) 0, 35) ∷ unless0 (read m received .number) ∷ []
 
--- 01 The plan, Order: checking a message of which some octets are received, beside the current plan c and the previous plan p
+-- 01 The plan, Order: checking a message of which some octets are received, beside the current plan c and the previous plan p;
+-- past the plans' refusals `plansEntry` is 0
 unfoldable pub check : Plan → Plan → List ℕ → ℕ → Checked
-check c p m received = ruled unchecked (faults c p m received) (verdict c p m)
+check c p m received = ruled (refusedAt (plansEntry c p)) (faults c p m received) (verdict c p m)

@@ -17,7 +17,8 @@ use refusals::Refusal;
 use schedule::Reading;
 use sizes::SLOTS;
 
-// What the checker answers: the message is true, or it is refused, with the slot that 40 names; with other refusals the slot is 0.
+// What the checker answers: the message is true, or it is refused, with the slot that 40 names, or whose entry 36 and 37 name; with other
+// refusals the slot is 0.
 pub enum Checking {
     True,
     Refused(Refusal, usize),
@@ -67,8 +68,8 @@ pub fn check_beside(plans: Plans, message: &[u8], received: usize) -> Checking
     ensures { λ r. ⌜ checkedOf r ≡ checkBeside (plansOf plans) (now (message .entry)) received ⌝ }
 {
     let verdict = plans.verdict;
-    if let Verdict::Refused(why) = verdict {
-        return Checking::Refused(why, 0);
+    if let Verdict::Refused(why, entry) = verdict {
+        return Checking::Refused(why, entry as usize);
     }
     let said = plans.said;
     compare(plans.count, said, message, received)

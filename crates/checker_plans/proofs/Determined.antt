@@ -13,7 +13,7 @@ use defs.Coded.{plansOf}
 
 plans-injective : (r s : Plans) → plansOf r ≡ plansOf s → r ≡ s
 plans-injective r s e =
-    let verdict = verdict-injective (r .verdict) (s .verdict) (ap (λ (x : Said). x .number) e) in
+    let verdict = verdict-injective (r .verdict) (s .verdict) (ap (λ (x : Said). record { number = x .number; entry = x .entry }) e) in
     let said = said-injective (r .said) (s .said) (ap (λ (x : Said). x .said) e) in
     λ i. record { verdict = verdict i; count = e i .count; said = said i }
 

@@ -5,6 +5,6 @@ use Rattle.plan_slots.specs.Coded.{plannedOf}
 use Rattle.checker_plans.specs.declared.Plans.{Plans as PlansCode}
 use Rattle.checker_plans.specs.Inner.{Plans}
 
--- what two plans say, with 0 for good ones or the refusal's number
+-- what two plans say, with 0 for good ones or the refusal's number and the entry that comes with it
 abbrev pub plansOf : PlansCode → Plans
-plansOf b = record { number = verdictOf (b .verdict); count = b .count; said = map plannedOf (b .said) }
+plansOf b = record { number = verdictOf (b .verdict) .number; entry = verdictOf (b .verdict) .entry; count = b .count; said = map plannedOf (b .said) }

@@ -17,9 +17,9 @@ pub struct Plans {
     pub said: [Planned; SLOTS],
 }
 
-// Plans that are refused say nothing.
-fn unsaid(why: Refusal) -> Plans
-    ensures { λ r. ⌜ plansOf r ≡ unsaid (numberOf why) ⌝ }
+// Plans that are refused say nothing; the entry that is named is kept.
+fn unsaid(why: Refusal, entry: u8) -> Plans
+    ensures { λ r. ⌜ plansOf r ≡ unsaid entry (numberOf why) ⌝ }
 {
     let nothing = Planned {
         kind: 0,
@@ -28,7 +28,7 @@ fn unsaid(why: Refusal) -> Plans
         fresh: false,
     };
     Plans {
-        verdict: Verdict::Refused(why),
+        verdict: Verdict::Refused(why, entry),
         count: 0,
         said: [nothing; SLOTS],
     }
@@ -39,8 +39,8 @@ pub fn beside(current: Plan, previous: Plan) -> Plans
     ensures { λ r. ⌜ plansOf r ≡ besideThem (planOf current) (planOf previous) ⌝ }
 {
     let verdict = plan::plans_answer(current, previous);
-    if let Verdict::Refused(why) = verdict {
-        return unsaid(why);
+    if let Verdict::Refused(why, entry) = verdict {
+        return unsaid(why, entry);
     }
     let said = plan_slots::all_planned(current, previous);
     Plans {

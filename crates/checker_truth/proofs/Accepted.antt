@@ -6,8 +6,8 @@ use Rattle.laws.proofs.Lowest.{Lowest, none-passes, first-passes, lowest-is, lo
 use Rattle.laws.proofs.Ruled.{Other, others, ruled-passes, unrefused, unless0-numbered}
 use Rattle.laws.proofs.Tests.{true-or-false, both}
 use Rattle.schedule.specs.Paper.{shown, begin, end, Read, unread, good, inBounds, read, faults as readFaults}
-use Rattle.plan.specs.Paper.{Plan, planNumber}
-use Rattle.checker.specs.Paper.{Checked, unchecked, untrueAt, untrue, isTrue, verdict, faults, check}
+use Rattle.plan.specs.Paper.{Plan, planNumber, plansEntry}
+use Rattle.checker.specs.Paper.{Checked, unchecked, refusedAt, untrueAt, untrue, isTrue, verdict, faults, check}
 use Rattle.checker_truth.specs.Claims.{Truthful, Names, end-differs, slot-untrue, AcceptedExactly, NeverObeyed}
 use Rattle.plan.proofs.GoodPlan.{plan-low}
 use Rattle.checker_truth.proofs.TrueAt.{true-keeps, keeps-true}
@@ -55,7 +55,7 @@ module _ (c p : Plan) (m : List ℕ) (received : ℕ) where
   answered : (n : ℕ) → Other n (faults c p m received) → checked .number ≡ n → Answered
   unfolding check
   answered n others e =
-      let w = unrefused (λ (x : Checked). x .number) unchecked (λ k. refl) (faults c p m received) (verdict c p m) n others e in
+      let w = unrefused (λ (x : Checked). x .number) (refusedAt (plansEntry c p)) (λ k. refl) (faults c p m received) (verdict c p m) n others e in
       let h = w .0 in
       record {
         current = passed (planNumber c) (h .0);

@@ -6,14 +6,14 @@ use Rattle.laws.proofs.Lowest.{lowest-none}
 use Rattle.sizes.proofs.Received.{whole-times}
 use Rattle.laws.proofs.Ruled.{ruled-none}
 use Rattle.laws.proofs.Upto.{some-none}
-use Rattle.plan.specs.Paper.{Plan, planNumber}
+use Rattle.plan.specs.Paper.{Plan, planNumber, plansEntry}
 use Rattle.plan.proofs.GoodPlan.{good-counted}
 use Rattle.schedule.specs.Paper.{Shown, shown, end, tells, new, falseIn, falseRepeat, newPast, Read, unread, good, read}
 use Rattle.schedule.specs.Paper as schedule
 use Rattle.sender_message.specs.Paper.{descriptions, messageOf, MessageLeft}
 use Rattle.sender.specs.Paper.{planned, write}
 use Rattle.sender.proofs.Cases.{Accepts, accepts}
-use Rattle.checker.specs.Paper.{isTrue, untrue, unchecked, verdict, check}
+use Rattle.checker.specs.Paper.{isTrue, untrue, unchecked, refusedAt, verdict, check}
 use Rattle.checker.specs.Paper as checker
 use Rattle.block_writer.specs.Paper.{lastUsed}
 use Rattle.delivery.specs.Claims.{Fits, Reads, OursAccepted}
@@ -70,7 +70,7 @@ module _ (c p : Plan) (b : ℕ) (m : List ℕ) (current : planNumber c ≡ 0) (p
   checks received whole-blocks enough =
       let slots : c .count ≡ 0 → ⊥ = λ e. omega (arith, f .some, f .begins) in
       let reads : read m received .number ≡ 0 = ap (λ (x : Read). x .number) (reads-good received whole-blocks enough) in
-      ruled-none unchecked (checker.faults c p m received) (verdict c p m)
+      ruled-none (refusedAt (plansEntry c p)) (checker.faults c p m received) (verdict c p m)
       (rw current, (rw previous, (ne-eqb (c .count) 0 slots, (rw reads, tt))))
       ∙ rw (eq-eqb (end m) (c .count) (r .ends), slots-true)
 

@@ -1,17 +1,105 @@
--- Which test of a plan by value answers, on plain facts.
-use Rattle.laws.proofs.Base.{_≡_, true, false, _≤_, _<_, lt-ltb, le-ltb}
+-- Which test of a plan by value answers, and what is named with it, on plain facts.
+use Rattle.laws.proofs.Base.{_≡_, refl, sym, ap, _∙_, Bool, true, false, cond, not, List, ℕ, _-_, _≤_, _<_, arith, ltb, eqb, length, getD, lt-ltb, le-ltb, ltb-true, ltb-false, ne-eqb, eqb-true, not-false, length-take, _||_}
 use Rattle.laws.specs.Search.{some}
-use Rattle.plan.specs.Paper.{Plan, entriesWithin, bad, planNumber}
+use Rattle.laws.proofs.Search.{Found, none-passes, first-passes, searched, found-some}
+use Rattle.laws.proofs.Tests.{true-or-false}
+use Rattle.plan.specs.Inner.{entriesAnswer}
+use Rattle.plan.specs.Paper.{Entry, Plan, free, entriesWithin, bad, lowestBad, faultOf, lowestFault, naming, planNumber, planEntry, planAnswer}
+
+-- a fault is one of the numbers that name an entry
+pub fault-names : (e : Entry) (s : ℕ) → naming (faultOf e) s ≡ s
+fault-names e s = go (ltb 2 (e .kind))
+  where
+    go : (b : Bool) → naming (cond b 36 37) s ≡ s
+    go true = refl
+    go false = refl
+
+pub fault-low : (es : List Entry) → (36 ≤ lowestFault es) × (lowestFault es ≤ 37)
+unfolding lowestFault
+fault-low es = go (ltb 2 (getD es (lowestBad es - 1) free .kind))
+  where
+    go : (b : Bool) → (36 ≤ cond b 36 37) × (cond b 36 37 ≤ 37)
+    go true = (omega arith, omega arith)
+    go false = (omega arith, omega arith)
+
+module _ (es : List Entry) where
+  -- the fault of the lowest bad entry names it
+  lowest-named : naming (lowestFault es) (lowestBad es) ≡ lowestBad es
+  unfolding lowestFault
+  lowest-named = fault-names (getD es (lowestBad es - 1) free) (lowestBad es)
+
+  none-lowest : some bad es ≡ false → lowestBad es ≡ 0
+  none-lowest b = eqb-true (lowestBad es) 0 (not-false _ (found-some bad 0 es ∙ b))
+
+  -- the search finds no bad entry
+  pub none-found : lowestBad es ≡ 0 → entriesAnswer es ≡ record { number = 0; entry = 0 }
+  none-found e =
+      let none : some bad es ≡ false = sym (found-some bad 0 es) ∙ ap (λ (s : ℕ). not (eqb s 0)) e in
+      rw (none, e)
+
+  -- it finds one
+  pub found : (s : ℕ) → lowestBad es ≡ s → (s ≡ 0 → ⊥) → (n : ℕ) → n ≡ faultOf (getD es (s - 1) free) → entriesAnswer es ≡ record { number = n; entry = s }
+  unfolding lowestFault
+  found s e z n q =
+      let one : some bad es ≡ true = sym (found-some bad 0 es) ∙ ap (λ (t : ℕ). not (eqb t 0)) e ∙ ap not (ne-eqb s 0 z) in
+      rw (one, e, q)
+
+-- no entry is named past the last
+lowest-few : (es : List Entry) → lowestBad es ≤ length es
+lowest-few es = go (searched bad free 1 es)
+  where
+    go : {r : ℕ} → Found bad free 1 es r → r ≤ length es
+    go (none-passes e none) = omega arith
+    go (first-passes i e h t before) = omega arith
+
+naming-most : (n e : ℕ) → naming n e ≤ e
+naming-most n e = go (eqb n 36 || eqb n 37)
+  where
+    go : (b : Bool) → cond b e 0 ≤ e
+    go true = omega arith
+    go false = omega arith
 
 module _ (p : Plan) where
-  pub over : 48 < p .count → planNumber p ≡ 32
-  unfolding planNumber
-  over h = simp (lt-ltb 48 (p .count) h)
+  -- a plan's number tells what is named
+  by-number : (n : ℕ) → planNumber p ≡ n → planAnswer p ≡ record { number = n; entry = naming n (lowestBad (entriesWithin p)) }
+  unfolding planEntry
+  by-number n e = rw e
 
-  pub some-bad : p .count ≤ 48 → some bad (entriesWithin p) ≡ true → planNumber p ≡ 33
+  pub over-number : 48 < p .count → planNumber p ≡ 32
   unfolding planNumber
-  some-bad h b = simp (le-ltb 48 (p .count) h, b)
+  over-number h = simp (lt-ltb 48 (p .count) h)
 
-  pub none-bad : p .count ≤ 48 → some bad (entriesWithin p) ≡ false → planNumber p ≡ 0
-  unfolding planNumber
-  none-bad h b = simp (le-ltb 48 (p .count) h, b)
+  pub over : 48 < p .count → planAnswer p ≡ record { number = 32; entry = 0 }
+  over h = by-number 32 (over-number h)
+
+  -- nor past the 48th
+  pub plan-few : planEntry p ≤ 48
+  unfolding planEntry
+  plan-few =
+      true-or-false (ltb 48 (p .count))
+      (λ o. rw (over-number (ltb-true 48 (p .count) o)) (omega arith))
+      (λ l.
+      omega (
+        arith,
+        naming-most (planNumber p) (lowestBad (entriesWithin p)),
+        lowest-few (entriesWithin p),
+        length-take (p .count) (p .entries),
+        ltb-false 48 (p .count) l,
+      ))
+
+  module _ (h : p .count ≤ 48) where
+    pub none-bad : some bad (entriesWithin p) ≡ false → planNumber p ≡ 0
+    unfolding planNumber
+    none-bad b = simp (le-ltb 48 (p .count) h, b)
+
+    pub some-bad : some bad (entriesWithin p) ≡ true → planNumber p ≡ lowestFault (entriesWithin p)
+    unfolding planNumber
+    some-bad b = simp (le-ltb 48 (p .count) h, b)
+
+    -- past the test of the count, what is said of its entries is said of a plan
+    pub by-entries : entriesAnswer (entriesWithin p) ≡ planAnswer p
+    unfolding planEntry
+    by-entries =
+        true-or-false (some bad (entriesWithin p))
+        (λ b. rw (b, some-bad b) (λ i. record { number = lowestFault (entriesWithin p); entry = sym (lowest-named (entriesWithin p)) i }))
+        (λ b. rw (b, none-bad b) (λ i. record { number = 0; entry = none-lowest (entriesWithin p) b i }))

@@ -1,11 +1,10 @@
--- The code's entries, plans and answers as document 01's numbers and lists.
-use Prim.Native.Nat.{ℕ}
+-- The code's entries, plans and answers as the documents' numbers and lists.
 use mathlib.Core.List.{List, map}
 use Rattle.refusals.specs.Number.{numberOf}
-use Rattle.plan.specs.Paper.{Entry, Plan}
+use Rattle.plan.specs.Paper.{Entry, Plan, Verdict}
 use Rattle.plan.specs.declared.Entry.{Entry as EntryCode}
 use Rattle.plan.specs.declared.Plan.{Plan as PlanCode}
-use Rattle.plan.specs.declared.Verdict.{Verdict}
+use Rattle.plan.specs.declared.Verdict.{Verdict as VerdictCode}
 use Rattle.plan.specs.declared.Verdict.the-variants.{Good, Refused}
 
 -- an entry as its numbers
@@ -20,7 +19,7 @@ entriesOf es = map entryOf es
 abbrev pub planOf : PlanCode → Plan
 planOf p = record { count = p .count; entries = entriesOf (p .entries) }
 
--- 0 for a good plan, or the refusal's number
-abbrev pub verdictOf : Verdict → ℕ
-verdictOf Good = 0
-verdictOf (Refused r) = numberOf r
+-- 0 for a good plan, or the refusal's number and the entry that comes with it
+abbrev pub verdictOf : VerdictCode → Verdict
+verdictOf Good = record { number = 0; entry = 0 }
+verdictOf (Refused r e) = record { number = numberOf r; entry = e }

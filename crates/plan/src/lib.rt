@@ -2,8 +2,9 @@
 ghost use mathlib.Core.Path.{_≡_};
 ghost use Prim.Native.Nat.{_≤_};
 ghost use lib.ListN.{take};
-ghost use Rattle.laws.specs.Search.{some};
-ghost use Rattle.plan.specs.Paper.{free, empty, bad, planNumber, plansNumber};
+ghost use Rattle.refusals.specs.Number.{numberOf};
+ghost use Rattle.plan.specs.Paper.{free, empty, bad, faultOf, planAnswer, plansAnswer};
+ghost use Rattle.plan.specs.Inner.{entriesAnswer};
 ghost use Rattle.plan.specs.Coded.{entryOf, entriesOf, planOf, verdictOf};
 use page::MessageId;
 use page::Serial;
@@ -24,10 +25,10 @@ pub struct Plan {
     pub entries: [Entry; SLOTS],
 }
 
-// What is said of a plan.
+// What is said of a plan: it is good, or it is refused, with the number of the entry that 36 and 37 name; with other refusals that is 0.
 pub enum Verdict {
     Good,
-    Refused(Refusal),
+    Refused(Refusal, u8),
 }
 
 fn free_entry() -> Entry
@@ -71,50 +72,57 @@ fn is_bad(entry: Entry) -> bool
     entry.parameter != 0
 }
 
-// Whether one of the first entries is bad.
-fn any_bad(entries: [Entry; SLOTS], count: usize) -> bool
-    requires { ⌜ count ≤ 48 ⌝ }
-    ensures { λ r. ⌜ r ≡ some bad (take count (entriesOf entries)) ⌝ }
+// What is wrong with a bad entry.
+fn fault_of(entry: Entry) -> Refusal
+    ensures { λ r. ⌜ numberOf r ≡ faultOf (entryOf entry) ⌝ }
 {
-    let mut i = 0;
-    while i < count {
-        let entry = entries[i];
-        if is_bad(entry) {
-            return true;
-        }
-        i += 1;
+    if entry.kind > 2 {
+        return Refusal::PlanKind;
     }
-    false
+    Refusal::PlanStray
 }
 
-// Whether a plan by value is good, and if not why.
-pub fn plan_answer(plan: Plan) -> Verdict
-    ensures { λ r. ⌜ verdictOf r ≡ planNumber (planOf plan) ⌝ }
+// Whether the first entries are good, and if not what is wrong with the lowest bad one, and its number, counted from 1.
+fn entries_answer(entries: [Entry; SLOTS], count: usize) -> Verdict
+    requires { ⌜ count ≤ 48 ⌝ }
+    ensures { λ r. ⌜ verdictOf r ≡ entriesAnswer (take count (entriesOf entries)) ⌝ }
 {
-    if plan.count > SLOTS {
-        return Verdict::Refused(Refusal::PlanLength);
-    }
-    let entries = plan.entries;
-    if any_bad(entries, plan.count) {
-        return Verdict::Refused(Refusal::PlanEntry);
+    let mut slot = 1;
+    while slot <= count {
+        let entry = entries[slot - 1];
+        if is_bad(entry) {
+            return Verdict::Refused(fault_of(entry), slot as u8);
+        }
+        slot += 1;
     }
     Verdict::Good
 }
 
+// Whether a plan by value is good, and if not why.
+pub fn plan_answer(plan: Plan) -> Verdict
+    ensures { λ r. ⌜ verdictOf r ≡ planAnswer (planOf plan) ⌝ }
+{
+    if plan.count > SLOTS {
+        return Verdict::Refused(Refusal::PlanLength, 0);
+    }
+    let entries = plan.entries;
+    entries_answer(entries, plan.count)
+}
+
 // Whether the current plan and the previous one are good and the current one has slots, and if not why.
 pub fn plans_answer(current: Plan, previous: Plan) -> Verdict
-    ensures { λ r. ⌜ verdictOf r ≡ plansNumber (planOf current) (planOf previous) ⌝ }
+    ensures { λ r. ⌜ verdictOf r ≡ plansAnswer (planOf current) (planOf previous) ⌝ }
 {
     let answer = plan_answer(current);
-    if let Verdict::Refused(refusal) = answer {
-        return Verdict::Refused(refusal);
+    if let Verdict::Refused(refusal, entry) = answer {
+        return Verdict::Refused(refusal, entry);
     }
     let answer = plan_answer(previous);
-    if let Verdict::Refused(refusal) = answer {
-        return Verdict::Refused(refusal);
+    if let Verdict::Refused(refusal, entry) = answer {
+        return Verdict::Refused(refusal, entry);
     }
     if current.count == 0 {
-        return Verdict::Refused(Refusal::PlanEmpty);
+        return Verdict::Refused(Refusal::PlanEmpty, 0);
     }
     Verdict::Good
 }

@@ -7,58 +7,72 @@ use Rattle.laws.proofs.Lowest.{Lowest, none-passes, first-passes, lowest-is}
 use Rattle.refusals.specs.declared.Refusal.{Refusal}
 use Rattle.refusals.specs.Number.{numberOf}
 use Rattle.schedule.specs.Paper.{end}
+use Rattle.refusals.proofs.Inverse.{numberOf-positive}
+use Rattle.plan.specs.declared.Verdict.{Verdict}
 use Rattle.plan.specs.declared.Verdict.the-variants as verdicts
-use Rattle.plan.specs.Paper.{Plan}
+use Rattle.plan.specs.Paper.{Plan, naming, plansEntry}
 use Rattle.plan_read.specs.Paper.{readPlan}
-use Rattle.plan.specs.Coded.{planOf}
+use Rattle.plan.specs.Coded.{planOf, verdictOf}
 use Rattle.plan.proofs.GoodPlan.{good-counted}
-use Rattle.sender_message.specs.declared.Writing.{Writing as WritingCode}
-use Rattle.sender_message.specs.declared.Writing.the-variants.{Written}
+use Rattle.plan.proofs.Plans.{plans-few}
 use Rattle.sender_message.specs.Paper.{MessageLeft, unwritten}
-use Rattle.sender.specs.Paper.{write}
-use Rattle.sender_message.specs.Coded.{writingOf}
+use Rattle.sender.specs.declared.Sending.{Sending}
+use Rattle.sender.specs.declared.Sending.the-variants.{Written}
+use Rattle.sender.specs.Paper.{ScheduleLeft, unwrittenNaming, writeSchedule}
+use Rattle.sender.specs.Coded.{sendingOf}
 use Rattle.sender.proofs.Cases.{accepts}
 use Rattle.checker.specs.declared.Checking.{Checking}
 use Rattle.checker.specs.declared.Checking.the-variants.{Refused}
-use Rattle.checker.specs.Paper.{Checked, unchecked, untrueAt, untrue, verdict, faults, check}
+use Rattle.checker.specs.Paper.{Checked, unchecked, refusedAt, untrueAt, untrue, verdict, faults, check}
 use Rattle.checker.specs.Coded.{checkedOf}
+use Rattle.calls.specs.Paper.{inOne}
 use Rattle.calls.specs.Claims.{IsLeft}
 use Rattle.calls.proofs.Packed.{left-number}
 use Rattle.plan_calls.specs as defs
 use defs.declared.Files.{Files}
-use defs.Paper.{fileFaults, writtenFrom, writtenLeft, writeScheduleCall, checkedBeside, packedChecked, checkScheduleCall}
+use defs.Paper.{fileFaults, filesEntry, writtenFrom, writtenLeft, writeScheduleCall, checkedBeside, packedChecked, checkScheduleCall}
 use defs.Coded.{filesOf}
-use defs.Inner.{filed}
-use Rattle.plan_calls.proofs.Filed.{files-refused, files-good}
+use defs.Inner.{Filed, filed}
+use Rattle.plan_calls.proofs.Filed.{files-refused, files-good, files-entry, files-named}
+
+-- a refusal and the entry that comes with it, packed
+pub refused-left : (g : Refusal) (s : ℕ) {r : ℕ} {o : List ℕ} → r ≡ inOne (numberOf g) s
+    → IsLeft r o (writtenLeft (record { left = unwritten o (numberOf g); entry = s }))
+refused-left g s {r} {o} n = rw (ne-eqb (numberOf g) 0 (numberOf-positive g)) (ap (λ (x : ℕ). record { returned = x; memory = o }) n)
 
 module _ (c p : List ℕ) (b : ℕ) (o : List ℕ) where
   pub refuses-output : {r : ℕ} → r ≡ 15 → (length o ≡ 88 → ⊥) → IsLeft r o (writeScheduleCall c p b o)
   refuses-output n e =
-      let first : unwritten o 15 ≡ writtenFrom c p b o = rw (ne-eqb (length o) 88 e) in
+      let first : record { left = unwritten o 15; entry = 0 } ≡ writtenFrom c p b o = rw (ne-eqb (length o) 88 e) in
       left-number n ∙ ap writtenLeft first
 
   module _ (room : length o ≡ 88) (f : Files) (e : filesOf f ≡ filed c p) where
     -- past the test of the output
-    past-output : ruled (unwritten o) (fileFaults c p) (write (readPlan c .plan) (readPlan p .plan) b o) ≡ writtenFrom c p b o
+    past-output : ruled (unwrittenNaming (filesEntry c p) o) (fileFaults c p) (writeSchedule (readPlan c .plan) (readPlan p .plan) b o) ≡ writtenFrom c p b o
     past-output = rw (eq-eqb (length o) 88 room)
 
-    pub refuses-files : {g : Refusal} {r : ℕ} → f .verdict ≡ verdicts.Refused g → r ≡ numberOf g
+    pub refuses-files : {g : Refusal} {s r : ℕ} → f .verdict ≡ verdicts.Refused g s → r ≡ inOne (numberOf g) s
         → IsLeft r o (writeScheduleCall c p b o)
-    refuses-files k n =
-        left-number n
-        ∙ ap writtenLeft (files-refused c p (unwritten o) f e (write (readPlan c .plan) (readPlan p .plan) b o) k ∙ past-output)
+    refuses-files {g} {s} k n =
+        let number : numberOf g ≡ filed c p .number = sym (ap (λ (v : Verdict). verdictOf v .number) k) ∙ ap (λ (z : Filed). z .number) e in
+        let entry : s ≡ naming (numberOf g) (filesEntry c p) =
+        sym (files-entry c p f e k) ∙ sym (files-named c p) ∙ ap (λ (m : ℕ). naming m (filesEntry c p)) (sym number) in
+        refused-left g s n
+        ∙ ap writtenLeft
+        (ap (λ (t : ℕ). record { left = unwritten o (numberOf g); entry = t }) entry
+        ∙ files-refused c p (unwrittenNaming (filesEntry c p) o) f e (writeSchedule (readPlan c .plan) (readPlan p .plan) b o) k ∙ past-output)
 
     -- the writer's answer for the plans is that for the files
-    pub as-filed : {w : MessageLeft} → f .verdict ≡ verdicts.Good → w ≡ write (planOf (f .current)) (planOf (f .previous)) b o → w ≡ writtenFrom c p b o
+    pub as-filed : {w : ScheduleLeft} → f .verdict ≡ verdicts.Good → w ≡ writeSchedule (planOf (f .current)) (planOf (f .previous)) b o → w ≡ writtenFrom c p b o
     as-filed k q =
         q
-        ∙ (λ i. write (e i .current) (e i .previous) b o)
-        ∙ files-good c p (unwritten o) f e (write (readPlan c .plan) (readPlan p .plan) b o) k
+        ∙ (λ i. writeSchedule (e i .current) (e i .previous) b o)
+        ∙ files-good c p (unwrittenNaming (filesEntry c p) o) f e (writeSchedule (readPlan c .plan) (readPlan p .plan) b o) k
         ∙ past-output
 
-pub message-small : (c p : Plan) (b : ℕ) (o q : List ℕ) {a : WritingCode} {u : ℕ} → writingOf a q ≡ write c p b o → a ≡ Written u → u ≤ 88
+pub message-small : (c p : Plan) (b : ℕ) (o q : List ℕ) {a : Sending} {u : ℕ} → sendingOf a q ≡ writeSchedule c p b o → a ≡ Written u → u ≤ 88
 message-small c p b o q e k =
-    let w = rw k at e in
+    let w = ap (λ (z : ScheduleLeft). z .left) (rw k at e) in
     let s = accepts c p b o (sym (ap (λ (z : MessageLeft). z .number) w)) in
     omega (arith, s .few, ap (λ (z : MessageLeft). z .used) (w ∙ s .writes))
 
@@ -73,7 +87,7 @@ lowest-few f n = go (lowest-is f n)
 -- the checker names no slot past the 48th
 slot-few : (c p : Plan) (m : List ℕ) (received : ℕ) → check c p m received .slot ≤ 48
 unfolding check
-slot-few c p m received = go (ruling unchecked (faults c p m received) (verdict c p m))
+slot-few c p m received = go (ruling (refusedAt (plansEntry c p)) (faults c p m received) (verdict c p m))
   where
     named : c .count ≤ 48 → (s t : Bool)
         → cond s (cond t (unchecked 0) (untrueAt (lowest (untrue c p m) (c .count)))) (untrueAt 0) .slot ≤ 48
@@ -81,15 +95,18 @@ slot-few c p m received = go (ruling unchecked (faults c p m received) (verdict 
     named few true false = omega (arith, lowest-few (untrue c p m) (c .count))
     named few false t = omega arith
 
-    go : {r : Checked} → Ruling unchecked (faults c p m received) (verdict c p m) r → r .slot ≤ 48
-    go (refuses n a e) = rw e (omega arith)
+    go : {r : Checked} → Ruling (refusedAt (plansEntry c p)) (faults c p m received) (verdict c p m) r → r .slot ≤ 48
+    go (refuses n a e) = rw e (plans-few c p)
     go (passes h e) =
         rw e (named (good-counted c (eqb-true _ 0 (not-false _ (h .0)))) (eqb (end m) (c .count)) (eqb (lowest (untrue c p m) (c .count)) 0))
 
 module _ (c p m : List ℕ) (received : ℕ) (f : Files) (e : filesOf f ≡ filed c p) where
-  pub refuses-both : {g : Refusal} {r : ℕ} → f .verdict ≡ verdicts.Refused g → r ≡ numberOf g → r ≡ checkScheduleCall c p m received
-  refuses-both k n =
-      omega (arith, n, ap packedChecked (files-refused c p unchecked f e (check (readPlan c .plan) (readPlan p .plan) m received) k))
+  pub refuses-both : {g : Refusal} {s r : ℕ} → f .verdict ≡ verdicts.Refused g s → r ≡ inOne (numberOf g) s → r ≡ checkScheduleCall c p m received
+  refuses-both {g} {s} k n =
+      n
+      ∙ ap packedChecked
+      (ap (λ (t : ℕ). refusedAt t (numberOf g)) (sym (files-entry c p f e k))
+      ∙ files-refused c p (refusedAt (filesEntry c p)) f e (check (readPlan c .plan) (readPlan p .plan) m received) k)
 
   -- the checker's answer for the plans is that for the files
   pub as-beside : {x : Checked} → f .verdict ≡ verdicts.Good → x ≡ check (planOf (f .current)) (planOf (f .previous)) m received
@@ -97,7 +114,7 @@ module _ (c p m : List ℕ) (received : ℕ) (f : Files) (e : filesOf f ≡ file
   as-beside k q =
       q
       ∙ (λ i. check (e i .current) (e i .previous) m received)
-      ∙ files-good c p unchecked f e (check (readPlan c .plan) (readPlan p .plan) m received) k
+      ∙ files-good c p (refusedAt (filesEntry c p)) f e (check (readPlan c .plan) (readPlan p .plan) m received) k
 
 pub named-small : (c p : Plan) (m : List ℕ) (received : ℕ) {a : Checking} {f : Refusal} {s : ℕ} → checkedOf a ≡ check c p m received → a ≡ Refused f s → s ≤ 48
 named-small c p m received e k = omega (arith, slot-few c p m received, ap (λ (z : Checked). z .slot) (rw k at e))

@@ -4,13 +4,20 @@ use Prim.Native.Nat.{ℕ}
 use Rattle.laws.specs.Ruled.{ruled}
 use Rattle.plan.specs.Paper.{Plan}
 use Rattle.plan_read.specs.Paper.{readPlan}
-use Rattle.plan_calls.specs.Paper.{fileFaults}
+use Rattle.plan_calls.specs.Paper.{fileFaults, filesEntry}
 
--- two files read: the number that they are refused by, 0 where both are good, and their plans
+-- two files read: the number that they are refused by, 0 where both are good, the entry that is named with it, and their plans
 pub record Filed : Type 0 where
   pub number : ℕ
+  pub entry : ℕ
   pub current : Plan
   pub previous : Plan
 
 abbrev pub filed : List ℕ → List ℕ → Filed
-filed c p = record { number = ruled (λ (n : ℕ). n) (fileFaults c p) 0; current = readPlan c .plan; previous = readPlan p .plan }
+filed c p =
+    record {
+      number = ruled (λ (n : ℕ). n) (fileFaults c p) 0;
+      entry = filesEntry c p;
+      current = readPlan c .plan;
+      previous = readPlan p .plan;
+    }

@@ -1,5 +1,7 @@
 // The entries for C that take plans, as files: they read them, and write and check schedule messages beside them.
 ghost use mathlib.Core.Path.{_≡_};
+ghost use Rattle.refusals.specs.Number.{numberOf};
+ghost use Rattle.calls.specs.Paper.{inOne};
 ghost use Rattle.plan_calls.specs.Paper.{planCall, writeScheduleCall, checkScheduleCall};
 ghost use Rattle.plan_calls.specs.Coded.{filesOf};
 ghost use Rattle.plan_calls.specs.Inner.{filed};
@@ -7,10 +9,10 @@ use checker::Checking;
 use plan::Plan;
 use plan::Verdict;
 use refusals::Refusal;
-use sender_message::Writing;
+use sender::Sending;
 use sizes::MESSAGE;
 
-// Reads a plan file: number + 256 × count.
+// Reads a plan file: number + 256 × count, or the entry that the number names.
 #[no_mangle]
 pub extern "C" fn cb_read_plan(file: &[u8]) -> u32
     ensures { λ r. ⌜ r ≡ planCall (now (file .entry)) ⌝ }
@@ -19,8 +21,15 @@ pub extern "C" fn cb_read_plan(file: &[u8]) -> u32
     let verdict = reading.verdict;
     match verdict {
         Verdict::Good => 256 * reading.plan.count as u32,
-        Verdict::Refused(refusal) => refusals::number(refusal) as u32,
+        Verdict::Refused(refusal, entry) => packed(refusal, entry),
     }
+}
+
+// A refusal and the entry that comes with it, as one number.
+fn packed(refusal: Refusal, entry: u8) -> u32
+    ensures { λ r. ⌜ r ≡ inOne (numberOf refusal) entry ⌝ }
+{
+    refusals::number(refusal) as u32 + 256 * entry as u32
 }
 
 // Two plan files read: what the first refused one is refused by, and their plans.
@@ -45,15 +54,15 @@ fn read_plans(current: &[u8], previous: &[u8]) -> Files
             current: plan,
             previous: older,
         },
-        Verdict::Refused(refusal) => Files {
-            verdict: Verdict::Refused(refusal),
+        Verdict::Refused(refusal, entry) => Files {
+            verdict: Verdict::Refused(refusal, entry),
             current: plan,
             previous: older,
         },
     }
 }
 
-// Writes the schedule message of a plan file, beside the file before it: number + 256 × used octets.
+// Writes the schedule message of a plan file, beside the file before it: number + 256 × used octets, or the entry that the number names.
 #[no_mangle]
 pub extern "C" fn cb_write_schedule(
     current: &[u8],
@@ -68,19 +77,19 @@ pub extern "C" fn cb_write_schedule(
     }
     let files = read_plans(current, previous);
     let verdict = files.verdict;
-    if let Verdict::Refused(refusal) = verdict {
-        return refusals::number(refusal) as u32;
+    if let Verdict::Refused(refusal, entry) = verdict {
+        return packed(refusal, entry);
     }
     let plan = files.current;
     let older = files.previous;
     let answer = sender::write_schedule(plan, older, begin, out);
     match answer {
-        Writing::Written(used) => 256 * used as u32,
-        Writing::Refused(refusal) => refusals::number(refusal) as u32,
+        Sending::Written(used) => 256 * used as u32,
+        Sending::Refused(refusal, entry) => packed(refusal, entry),
     }
 }
 
-// Checks a schedule message beside two plan files: number + 256 × slot.
+// Checks a schedule message beside two plan files: number + 256 × slot, or the entry that the number names.
 #[no_mangle]
 pub extern "C" fn cb_check_schedule(
     current: &[u8],
@@ -92,8 +101,8 @@ pub extern "C" fn cb_check_schedule(
 {
     let files = read_plans(current, previous);
     let verdict = files.verdict;
-    if let Verdict::Refused(refusal) = verdict {
-        return refusals::number(refusal) as u32;
+    if let Verdict::Refused(refusal, entry) = verdict {
+        return packed(refusal, entry);
     }
     let plan = files.current;
     let older = files.previous;

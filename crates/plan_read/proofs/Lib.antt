@@ -3,4 +3,5 @@ pub mod Answers
 pub mod Determined
 pub mod Entries
 pub mod FileBack
+pub mod Named
 pub mod ReadGood

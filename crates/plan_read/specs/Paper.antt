@@ -1,4 +1,4 @@
--- Plan files as document 01 has them, in numbers and lists.
+-- Plan files as the documents have them, in numbers and lists.
 use Prim.Native.Nat.{ℕ, zero, suc, _+_, _*_, _/_, _%_}
 use mathlib.Core.Bool.{Bool, not, _&&_, _||_}
 use mathlib.Core.List.{List, [], _∷_, _++_}
@@ -7,7 +7,7 @@ use lib.ListN.{length, drop}
 use Rattle.laws.specs.Ruled.{ruled}
 use Rattle.laws.specs.Search.{some}
 use Rattle.page.specs.Paper.{octet}
-use Rattle.plan.specs.Paper.{Entry, Plan, filledPlan, empty, bad}
+use Rattle.plan.specs.Paper.{Entry, Plan, filledPlan, empty, bad, lowestBad, lowestFault, naming}
 
 -- 01 Page and text: 16 bits, high octet first, at octet n
 abbrev pub sixteen : List ℕ → ℕ → ℕ
@@ -30,28 +30,33 @@ entriesIn (suc n) o = entryIn o ∷ entriesIn n (drop 6 o)
 abbrev pub listed : List ℕ → List Entry
 listed f = entriesIn (octet f 6) (drop 6 f)
 
--- 01 Order: what reading a plan file gives: its number, and a plan
+-- 01 Order, 02 No. 1: what reading a plan file gives: its number, the entry that is named with it, and a plan
 pub record PlanRead : Type 0 where
   pub number : ℕ
+  pub entry : ℕ
   pub plan : Plan
 
--- 01 Order: with a refusal the plan is empty
-abbrev pub refusal : ℕ → PlanRead
-refusal n = record { number = n; plan = empty }
+-- 01 Order, 02 No. 1: with a refusal of a file the plan is empty, and 36 and 37 name its lowest bad entry
+abbrev pub refusal : List ℕ → ℕ → PlanRead
+refusal f n = record { number = n; entry = naming n (lowestBad (listed f)); plan = empty }
 
--- 01 Order, a plan: 32 if short, 30, 31, 32, 33
+-- 01 Order: a file that is not refused gives a plan
+abbrev pub goodFile : List ℕ → PlanRead
+goodFile f = record { number = 0; entry = 0; plan = filledPlan (listed f) }
+
+-- 01 Order, a plan: 32 if short, 30, 31, 32, and in 33's place 36 or 37 (02 No. 1)
 abbrev pub faults : List ℕ → List (Bool × ℕ)
 faults f =
     (ltb (length f) 6, 32)
     ∷ (not (isMarked f), 30)
     ∷ (not (eqb (sixteen f 4) 1), 31)
     ∷ (ltb 48 (octet f 6) || not (eqb (length f) (6 + 6 * octet f 6)), 32)
-    ∷ (some bad (listed f), 33)
+    ∷ (some bad (listed f), lowestFault (listed f))
     ∷ []
 
 -- 01 The plan, Order: reading a plan file
 unfoldable pub readPlan : List ℕ → PlanRead
-readPlan f = ruled refusal (faults f) (record { number = 0; plan = filledPlan (listed f) })
+readPlan f = ruled (refusal f) (faults f) (goodFile f)
 
 -- 01 The plan: the six octets of an entry
 abbrev pub entryOctets : Entry → List ℕ

@@ -4,9 +4,10 @@ ghost use mathlib.Core.List.{_++_};
 ghost use Prim.Native.Nat.{_+_, _*_, _-_, _≤_};
 ghost use lib.ListN.{length, getD, drop, replicate};
 ghost use Rattle.refusals.specs.Number.{numberOf};
-ghost use Rattle.plan.specs.Paper.{free};
+ghost use Rattle.page.specs.Paper.{octet};
+ghost use Rattle.plan.specs.Paper.{free, empty};
 ghost use Rattle.plan.specs.Coded.{entryOf, entriesOf, verdictOf};
-ghost use Rattle.plan_read.specs.Paper.{isMarked, entryIn, entriesIn, refusal, readPlan};
+ghost use Rattle.plan_read.specs.Paper.{isMarked, entryIn, entriesIn, readPlan};
 ghost use Rattle.plan_read.specs.Coded.{readingOf};
 ghost use Rattle.plan_read.specs.Inner.{frontNumber};
 use page::MessageId;
@@ -29,12 +30,12 @@ pub struct Reading {
     pub plan: Plan,
 }
 
-// The answer to a refused file.
-fn refused(why: Refusal) -> Reading
-    ensures { λ r. ⌜ readingOf r ≡ refusal (numberOf why) ⌝ }
+// The answer to a refused file, with the entry that is named.
+fn refused(why: Refusal, entry: u8) -> Reading
+    ensures { λ r. ⌜ readingOf r ≡ record { number = numberOf why; entry = entry; plan = empty } ⌝ }
 {
     Reading {
-        verdict: Verdict::Refused(why),
+        verdict: Verdict::Refused(why, entry),
         plan: plan::empty_plan(),
     }
 }
@@ -63,23 +64,23 @@ fn is_marked(file: &[u8]) -> bool
 
 // What is said of a file before its entries.
 fn front_answer(file: &[u8]) -> Verdict
-    ensures { λ r. ⌜ verdictOf r ≡ frontNumber (now (file .entry)) ⌝ }
+    ensures { λ r. ⌜ verdictOf r ≡ record { number = frontNumber (now (file .entry)); entry = 0 } ⌝ }
 {
     if file.len() < FRONT {
-        return Verdict::Refused(Refusal::PlanLength);
+        return Verdict::Refused(Refusal::PlanLength, 0);
     }
     if !is_marked(file) {
-        return Verdict::Refused(Refusal::PlanMark);
+        return Verdict::Refused(Refusal::PlanMark, 0);
     }
     if sixteen_at(file, 3) != 1 {
-        return Verdict::Refused(Refusal::PlanVersion);
+        return Verdict::Refused(Refusal::PlanVersion, 0);
     }
     let count = file[5] as usize;
     if count > SLOTS {
-        return Verdict::Refused(Refusal::PlanLength);
+        return Verdict::Refused(Refusal::PlanLength, 0);
     }
     if file.len() != FRONT + ENTRY * count {
-        return Verdict::Refused(Refusal::PlanLength);
+        return Verdict::Refused(Refusal::PlanLength, 0);
     }
     Verdict::Good
 }
@@ -117,18 +118,30 @@ pub fn read_plan(file: &[u8]) -> Reading
     ensures { λ r. ⌜ readingOf r ≡ readPlan (now (file .entry)) ⌝ }
 {
     let front = front_answer(file);
-    if let Verdict::Refused(why) = front {
-        return refused(why);
+    if let Verdict::Refused(why, _) = front {
+        return refused(why, 0);
     }
     let count = file[5] as usize;
     let entries = entries_of(file, count);
     let plan = Plan { count, entries };
     let verdict = plan::plan_answer(plan);
-    if let Verdict::Refused(why) = verdict {
-        return refused(why);
+    if let Verdict::Refused(why, entry) = verdict {
+        return refused(why, entry);
     }
     Reading {
         verdict: Verdict::Good,
         plan,
     }
+}
+
+// The octet where the kind of an entry stands in a file, entries counted from 1; 0 past the file's end. The front is as long as an entry, so
+// entry 0 is the front.
+pub fn kind_of(file: &[u8], entry: u8) -> u8
+    ensures { λ r. ⌜ r ≡ octet (now (file .entry)) (6 * entry + 1) ⌝ }
+{
+    let at = ENTRY * entry as usize;
+    if at < file.len() {
+        return file[at];
+    }
+    0
 }

@@ -7,6 +7,7 @@ use files::Filled;
 use files::Opened;
 use plan::Plan;
 use plan::Verdict;
+use refusals::Refusal;
 
 // A plan, and whether its file could be read and was not refused; the plan is empty otherwise.
 pub struct Taken {
@@ -23,6 +24,17 @@ fn none_taken() -> Taken
     }
 }
 
+// Says why a file is refused: by the entry that is named, or by the number's words.
+fn say_why(program: &[u8], about: &[u8], file: &[u8], refusal: Refusal, entry: u8) {
+    let mut line = [0u8; refusal_lines::LINE];
+    if entry == 0 {
+        refusal_lines::say_refused(program, about, refusal, &mut line);
+    } else {
+        let kind = plan_read::kind_of(file, entry);
+        refusal_lines::say_entry(program, about, refusal, entry, kind, &mut line);
+    }
+}
+
 // Takes the plan of a file's octets.
 fn take_octets(program: &[u8], about: &[u8], file: &[u8]) -> Taken
     ensures { λ r. ⌜ takenOf r ≡ taken (now (file .entry)) ⌝ }
@@ -32,9 +44,8 @@ fn take_octets(program: &[u8], about: &[u8], file: &[u8]) -> Taken
     let plan = reading.plan;
     match verdict {
         Verdict::Good => Taken { good: true, plan },
-        Verdict::Refused(refusal) => {
-            let mut line = [0u8; refusal_lines::LINE];
-            refusal_lines::say_refused(program, about, refusal, &mut line);
+        Verdict::Refused(refusal, entry) => {
+            say_why(program, about, file, refusal, entry);
             Taken { good: false, plan }
         }
     }

@@ -1,12 +1,12 @@
--- The number of each refusal in document 01's table.
+-- The number of each refusal.
 use Prim.Native.Nat.{ℕ}
 use Rattle.refusals.specs.declared.Refusal.{Refusal}
 use Rattle.refusals.specs.declared.Refusal.the-variants.{PieceLength, Discriminator, ReservedCode, NullCode, NotNext, StateImproper, TextLength, NotInAlphabet}
 use Rattle.refusals.specs.declared.Refusal.the-variants.{EndsInCr, Scheme, PageParameter, OutputLength, MessageLength, UsedOctets, ReceivedOctets}
 use Rattle.refusals.specs.declared.Refusal.the-variants.{ScheduleType, BeginOrEnd, NewPastEnd, DescriptionPastReceived, RepeatOfNoFirst, PlanMark}
-use Rattle.refusals.specs.declared.Refusal.the-variants.{PlanVersion, PlanLength, PlanEntry, DescriptionsTooLong, PlanEmpty, Untrue, SlotNumber, WantedCount}
+use Rattle.refusals.specs.declared.Refusal.the-variants.{PlanVersion, PlanLength, DescriptionsTooLong, PlanEmpty, PlanKind, PlanStray, Untrue, SlotNumber, WantedCount}
 
--- 01 Numbers given
+-- 01 Numbers given; 02 No. 1 for 36 and 37
 abbrev pub numberOf : Refusal → ℕ
 numberOf PieceLength = 2
 numberOf Discriminator = 3
@@ -31,9 +31,10 @@ numberOf RepeatOfNoFirst = 24
 numberOf PlanMark = 30
 numberOf PlanVersion = 31
 numberOf PlanLength = 32
-numberOf PlanEntry = 33
 numberOf DescriptionsTooLong = 34
 numberOf PlanEmpty = 35
+numberOf PlanKind = 36
+numberOf PlanStray = 37
 numberOf Untrue = 40
 numberOf SlotNumber = 41
 numberOf WantedCount = 42

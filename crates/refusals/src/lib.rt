@@ -1,4 +1,4 @@
-// The refusals of document 01's table of numbers, each with its number.
+// The refusals of the documents' table of numbers, each with its number.
 ghost use mathlib.Core.Path.{_≡_};
 ghost use Rattle.refusals.specs.Number.{numberOf};
 
@@ -49,12 +49,14 @@ pub enum Refusal {
     PlanVersion,
     // plan file short, count over 48, or length not as counted
     PlanLength,
-    // entry kind over 2, or octets set in kind 0 or 1
-    PlanEntry,
     // descriptions need over 80 octets
     DescriptionsTooLong,
     // current plan's count is 0
     PlanEmpty,
+    // entry kind over 2
+    PlanKind,
+    // stray octets in an entry of kind 0 or 1
+    PlanStray,
     // untrue beside the plans
     Untrue,
     // slot not 1 to 48
@@ -91,9 +93,10 @@ pub fn number(refusal: Refusal) -> u8
         Refusal::PlanMark => 30,
         Refusal::PlanVersion => 31,
         Refusal::PlanLength => 32,
-        Refusal::PlanEntry => 33,
         Refusal::DescriptionsTooLong => 34,
         Refusal::PlanEmpty => 35,
+        Refusal::PlanKind => 36,
+        Refusal::PlanStray => 37,
         Refusal::Untrue => 40,
         Refusal::SlotNumber => 41,
         Refusal::WantedCount => 42,

@@ -1,19 +1,26 @@
--- Each case of the writer's order, on plain facts; and what its acceptance means.
-use Rattle.laws.proofs.Base.{_≡_, sym, _∙_, and-true, List, ℕ, _≤_, arith, length, drop, leb, eq-eqb, ne-eqb, le-leb, eqb-true, leb-true, ltb-false, not-false}
+-- Each case of the writer's order, and what is named in it, on plain facts; and what its acceptance means.
+use Rattle.laws.proofs.Base.{_≡_, sym, ap, _∙_, and-true, List, ℕ, _≤_, arith, length, drop, leb, eq-eqb, ne-eqb, le-leb, eqb-true, leb-true, ltb-false, not-false}
 use Rattle.laws.specs.Ruled.{ruled}
 use Rattle.laws.proofs.Ruled.{ruled-map, none-holds, ruled-none, unless0-numbered}
 use Rattle.laws.proofs.Tests.{both}
-use Rattle.plan.specs.Paper.{Plan, planNumber, plansTests, plansNumber}
-use Rattle.plan.proofs.Plans.{plans-refuse, plans-pass, plans-counted}
+use Rattle.plan.specs.Paper.{Plan, Verdict, naming, planNumber, plansTests, plansNumber, plansEntry, plansAnswer}
+use Rattle.plan.proofs.Plans.{naming-none, plans-refuse, plans-pass, plans-counted, plans-named, plans-unnamed}
 use Rattle.sender_message.specs.Paper.{descriptions, MessageLeft, unwritten, writeMessage}
 use Rattle.sender.specs as defs
-use defs.Paper.{planned, message, faults, write}
+use defs.Paper.{planned, message, faults, write, writeSchedule}
 
 module _ (c p : Plan) where
   module _ (b : ℕ) (o : List ℕ) where
-    pub write-15 : (length o ≡ 88 → ⊥) → write c p b o ≡ unwritten o 15
+    write-15 : (length o ≡ 88 → ⊥) → write c p b o ≡ unwritten o 15
     unfolding write
     write-15 e = simp (ne-eqb (length o) 88 e)
+
+    -- what is left, and what its number names
+    leaves : (w : MessageLeft) → write c p b o ≡ w → writeSchedule c p b o ≡ record { left = w; entry = naming (w .number) (plansEntry c p) }
+    leaves w e = ap (λ (x : MessageLeft). record { left = x; entry = naming (x .number) (plansEntry c p) }) e
+
+    pub leaves-15 : (length o ≡ 88 → ⊥) → writeSchedule c p b o ≡ record { left = unwritten o 15; entry = 0 }
+    leaves-15 e = leaves (unwritten o 15) (write-15 e)
 
     module _ (e : length o ≡ 88) where
       -- past the output's test those of the plans come, and then the message's
@@ -21,15 +28,29 @@ module _ (c p : Plan) where
       unfolding write
       past-output = rw (eq-eqb (length o) 88 e)
 
-      pub write-plans : (n : ℕ) → plansNumber c p ≡ n → (n ≡ 0 → ⊥) → write c p b o ≡ unwritten o n
+      write-plans : (n : ℕ) → plansNumber c p ≡ n → (n ≡ 0 → ⊥) → write c p b o ≡ unwritten o n
       write-plans n q k = past-output ∙ plans-refuse c p n q k MessageLeft (unwritten o) _
 
+      pub leaves-plans : (n s : ℕ) → plansAnswer c p ≡ record { number = n; entry = s } → (n ≡ 0 → ⊥)
+          → writeSchedule c p b o ≡ record { left = unwritten o n; entry = s }
+      leaves-plans n s q k =
+          let number : plansNumber c p ≡ n = ap (λ (v : Verdict). v .number) q in
+          let entry : naming n (plansEntry c p) ≡ s =
+          sym (ap (λ (m : ℕ). naming m (plansEntry c p)) number) ∙ plans-named c p ∙ ap (λ (v : Verdict). v .entry) q in
+          leaves (unwritten o n) (write-plans n number k) ∙ (λ i. record { left = unwritten o n; entry = entry i })
+
       -- past those of the plans, the writing of what is planned
-      pub write-planned : plansNumber c p ≡ 0 → write c p b o ≡ writeMessage b (planned c p) (c .count) o
+      write-planned : plansNumber c p ≡ 0 → write c p b o ≡ writeMessage b (planned c p) (c .count) o
       unfolding writeMessage
       write-planned z =
           past-output ∙ plans-pass c p z MessageLeft (unwritten o) _
           ∙ rw (eq-eqb (length o) 88 e, le-leb (c .count) 48 (plans-counted c p z), and-true (leb b (c .count)))
+
+      pub leaves-planned : plansNumber c p ≡ 0 → writeSchedule c p b o ≡ record { left = writeMessage b (planned c p) (c .count) o; entry = 0 }
+      leaves-planned z =
+          let w = writeMessage b (planned c p) (c .count) o in
+          let entry : naming (w .number) (plansEntry c p) ≡ 0 = ap (naming (w .number)) (plans-unnamed c p z) ∙ naming-none (w .number) in
+          leaves w (write-planned z) ∙ (λ i. record { left = w; entry = entry i })
 
     -- what the writer is given where it does not refuse, and what it does
     pub record Accepts : Type 0 where

@@ -1,4 +1,5 @@
 -- What `sender` proves.
 pub mod Cases
 pub mod Determined
+pub mod Named
 pub mod Tells

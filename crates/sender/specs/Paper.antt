@@ -6,7 +6,7 @@ use lib.ListN.{length}
 use lib.Dec.{eqb, leb, ltb}
 use Rattle.laws.specs.Ruled.{ruled, unless0}
 use Rattle.schedule.specs.Paper.{Told, first, again, optional, advised, Shown}
-use Rattle.plan.specs.Paper.{Plan, planNumber, entryAt}
+use Rattle.plan.specs.Paper.{Plan, planNumber, plansEntry, naming, entryAt}
 use Rattle.plan_slots.specs.Paper.{hasPage, pageAt, lowestAt, low15At}
 use Rattle.sender_message.specs.Paper.{descriptions, MessageLeft, unwritten, written}
 
@@ -43,3 +43,16 @@ faults c p b o =
 -- 01 The plan, Order: writing a schedule message of the current plan c, beside the previous plan p, with Begin b, to the lent output o
 unfoldable pub write : Plan → Plan → ℕ → List ℕ → MessageLeft
 write c p b o = ruled (unwritten o) (faults c p b o) (message c p b)
+
+-- 02 No. 1: what writing leaves, and the entry that 36 and 37 name
+pub record ScheduleLeft : Type 0 where
+  pub left : MessageLeft
+  pub entry : ℕ
+
+-- 02 No. 1: nothing written, with the entry e where the number n names one
+abbrev pub unwrittenNaming : ℕ → List ℕ → ℕ → ScheduleLeft
+unwrittenNaming e o n = record { left = unwritten o n; entry = naming n e }
+
+-- 02 No. 1: writing, and the entry of the plans where the number names one
+abbrev pub writeSchedule : Plan → Plan → ℕ → List ℕ → ScheduleLeft
+writeSchedule c p b o = record { left = write c p b o; entry = naming (write c p b o .number) (plansEntry c p) }

@@ -4,8 +4,9 @@ ghost use Prim.Native.Nat.{ℕ, _≤_, _<_};
 ghost use Rattle.schedule.specs.Coded.{shownOf};
 ghost use Rattle.plan.specs.Coded.{planOf};
 ghost use Rattle.plan_slots.specs.Coded.{plannedOf};
-ghost use Rattle.sender_message.specs.Coded.{writingOf, shownIn};
-ghost use Rattle.sender.specs.Paper.{planned, write};
+ghost use Rattle.sender_message.specs.Coded.{shownIn};
+ghost use Rattle.sender.specs.Paper.{planned, writeSchedule};
+ghost use Rattle.sender.specs.Coded.{sendingOf};
 ghost use Rattle.sender.specs.Inner.{shownBy};
 use plan::Plan;
 use plan::Verdict;
@@ -16,6 +17,13 @@ use schedule::Slot;
 use sender_message::Writing;
 use sizes::MESSAGE;
 use sizes::SLOTS;
+
+// What the writer answers: the octets that the message uses, or a refusal, with the number of the entry that 36 and 37 name; with other
+// refusals that is 0.
+pub enum Sending {
+    Written(usize),
+    Refused(Refusal, u8),
+}
 
 // What is told of slot i, counted from 0, by what the plans say of it.
 fn tell(said: Planned, i: usize) -> Slot
@@ -67,16 +75,20 @@ fn telling(current: Plan, previous: Plan) -> [Slot; SLOTS]
 }
 
 // Writes the schedule message of a plan, or refuses it and leaves the output as it is.
-pub fn write_schedule(current: Plan, previous: Plan, begin: usize, out: &mut [u8]) -> Writing
-    ensures { λ r. ⌜ writingOf r (now (out .exit)) ≡ write (planOf current) (planOf previous) begin (now (out .entry)) ⌝ }
+pub fn write_schedule(current: Plan, previous: Plan, begin: usize, out: &mut [u8]) -> Sending
+    ensures { λ r. ⌜ sendingOf r (now (out .exit)) ≡ writeSchedule (planOf current) (planOf previous) begin (now (out .entry)) ⌝ }
 {
     if out.len() != MESSAGE {
-        return Writing::Refused(Refusal::OutputLength);
+        return Sending::Refused(Refusal::OutputLength, 0);
     }
     let answer = plan::plans_answer(current, previous);
-    if let Verdict::Refused(refusal) = answer {
-        return Writing::Refused(refusal);
+    if let Verdict::Refused(refusal, entry) = answer {
+        return Sending::Refused(refusal, entry);
     }
     let slots = telling(current, previous);
-    sender_message::write_message(slots, current.count, begin, out)
+    let writing = sender_message::write_message(slots, current.count, begin, out);
+    match writing {
+        Writing::Written(used) => Sending::Written(used),
+        Writing::Refused(refusal) => Sending::Refused(refusal, 0),
+    }
 }

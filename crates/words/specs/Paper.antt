@@ -1,4 +1,4 @@
--- The words of each number of document 01 that refuses.
+-- The words of each number that refuses.
 use mathlib.Core.Bool.{cond}
 use mathlib.Core.List.{List, [], _∷_}
 use Prim.Native.Nat.{ℕ}
@@ -6,7 +6,7 @@ use Prim.Native.String.{String}
 use lib.Dec.{eqb}
 use Rattle.lines.specs.Paper.{ascii}
 
--- 01 Numbers given: those that refuse, in words. Those of 40 are for where End differs, which comes with no slot
+-- 01 Numbers given, 02 No. 1: those that refuse, in words. Those of 40 are for where End differs, which comes with no slot
 abbrev pub table : List (ℕ × String)
 table =
     (2, "the piece is not 23 octets long")
@@ -32,9 +32,10 @@ table =
     ∷ (30, "the file does not begin with CBP")
     ∷ (31, "the file's version is not 1")
     ∷ (32, "the file is short, counts over 48 slots, or is not as long as it counts")
-    ∷ (33, "an entry's kind is over 2, or one with no page has octets set")
     ∷ (34, "the descriptions need over 80 octets")
     ∷ (35, "the current plan has no slots")
+    ∷ (36, "an entry's kind is none of 0, 1, 2")
+    ∷ (37, "an entry with no page has octets of a page")
     ∷ (40, "End is not the plan's number of slots")
     ∷ (41, "the slot is not 1 to 48")
     ∷ (42, "over 64 identifiers are wanted")

@@ -1,4 +1,4 @@
-// The refusals of document 01's table of numbers in words, for whoever does not have the table at hand.
+// The refusals of the documents' table of numbers in words, for whoever does not have the table at hand.
 ghost use mathlib.Core.Path.{_≡_};
 ghost use Rattle.refusals.specs.Number.{numberOf};
 ghost use Rattle.lines.specs.Paper.{behind};
@@ -42,16 +42,16 @@ const STARTS: [usize; 44] = [
     763,
     790,
     861,
-    922,
-    958,
-    987,
-    987,
-    987,
-    987,
-    987,
-    1024,
-    1047,
-    1077,
+    861,
+    897,
+    926,
+    960,
+    1002,
+    1002,
+    1002,
+    1039,
+    1062,
+    1092,
 ];
 
 // Puts the words of a refusal behind the first octets of a text, and answers where they end. Where they do not fit, nothing is put.
@@ -83,9 +83,10 @@ pub fn put_words(refusal: Refusal, text: &mut [u8], at: usize) -> usize
         the file does not begin with CBP\
         the file's version is not 1\
         the file is short, counts over 48 slots, or is not as long as it counts\
-        an entry's kind is over 2, or one with no page has octets set\
         the descriptions need over 80 octets\
         the current plan has no slots\
+        an entry's kind is none of 0, 1, 2\
+        an entry with no page has octets of a page\
         End is not the plan's number of slots\
         the slot is not 1 to 48\
         over 64 identifiers are wanted",

@@ -1,5 +1,5 @@
--- `cbcheck::put_reason` meets its contract: the words of the refusal, or the slot between two words.
-use Rattle.laws.proofs.Base.{needs, eq-eqb, ne-eqb}
+-- `cbcheck::put_reason` meets its contract: the slot between two words, or the words of the refusal.
+use Rattle.laws.proofs.Base.{sym, _∙_, needs, not-true, not-false}
 use Rattle.lines.specs.Paper.{ascii}
 use Rattle.lines.proofs.Texts.{and-then, and-last}
 use Rattle.cbcheck.specs.Paper.{reason}
@@ -9,7 +9,9 @@ use own.Tie as tie
 
 returns : tie.Need-returns
 unfolding reason
-returns c = rw (eq-eqb _ 0 (c .before .before .before .before .if1 .taken)) (and-last _ _ _ (c .before .before .put-words .ensures))
+returns c =
+    let i = c .before .before .before .before in
+    rw (sym (i .before .names-untrue .ensures) ∙ not-true _ (i .if1 .taken)) (and-last _ _ _ (c .before .before .put-words .ensures))
 
 returns-2 : tie.Need-returns-2
 unfolding reason ascii
@@ -17,12 +19,13 @@ returns-2 c =
     let third = c .before .before in
     let second = third .before .before .before .before .before in
     let first = second .before .before .before .before in
-    rw (ne-eqb _ 0 (first .before .before .before .if1 .left))
+    let i = first .before .before .before in
+    rw (sym (i .before .names-untrue .ensures) ∙ not-false _ (i .if1 .left))
     (and-then _ _ _ _ (first .put .ensures) (and-then _ _ _ _ (second .put-number .ensures) (and-last _ _ _ (third .put2 .ensures))))
 
 pub put-reason-spec : {M : Type 1} → statement M
 put-reason-spec =
     tie.close
     (tie.spec
-    (search needs) (search needs) returns (search needs) (search needs)
+    (search needs) (search needs) (search needs) returns (search needs) (search needs)
     (search needs) (search needs) (search needs) (search needs) returns-2)

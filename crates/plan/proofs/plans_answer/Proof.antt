@@ -3,7 +3,7 @@ use Rattle.laws.proofs.Base.{_≡_, sym, ap, _∙_, needs}
 use Rattle.refusals.specs.Number.{numberOf}
 use Rattle.refusals.proofs.Inverse.{numberOf-positive}
 use Rattle.plan.specs as defs
-use defs.Paper.{Plan, planNumber}
+use defs.Paper.{Plan, Verdict, planNumber}
 use defs.Coded.{planOf, verdictOf}
 use Rattle.plan.proofs as own
 use own.Plans.{plans-current, plans-previous, plans-35, plans-0}
@@ -21,7 +21,7 @@ returns c =
     let s = c .before .before .before .before in
     let a = c .before .answer .given in
     sym
-    (plans-current (current s) (previous s) (numberOf (a .0 .0))
+    (plans-current (current s) (previous s) (numberOf (a .0 .0)) (a .0 .1 .0)
     (sym (c .before .before .before .plan-answer .ensures) ∙ ap verdictOf (a .1)) (numberOf-positive (a .0 .0)))
 
 abbrev start : tie.After-enum-told → tie.Start
@@ -29,7 +29,7 @@ start g = g .before .before .before
 
 -- past the current plan's refusals it is good
 current-good : (g : tie.After-enum-told) → planNumber (current (start g)) ≡ 0
-current-good g = sym (g .before .before .plan-answer .ensures) ∙ ap verdictOf (g .enum-told .given .1)
+current-good g = ap (λ (v : Verdict). v .number) (sym (g .before .before .plan-answer .ensures) ∙ ap verdictOf (g .enum-told .given .1))
 
 returns-2 : tie.Need-returns-2
 returns-2 c =
@@ -37,7 +37,7 @@ returns-2 c =
     let s = start g in
     let a = c .before .answer2 .given in
     sym
-    (plans-previous (current s) (previous s) (current-good g) (numberOf (a .0 .0))
+    (plans-previous (current s) (previous s) (current-good g) (numberOf (a .0 .0)) (a .0 .1 .0)
     (sym (c .before .before .before .plan-answer2 .ensures) ∙ ap verdictOf (a .1)) (numberOf-positive (a .0 .0)))
 
 abbrev both : tie.After-enum-told2 → tie.After-enum-told
@@ -45,7 +45,7 @@ both h = h .before .before .before
 
 -- past the previous plan's refusals it is good too
 previous-good : (h : tie.After-enum-told2) → planNumber (previous (start (both h))) ≡ 0
-previous-good h = sym (h .before .before .plan-answer2 .ensures) ∙ ap verdictOf (h .enum-told2 .given .1)
+previous-good h = ap (λ (v : Verdict). v .number) (sym (h .before .before .plan-answer2 .ensures) ∙ ap verdictOf (h .enum-told2 .given .1))
 
 returns-3 : tie.Need-returns-3
 returns-3 c =

@@ -14,10 +14,10 @@ returns c =
     let f = c .before .before .before .before in
     let a = f .before .before .before .before .args in
     refuses-both (a .current .now) (a .previous .now) (a .message .now) (a .received) (f .read-plans .result) (f .read-plans .ensures)
-    (c .before .before .verdict .given .1) (c .number .ensures)
+    (c .before .before .verdict .given .1) (c .packed .ensures)
 
 -- the slot that is named is small
-few : (c : tie.After-number2) → c .before .before .answer .given .0 .1 .0 ≤ 48
+few : (c : tie.After-number) → c .before .before .answer .given .0 .1 .0 ≤ 48
 few c =
     let w = c .before .before .before .before in
     let f = w .before .before .before .before .before in
@@ -27,7 +27,7 @@ few c =
 
 add-result : tie.Need-add-result
 add-result c =
-    let small : c .number2 .result < 256 = search needs in
+    let small : c .number .result < 256 = search needs in
     omega (arith, few c, small)
 
 -- the checker's answer is that for the files
@@ -46,13 +46,13 @@ checks c =
 
 returns-3 : tie.Need-returns-3
 returns-3 c =
-    omega (arith, c .number2 .ensures, ap packedChecked (rw (c .before .before .answer .given .1) at (checks (c .before .before .before .before))))
+    omega (arith, c .number .ensures, ap packedChecked (rw (c .before .before .answer .given .1) at (checks (c .before .before .before .before))))
 
 pub cb-check-schedule-spec : {M : Type 1} → statement M
 cb-check-schedule-spec =
     tie.close
     (tie.spec
-    (search needs) (search needs) (search needs) (search needs) returns
+    (search needs) (search needs) (search needs) returns
     (search needs) (search needs) (search needs) (search needs)
     (search needs) (search needs) (λ c. omega (arith, few c))
     (λ c. omega (arith, few c)) add-result

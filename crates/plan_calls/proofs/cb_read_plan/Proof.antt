@@ -17,11 +17,11 @@ returns c =
 returns-2 : tie.Need-returns-2
 returns-2 c =
     let b = c .before .before .before .before in
-    refuses-plan (b .before .before .args .file .now) (b .read-plan .result) (b .read-plan .ensures) (c .number .ensures) (c .before .before .verdict .given .1)
+    refuses-plan (b .before .before .args .file .now) (b .read-plan .result) (b .read-plan .ensures) (c .packed .ensures) (c .before .before .verdict .given .1)
 
 pub cb-read-plan-spec : {M : Type 1} → statement M
 cb-read-plan-spec =
     tie.close
     (tie.spec
     (search needs) (search needs) (λ c. omega (arith, few (c .before .before .before))) (λ c. omega (arith, few (c .before .before .before)))
-    (search needs) (search needs) (search needs) returns returns-2)
+    (search needs) (search needs) returns returns-2)

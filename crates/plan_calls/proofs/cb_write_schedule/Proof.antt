@@ -1,12 +1,12 @@
 -- `plan_calls::cb_write_schedule` meets its contract: the output's length, then the files, then the writer's answer, packed.
 use Rattle.laws.proofs.Base.{_≡_, ap, _∙_, _≤_, arith, needs}
-use Rattle.calls.proofs.Packed.{left-number, left-done}
+use Rattle.calls.proofs.Packed.{left-done}
 use Rattle.plan.specs.Coded.{planOf}
-use Rattle.sender_message.specs.Paper.{MessageLeft}
-use Rattle.sender_message.specs.Coded.{writingOf}
+use Rattle.sender.specs.Paper.{ScheduleLeft}
+use Rattle.sender.specs.Coded.{sendingOf}
 use Rattle.plan_calls.specs.Paper.{writtenFrom, writtenLeft}
 use Rattle.plan_calls.proofs as own
-use own.Answers.{refuses-output, refuses-files, as-filed, message-small}
+use own.Answers.{refused-left, refuses-output, refuses-files, as-filed, message-small}
 use own.cb_write_schedule.Statement.{statement}
 use own.cb_write_schedule.Tie as tie
 
@@ -20,7 +20,7 @@ returns-2 c =
     let f = c .before .before .before .before in
     let a = f .before .before .before .before .before .args in
     refuses-files (a .current .now) (a .previous .now) (a .begin) (a .out .now) (omega arith) (f .read-plans .result) (f .read-plans .ensures)
-    (c .before .before .verdict .given .1) (c .number2 .ensures)
+    (c .before .before .verdict .given .1) (c .packed .ensures)
 
 -- what the answer counts is small
 few : (c : tie.After-known-told2) → c .before .answer .given .0 .0 ≤ 88
@@ -31,12 +31,12 @@ few c =
     message-small (planOf (f .current)) (planOf (f .previous)) (a .begin) (a .out .now) _ (w .write-schedule .ensures) (c .before .answer .given .1)
 
 -- the writer's answer is that for the files
-abbrev written : tie.After-write-schedule → MessageLeft
+abbrev written : tie.After-write-schedule → ScheduleLeft
 written c =
     let a = c .before .before .before .before .before .before .before .before .before .before .before .args in
     writtenFrom (a .current .now) (a .previous .now) (a .begin) (a .out .now)
 
-writes : (c : tie.After-write-schedule) → writingOf (c .write-schedule .result) (c .write-schedule .last .1 .1 .1 .0) ≡ written c
+writes : (c : tie.After-write-schedule) → sendingOf (c .write-schedule .result) (c .write-schedule .last .1 .1 .1 .0) ≡ written c
 writes c =
     let g = c .before .before .before .before in
     let f = g .before .before in
@@ -46,7 +46,7 @@ writes c =
 
 returns-4 : tie.Need-returns-4
 returns-4 c =
-    left-number (c .number3 .ensures)
+    refused-left (c .before .before .answer2 .given .0 .0) (c .before .before .answer2 .given .0 .1 .0) (c .packed2 .ensures)
     ∙ ap writtenLeft (rw (c .before .before .answer2 .given .1) at (writes (c .before .before .before .before .before .before)))
 
 pub cb-write-schedule-spec : {M : Type 1} → statement M
@@ -54,8 +54,7 @@ cb-write-schedule-spec =
     tie.close
     (tie.spec
     (search needs) (search needs) returns (search needs) (search needs)
-    (search needs) (search needs) returns-2 (search needs) (search needs)
-    (search needs) (λ c. omega (arith, few c)) (λ c. omega (arith, few c)) (search needs)
-    (search needs) (search needs) (search needs)
+    (search needs) returns-2 (search needs) (search needs) (search needs)
+    (λ c. omega (arith, few c)) (λ c. omega (arith, few c)) (search needs) (search needs) (search needs)
     (λ c. left-done _ ∙ ap writtenLeft (rw (c .before .answer .given .1) at (writes (c .before .before .before .before .before))))
     (search needs) returns-4)

@@ -10,13 +10,12 @@ returns c = let r = c .before .before .before .read-plan in takes-good _ (r .res
 
 returns-2 : tie.Need-returns-2
 returns-2 c =
-    let v = c .before .before .before .before in
+    let v = c .before .before in
     let r = v .before .before .before .read-plan in
-    takes-refused _ (r .result) (r .ensures) _ (v .verdict .given .1)
+    takes-refused _ (r .result) (r .ensures) _ _ (v .verdict .given .1)
 
 pub take-octets-spec : {M : Type 1} → statement M
 take-octets-spec =
     tie.close
     (tie.spec
-    (search needs) (search needs) (search needs) (search needs)
-    (search needs) returns returns-2)
+    (search needs) (search needs) (search needs) (search needs) returns returns-2)
