@@ -19,6 +19,11 @@ def plan_file(slots, mark=b"CBP", version=1, count=None):
     return octets
 
 
+def with_entries(slots, entries):
+    """A plan file in which some entries, by their numbers from 1, stand in the place of the plan's own."""
+    return plan_file([entries.get(i + 1, slot) for i, slot in enumerate(slots)])
+
+
 def told(current, previous):
     """The new bit and the description's octets of each slot, as planned."""
     slots = []
@@ -57,6 +62,7 @@ def blocks(octets, used, first=8):
 
 TWO = [page(0x0010, 0x8001), page(0x0010, 0x8001)]
 FIVE = [page(0x0010, 0x1111), ADVISED, page(0x0020, 0x2222), page(0x0010, 0x1111), OPTIONAL]
+TEN = FIVE + FIVE
 BEFORE = [page(0x0020, 0x2222)]
 LONG = [page(i, 0x4000 + i) for i in range(33)] + [page(0, 0x4000)] * 15
 FULL = [page(i, 0x4000 + i) for i in range(32)] + [page(0, 0x4000)] * 16
@@ -198,6 +204,17 @@ FILES = {
     "longer.plan": plan_file([OPTIONAL] * 48) + b"\x00" * 5000,
     "kind3.plan": plan_file([(3, 0, 0, 0)]),
     "set.plan": plan_file([(1, 0, 0, 1)]),
+    # document 02, No. 1: an unknown kind, with and without octets of a page, and octets of a page in slots that have none
+    "kind9.plan": with_entries(TEN, {7: (9, 0x0010, 0x1111, 0x11)}),
+    "kind255.plan": with_entries(FULL, {48: (255, 0, 0, 0)}),
+    "set-optional.plan": with_entries(TEN, {7: (0, 0x0010, 0x1111, 0x11)}),
+    "set-advised.plan": with_entries(TEN, {7: (1, 0x0100, 0, 0)}),
+    "set48.plan": with_entries(FULL, {48: (0, 0, 0, 0x80)}),
+    # two such entries, of which the lower is named
+    "kind-set.plan": with_entries(TEN, {4: (4, 0, 0, 0), 7: (0, 0, 0x0001, 0)}),
+    "set-kind.plan": with_entries(TEN, {4: (1, 0, 0x0100, 0), 7: (4, 0, 0, 0)}),
+    # and what comes before such an entry
+    "kind9-long.plan": with_entries(TEN, {7: (9, 0, 0, 0)}) + b"\x00",
     "log": log(),
     "log.list": listed(log()),
     # the log's whole pieces: what is listed where a read fails behind its last octet
