@@ -41,6 +41,12 @@ uint32_t plain_write_blocks(const uint8_t *message, size_t message_len, bool sch
     return 0;
 }
 
+/* An entry's number, from 1. */
+static uint32_t number_of(const uint8_t *file, const uint8_t *entry)
+{
+    return (uint32_t)(entry - file - FRONT) / ENTRY + 1;
+}
+
 /* Looks at the entries where they stand; cb_read_plan has them in a plan by value before it answers. */
 uint32_t plain_read_plan(const uint8_t *file, size_t file_len)
 {
@@ -55,12 +61,11 @@ uint32_t plain_read_plan(const uint8_t *file, size_t file_len)
     size_t count = file[5];
     if (count > SLOTS || file_len != FRONT + ENTRY * count)
         return 32;
-    for (size_t i = 0; i < count; i++) {
-        const uint8_t *entry = file + FRONT + ENTRY * i;
+    for (const uint8_t *entry = file + FRONT; entry < file + file_len; entry += ENTRY) {
         if (entry[0] > 2)
-            return 33;
+            return 36 + 256 * number_of(file, entry);
         if (entry[0] < 2 && memcmp(entry + 1, none, sizeof none) != 0)
-            return 33;
+            return 37 + 256 * number_of(file, entry);
     }
     return 256 * (uint32_t)count;
 }

@@ -44,8 +44,10 @@ static void damage_file(uint64_t *row, uint8_t *file, size_t *length)
 {
     if (one_in(row, 24))
         file[draw(row) % 6] = (uint8_t)draw(row);
-    if (one_in(row, 24))
+    while (one_in(row, 24))
         file[6 + draw(row) % (CB_PLAN - 6)] = (uint8_t)(draw(row) % 4);
+    while (one_in(row, 24))
+        file[6 + draw(row) % (CB_PLAN - 6)] = (uint8_t)draw(row);
     if (one_in(row, 24))
         *length = draw(row) % PLAN_ROOM;
 }
@@ -184,7 +186,7 @@ int main(int argc, char **argv)
     static const char *const calls[] = {
         [WRITE_SCHEDULE] = "write_schedule", [CHECK_SCHEDULE] = "check_schedule", [DECIDE] = "decide", [ENTER] = "enter", NULL,
     };
-    static const uint8_t answers[] = {0, 15, 16, 18, 20, 21, 22, 23, 24, 30, 31, 32, 33, 34, 35, 40, 41, 42};
+    static const uint8_t answers[] = {0, 15, 16, 18, 20, 21, 22, 23, 24, 30, 31, 32, 34, 35, 36, 37, 40, 41, 42};
     static const struct subject subject = {
         .name = "plan", .calls = calls, .shortest = 1, .longest = PLAN_SLOTS, .inputs = INPUTS, .rounds = 51,
         .prepare = prepare, .pass = pass, .check = check, .answers = answers, .answer_count = sizeof answers,

@@ -66,8 +66,10 @@ static void check_plan(uint64_t *row, int at, unsigned long *seen)
     make_plan(row, count, file);
     if (one_in(row, 8))
         file[draw(row) % 6] = (uint8_t)draw(row);
-    if (one_in(row, 8))
+    while (one_in(row, 8))
         file[6 + draw(row) % (6 * SLOTS)] = (uint8_t)(draw(row) % 4);
+    while (one_in(row, 8))
+        file[6 + draw(row) % (6 * SLOTS)] = (uint8_t)draw(row);
     uint32_t a = cb_read_plan(file, length);
     if (a != plain_read_plan(file, length))
         differ("simple", "plan", at);
@@ -121,7 +123,7 @@ int main(int argc, char **argv)
         [CONTENT] = "content", [READ_HEADER] = "read_header", [WRITE_BLOCKS] = "write_blocks", [READ_PLAN] = "read_plan",
         NULL,
     };
-    static const uint8_t answers[] = {0, 15, 16, 17, 18, 30, 31, 32, 33};
+    static const uint8_t answers[] = {0, 15, 16, 17, 18, 30, 31, 32, 36, 37};
     static const struct subject subject = {
         .name = "simple", .calls = calls, .longest = SLOTS, .inputs = INPUTS, .rounds = 51,
         .prepare = prepare, .pass = pass, .check = check, .answers = answers, .answer_count = sizeof answers,
