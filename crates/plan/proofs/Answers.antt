@@ -1,5 +1,6 @@
 -- Which test of a plan by value answers, and what is named with it, on plain facts.
-use Rattle.laws.proofs.Base.{_≡_, refl, sym, ap, _∙_, Bool, true, false, cond, not, List, ℕ, _-_, _≤_, _<_, arith, ltb, eqb, length, getD, lt-ltb, le-ltb, ltb-true, ltb-false, ne-eqb, eqb-true, not-false, length-take, _||_}
+use Rattle.laws.proofs.Base.{_≡_, refl, sym, ap, _∙_, Bool, true, false, cond, not, List, ℕ, _-_, _≤_}
+use Rattle.laws.proofs.Base.{_<_, arith, ltb, eqb, length, getD, lt-ltb, le-ltb, ltb-true, ltb-false, ne-eqb, eqb-true, not-false, length-take, _||_}
 use Rattle.laws.specs.Search.{some}
 use Rattle.laws.proofs.Search.{Found, none-passes, first-passes, searched, found-some}
 use Rattle.laws.proofs.Tests.{true-or-false}

@@ -1,5 +1,6 @@
 -- The entry of a file that is named is its lowest bad one, and nothing else differs from document 01.
-use Rattle.laws.proofs.Base.{_≡_, refl, sym, ap, _∙_, Bool, true, false, cond, List, _⊎_, inl, inr, ⊎-elim, ℕ, zero, suc, _+_, _*_, _-_, _≤_, _<_, le-of-suc-le-suc, not-suc-le-zero, arith, getD, take, drop, getD-drop}
+use Rattle.laws.proofs.Base.{_≡_, refl, sym, ap, _∙_, Bool, true, false, cond, List, _⊎_, inl, inr, ⊎-elim}
+use Rattle.laws.proofs.Base.{ℕ, zero, suc, _+_, _*_, _-_, _≤_, _<_, le-of-suc-le-suc, not-suc-le-zero, arith, getD, take, drop, getD-drop}
 use Rattle.laws.specs.Ruled.{ruled}
 use Rattle.laws.specs.Search.{some}
 use Rattle.laws.proofs.Ruled.{Ruling, refuses, passes, ruling, not-among, ruled-map}

@@ -20,7 +20,8 @@ returns-2 : tie.Need-returns-2
 returns-2 c =
     let v = c .before .before .before in
     let a = v .before .args in
-    good-said (planOf (a .current)) (planOf (a .previous)) (ap (λ (x : Verdict). x .number) (sym (v .plans-answer .ensures) ∙ ap verdictOf (c .before .enum-told .given .1))) _ (c .all-planned .ensures)
+    let told = sym (v .plans-answer .ensures) ∙ ap verdictOf (c .before .enum-told .given .1) in
+    good-said (planOf (a .current)) (planOf (a .previous)) (ap (λ (x : Verdict). x .number) told) _ (c .all-planned .ensures)
 
 pub beside-spec : {M : Type 1} → statement M
 beside-spec =

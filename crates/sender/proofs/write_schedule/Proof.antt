@@ -10,7 +10,7 @@ use Rattle.sender_message.specs.Paper.{MessageLeft}
 use Rattle.sender_message.specs.Coded.{writingOf, shownIn}
 use Rattle.sender_message.proofs.Agree.{write-agree}
 use Rattle.sender.specs as defs
-use defs.Paper.{planned, writeSchedule}
+use defs.Paper.{planned, ScheduleLeft, writeSchedule}
 use Rattle.sender.proofs as own
 use own.Cases.{leaves-15, leaves-plans, leaves-planned}
 use own.write_schedule.Statement.{statement}
@@ -46,10 +46,13 @@ start g = g .before .before .before .before .before
 good : (g : tie.After-enum-told) → plansNumber (current (start g)) (previous (start g)) ≡ 0
 good g = ap (λ (v : Verdict). v .number) (sym (g .before .before .plans-answer .ensures) ∙ ap verdictOf (g .enum-told .given .1))
 
+-- what the writer leaves for the arguments at the start
+abbrev leaving : tie.Start → ScheduleLeft
+leaving s = writeSchedule (current s) (previous s) (s .args .begin) (out s)
+
 -- what is left of the output by an answer of `write_message` that is known
 leaves : (m : tie.After-write-message) → (known : Writing) → m .write-message .result ≡ known
-    → record { left = writingOf known (m .write-message .last .1 .1 .1 .0); entry = 0 }
-    ≡ writeSchedule (current (start (m .before .before .before))) (previous (start (m .before .before .before))) (start (m .before .before .before) .args .begin) (out (start (m .before .before .before)))
+    → record { left = writingOf known (m .write-message .last .1 .1 .1 .0); entry = 0 } ≡ leaving (start (m .before .before .before))
 leaves m known e =
     let told = m .before .before in
     let g = told .before in
