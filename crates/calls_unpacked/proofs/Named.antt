@@ -7,7 +7,8 @@ use Rattle.laws.proofs.Outcome.{ruled-refuses}
 use Rattle.laws.proofs.Tests.{true-or-false}
 use Rattle.plan.specs.Paper.{entriesWithin, bad, lowestFault, planNumber}
 use Rattle.plan.specs.Claims.{Naming, LowestBad, NamesBad, firstRefused}
-use Rattle.plan.proofs.Named.{not-naming, naming-is, naming-other, good-names-none}
+use Rattle.plan.proofs.Answers.{naming-is}
+use Rattle.plan.proofs.Named.{not-naming, naming-other, good-names-none}
 use Rattle.plan_read.specs.Paper.{entryIn, entriesIn, listed, readPlan, entriesOctets, fileOf}
 use Rattle.plan_read.proofs.Named.{file-names-lowest-bad}
 use Rattle.plan_read.proofs.ReadGood.{read-is-good}

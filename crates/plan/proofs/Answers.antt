@@ -1,33 +1,29 @@
 -- Which test of a plan by value answers, and what is named with it, on plain facts.
-use Rattle.laws.proofs.Base.{_≡_, refl, sym, ap, _∙_, Bool, true, false, cond, not, List, ℕ, _-_, _≤_}
+use Rattle.laws.proofs.Base.{_≡_, refl, sym, ap, _∙_, Bool, true, false, cond, not, List, inl, inr, ⊎-elim, ℕ, _-_, _≤_}
 use Rattle.laws.proofs.Base.{_<_, arith, ltb, eqb, length, getD, lt-ltb, le-ltb, ltb-true, ltb-false, ne-eqb, eqb-true, not-false, length-take, _||_}
 use Rattle.laws.specs.Search.{some}
 use Rattle.laws.proofs.Search.{Found, none-passes, first-passes, searched, found-some}
 use Rattle.laws.proofs.Tests.{true-or-false}
 use Rattle.plan.specs.Inner.{entriesAnswer}
+use Rattle.plan.specs.Claims.{Naming}
 use Rattle.plan.specs.Paper.{Entry, Plan, free, entriesWithin, bad, lowestBad, faultOf, lowestFault, naming, planNumber, planEntry, planAnswer}
 
--- a fault is one of the numbers that name an entry
-pub fault-names : (e : Entry) (s : ℕ) → naming (faultOf e) s ≡ s
-fault-names e s = go (ltb 2 (e .kind))
-  where
-    go : (b : Bool) → naming (cond b 36 37) s ≡ s
-    go true = refl
-    go false = refl
-
-pub fault-low : (es : List Entry) → (36 ≤ lowestFault es) × (lowestFault es ≤ 37)
-unfolding lowestFault
-fault-low es = go (ltb 2 (getD es (lowestBad es - 1) free .kind))
-  where
-    go : (b : Bool) → (36 ≤ cond b 36 37) × (cond b 36 37 ≤ 37)
-    go true = (omega arith, omega arith)
-    go false = (omega arith, omega arith)
+-- what a number that names an entry names is there
+pub naming-is : (n e : ℕ) → Naming n → naming n e ≡ e
+naming-is n e h = ⊎-elim (λ q. rw q) (λ q. rw q) h
 
 module _ (es : List Entry) where
-  -- the fault of the lowest bad entry names it
-  lowest-named : naming (lowestFault es) (lowestBad es) ≡ lowestBad es
+  -- the fault of the lowest bad entry is such a number
+  pub fault-naming : Naming (lowestFault es)
   unfolding lowestFault
-  lowest-named = fault-names (getD es (lowestBad es - 1) free) (lowestBad es)
+  fault-naming = go (ltb 2 (getD es (lowestBad es - 1) free .kind))
+    where
+      go : (b : Bool) → Naming (cond b 36 37)
+      go true = inl refl
+      go false = inr refl
+
+  pub fault-low : (36 ≤ lowestFault es) × (lowestFault es ≤ 37)
+  fault-low = ⊎-elim (λ q. (omega arith, omega arith)) (λ q. (omega arith, omega arith)) fault-naming
 
   none-lowest : some bad es ≡ false → lowestBad es ≡ 0
   none-lowest b = eqb-true (lowestBad es) 0 (not-false _ (found-some bad 0 es ∙ b))
@@ -102,5 +98,5 @@ module _ (p : Plan) where
     unfolding planEntry
     by-entries =
         true-or-false (some bad (entriesWithin p))
-        (λ b. rw (b, some-bad b) (λ i. record { number = lowestFault (entriesWithin p); entry = sym (lowest-named (entriesWithin p)) i }))
+        (λ b. rw (b, some-bad b) (λ i. record { number = lowestFault (entriesWithin p); entry = sym (naming-is _ (lowestBad (entriesWithin p)) (fault-naming (entriesWithin p))) i }))
         (λ b. rw (b, none-bad b) (λ i. record { number = 0; entry = none-lowest (entriesWithin p) b i }))

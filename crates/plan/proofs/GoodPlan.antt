@@ -1,14 +1,18 @@
 -- What a good plan has within its count.
-use Rattle.laws.proofs.Base.{_≡_, sym, ap, _∙_, Bool, true, false, false≢true, cond, List, [], _∷_, ℕ, suc, _≤_, _<_, arith, by-contra, ltb, length, List·getD-eq-default, lt-ltb, ltb-false}
+use Rattle.laws.proofs.Base.{_≡_, refl, sym, ap, _∙_, Bool, true, false, false≢true, cond, List, [], _∷_, inl, inr, ℕ, suc, _≤_, _<_, arith, by-contra, ltb}
+use Rattle.laws.proofs.Base.{length, List·getD-eq-default, lt-ltb, le-ltb, ltb-false}
 use Rattle.laws.specs.Search.{some}
 use Rattle.laws.proofs.Search.{some-found}
 use Rattle.laws.proofs.Ruled.{NoneHolds, none-holds}
 use Rattle.plan.specs.Paper.{Entry, Plan, free, entriesWithin, bad, lowestFault, planNumber, entryAt}
+use Rattle.plan.specs.Claims.{Wrong}
 use Rattle.plan.proofs.Answers.{fault-low}
 
-over-bad : (e : Entry) → 2 < e .kind → bad e ≡ true
+-- an entry that is wrong is bad
+pub wrong-bad : (n : ℕ) (e : Entry) → Wrong n e → bad e ≡ true
 unfolding bad
-over-bad e h = simp (lt-ltb 2 (e .kind) h)
+wrong-bad n e (inl (q, k)) = simp (lt-ltb 2 (e .kind) k)
+wrong-bad n e (inr (q, k, z)) = simp (le-ltb 2 (e .kind) (omega arith), lt-ltb (e .kind) 2 k, z)
 
 -- a plan has no number as high as 40
 pub plan-low : (c : Plan) → planNumber c < 40
@@ -47,5 +51,5 @@ module _ (c : Plan) (g : planNumber c ≡ 0) where
   kind-few i l =
       by-contra (suc (entryAt c i .kind)) 3
       (λ far.
-      let found = some-found bad free (c .count) (c .entries) i l (inside c i (omega arith)) (over-bad (entryAt c i) (omega arith)) in
+      let found = some-found bad free (c .count) (c .entries) i l (inside c i (omega arith)) (wrong-bad 36 (entryAt c i) (inl (refl, omega arith))) in
       false≢true (sym (none .1 .0) ∙ found))

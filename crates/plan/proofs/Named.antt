@@ -1,6 +1,6 @@
 -- The entry that is named is the lowest bad one, and nothing else differs from document 01.
 use Rattle.laws.proofs.Base.{_≡_, refl, sym, ap, _∙_, subst, Bool, true, false, false≢true, cond, not, _||_, List, _⊎_, inl, inr, ⊎-elim, ℕ, _-_, _≤_, arith, ltb, eqb, getD}
-use Rattle.laws.proofs.Base.{ne-eqb, eqb-true, eqb-false, lt-ltb, le-ltb, ltb-true, ltb-false, not-true, length-take, getD-take}
+use Rattle.laws.proofs.Base.{ne-eqb, eqb-true, eqb-false, ltb-true, ltb-false, not-true, length-take, getD-take}
 use Rattle.laws.specs.Search.{some}
 use Rattle.laws.proofs.Search.{Found, none-passes, first-passes, searched, some-found, found-some}
 use Rattle.laws.proofs.Tests.{true-or-false, both}
@@ -8,18 +8,14 @@ use Rattle.plan.specs as defs
 use defs.Paper.{Entry, Plan, Verdict, free, allZero, bad, entriesWithin, lowestBad, faultOf, lowestFault, naming, planNumber, planEntry, plansNumber, plansEntry}
 use defs.Claims.{Naming, Wrong, LowestBad, NamesBad, NamesLowestBad, NamesLowestOfTwo, Becomes, AcceptedAsBefore}
 use Rattle.plan.proofs as own
-use own.Answers.{over-number, none-bad, some-bad}
-use own.GoodPlan.{good-unfaulty}
+use own.Answers.{naming-is, fault-naming, over-number, none-bad, some-bad}
+use own.GoodPlan.{wrong-bad, good-unfaulty}
 use own.Plans.{plans-current, plans-previous, plans-35, plans-0}
 
 -- a number that names an entry is one of two
 pub not-naming : (n : ℕ) → not (eqb n 36 || eqb n 37) ≡ true → Naming n → ⊥
 not-naming n e (inl q) = false≢true (rw q at e)
 not-naming n e (inr q) = false≢true (rw q at e)
-
--- and what it names is there
-pub naming-is : (n e : ℕ) → Naming n → naming n e ≡ e
-naming-is n e h = ⊎-elim (λ q. rw q) (λ q. rw q) h
 
 -- another number names none
 pub naming-other : (n e : ℕ) → (Naming n → ⊥) → naming n e ≡ 0
@@ -34,11 +30,6 @@ fault-wrong e b =
     (λ k.
     let w = both (ltb (e .kind) 2) (not (allZero e)) (rw k at b) in
     rw k (inr (refl, ltb-true (e .kind) 2 (w .0), not-true (allZero e) (w .1))))
-
-wrong-bad : (n : ℕ) (e : Entry) → Wrong n e → bad e ≡ true
-unfolding bad
-wrong-bad n e (inl (q, k)) = simp (lt-ltb 2 (e .kind) k)
-wrong-bad n e (inr (q, k, z)) = simp (le-ltb 2 (e .kind) (omega arith), lt-ltb (e .kind) 2 k, z)
 
 module _ (es : List Entry) where
   -- where an entry is bad, the search finds the lowest one
@@ -64,8 +55,7 @@ module _ (es : List Entry) where
       record {
         named = λ h.
             let w = why h in
-            let same : naming n (lowestBad es) ≡ lowestBad es = ⊎-elim (λ q. rw q) (λ q. rw q) h in
-            rw same (subst (λ (m : ℕ). LowestBad es m (lowestBad es)) (sym (w .1)) (lowest-wrong (w .0)));
+            rw (naming-is n (lowestBad es) h) (subst (λ (m : ℕ). LowestBad es m (lowestBad es)) (sym (w .1)) (lowest-wrong (w .0)));
         unnamed = naming-other n (lowestBad es);
       }
 
@@ -117,15 +107,6 @@ good-names-none p g {n} {k} w =
     some-found bad free (p .count) (p .entries) (k - 1) (omega (arith, short, w .one, w .within)) (omega (arith, short, w .one, w .within))
     (ap bad (sym at) ∙ wrong-bad n (getD (entriesWithin p) (k - 1) free) (w .wrong)) in
     false≢true (sym (good-unfaulty p g) ∙ found)
-
--- a fault is one of the numbers that 33 becomes
-pub fault-naming : (es : List Entry) → Naming (lowestFault es)
-unfolding lowestFault
-fault-naming es = go (ltb 2 (getD es (lowestBad es - 1) free .kind))
-  where
-    go : (b : Bool) → Naming (cond b 36 37)
-    go true = inl refl
-    go false = inr refl
 
 pub accepted-as-before : AcceptedAsBefore
 unfolding planNumber

@@ -9,7 +9,8 @@ use Rattle.plan.specs.Paper.{free, filledPlan, empty, bad, lowestBad, lowestFau
 use Rattle.page.specs.Paper.{octet}
 use Rattle.plan.specs.Claims.{Naming, Becomes}
 use Rattle.plan.proofs.Plans.{naming-twice}
-use Rattle.plan.proofs.Named.{names-by, fault-naming}
+use Rattle.plan.proofs.Answers.{fault-naming}
+use Rattle.plan.proofs.Named.{names-by}
 use Rattle.plan_read.specs as defs
 use defs.Paper.{entryIn, entriesIn, listed, PlanRead, refusal, goodFile, faults, readPlan}
 use defs.Claims.{FileNamesLowestBad, ReadIn01, readPlanIn01, FileAcceptedAsBefore, KindStands}
