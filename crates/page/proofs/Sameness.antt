@@ -1,5 +1,5 @@
 -- Laws of the sameness of pages. Other crates use these alone.
-use Rattle.laws.proofs.Base.{_≡_, refl, sym, _∙_, false≢true, inl, inr, arith, eqb, eq-eqb, ne-eqb, eqb-true}
+use Rattle.laws.proofs.Base.{_≡_, refl, sym, _∙_, false≢true, inl, inr, _<_, arith, eqb, eq-eqb, ne-eqb, eqb-true}
 use Rattle.laws.proofs.Tests.{true-or-false, both}
 use Rattle.page.specs.Paper.{Name, samePage}
 use Rattle.page.specs.Coded.{keyOf}
@@ -44,6 +44,7 @@ pub same-identifier : SameIdentifier
 same-identifier a b h = equal a b h .id
 
 pub key-same : KeySame
+unfolding keyOf
 key-same a b s t =
     true-or-false (samePage a b)
     (λ e. let q = equal a b e in rw e (eq-eqb (keyOf a) (keyOf b) (rw (q .serial, q .id, q .parameter))))
@@ -52,3 +53,8 @@ key-same a b s t =
     λ k. false≢true (sym e ∙ alike a b (record { serial = omega arith; id = omega arith; parameter = omega arith }))
     in
     rw e (ne-eqb (keyOf a) (keyOf b) differ))
+
+-- a key has 40 bits, so there is room beside it
+pub key-below : (n : Name) → Small n → n .parameter < 0x100 → keyOf n < 0x10000000000
+unfolding keyOf
+key-below n s l = omega arith

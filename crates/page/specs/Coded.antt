@@ -18,7 +18,7 @@ abbrev pub nameOf : PageName → Name
 nameOf p = record { serial = p .serial .0; id = p .id .0; parameter = p .parameter }
 
 -- what tells a page as one number
-abbrev pub keyOf : Name → ℕ
+unfoldable pub keyOf : Name → ℕ
 keyOf n = (n .parameter * 0x10000 + n .id) * 0x10000 + n .serial
 
 -- the number of an answer: 0 for done
