@@ -1,16 +1,29 @@
--- Laws of the sameness of pages. Other crates use these alone.
-use Rattle.laws.proofs.Base.{_≡_, refl, sym, _∙_, false≢true, inl, inr, _<_, arith, eqb, eq-eqb, ne-eqb, eqb-true}
+-- Laws of the sameness of pages, and of what page parameters are read as. What rests on sameness in other crates rests on these alone.
+use Rattle.laws.proofs.Base.{_≡_, refl, sym, _∙_, Bool, _||_, or-true, false≢true, inl, inr, ⊎-elim, ℕ, _/_, _%_, _<_, arith, lit<, eqb, eq-eqb, ne-eqb, eqb-true, eqb-false}
 use Rattle.laws.proofs.Tests.{true-or-false, both}
-use Rattle.page.specs.Paper.{Name, samePage}
+use Rattle.page.specs.Paper.{Name, parameterRead, samePage}
 use Rattle.page.specs.Coded.{keyOf}
-pub use Rattle.page.specs.Claims.{Same, Small}
-use Rattle.page.specs.Claims.{SameDecided, SameReflexive, SameSymmetric, SameTransitive, SameIdentifier, KeySame}
+pub use Rattle.page.specs.Claims.{Same, ZeroHalf, Small}
+use Rattle.page.specs.Claims.{SameDecided, SameReflexive, SameSymmetric, SameTransitive, SameIdentifier}
+use Rattle.page.specs.Claims.{ParametersRead, samePageIn01, Follows, SamenessSettled, KeySame}
+
+-- a parameter with a zero half is read as 11, every other as it was sent
+pub read-zero : (p : ℕ) → ZeroHalf p → parameterRead p ≡ 0x11
+read-zero p (inl e) = rw (eq-eqb (p / 16) 0 e)
+read-zero p (inr e) = rw (eq-eqb (p % 16) 0 e, or-true (eqb (p / 16) 0))
+
+pub read-sent : (p : ℕ) → (ZeroHalf p → ⊥) → parameterRead p ≡ p
+read-sent p h = rw (ne-eqb (p / 16) 0 (λ e. h (inl e)), ne-eqb (p % 16) 0 (λ e. h (inr e)))
+
+-- an octet is read as an octet
+read-below : (p : ℕ) → p < 0x100 → parameterRead p < 0x100
+read-below p l = true-or-false (eqb (p / 16) 0 || eqb (p % 16) 0) (λ e. rw e (lit< tt)) (λ e. rw e l)
 
 -- every part that tells a page is equal
 pub record Equal (a b : Name) : Type 0 where
   pub serial : a .serial ≡ b .serial
   pub id : a .id ≡ b .id
-  pub parameter : a .parameter ≡ b .parameter
+  pub parameter : parameterRead (a .parameter) ≡ parameterRead (b .parameter)
 
 pub equal : (a b : Name) → Same a b → Equal a b
 unfolding samePage
@@ -43,11 +56,73 @@ same-transitive a b c h k =
 pub same-identifier : SameIdentifier
 same-identifier a b h = equal a b h .id
 
+pub parameters-read : ParametersRead
+parameters-read = refl
+
+-- a page with its parameter as it is read is the same page
+pub same-as-read : (s i p : ℕ) (b : Name) → samePage (record { serial = s; id = i; parameter = parameterRead p }) b ≡ samePage (record { serial = s; id = i; parameter = p }) b
+unfolding samePage
+same-as-read s i p b = true-or-false (eqb (p / 16) 0 || eqb (p % 16) 0) (λ e. simp e) (λ e. simp e)
+
+follows : Follows samePage
+unfolding samePage samePageIn01
+follows =
+    record {
+      symmetric = λ a b.
+          true-or-false (samePage a b)
+          (λ e. e ∙ sym (same-symmetric a b e)) (λ e. true-or-false (samePage b a) (λ f. same-symmetric b a f ∙ sym f) (λ f. e ∙ sym f));
+      zero = λ s i p z b. rw (read-zero p z);
+      others = λ a b h k. rw (read-sent (a .parameter) h, read-sent (b .parameter) k);
+    }
+
+-- what follows where a parameter has a zero half, and where it has none
+zero-or-not : {C : Type 0} (p : ℕ) → (ZeroHalf p → C) → ((ZeroHalf p → ⊥) → C) → C
+zero-or-not p f g =
+    true-or-false (eqb (p / 16) 0)
+    (λ a. f (inl (eqb-true (p / 16) 0 a)))
+    (λ a.
+    true-or-false (eqb (p % 16) 0)
+    (λ b. f (inr (eqb-true (p % 16) 0 b)))
+    (λ b. g (⊎-elim (eqb-false (p / 16) 0 a) (eqb-false (p % 16) 0 b))))
+
+-- any two samenesses of which the request is true are equal: first where one page has no zero half, then everywhere
+module _ (q r : Name → Name → Bool) (f : Follows q) (g : Follows r) where
+  abbrev single : Name → Name
+  single a = record { serial = a .serial; id = a .id; parameter = 0x11 }
+
+  single-whole : ZeroHalf 0x11 → ⊥
+  single-whole (inl e) = omega arith
+  single-whole (inr e) = omega arith
+
+  agree-whole : (a b : Name) → (ZeroHalf (a .parameter) → ⊥) → q a b ≡ r a b
+  agree-whole a b h =
+      zero-or-not (b .parameter)
+      (λ z.
+      f .symmetric a b
+      ∙ f .zero (b .serial) (b .id) (b .parameter) z a
+      ∙ f .others (single b) a single-whole h
+      ∙ sym (g .others (single b) a single-whole h)
+      ∙ sym (g .zero (b .serial) (b .id) (b .parameter) z a)
+      ∙ g .symmetric b a)
+      (λ k. f .others a b h k ∙ sym (g .others a b h k))
+
+  agree : (a b : Name) → q a b ≡ r a b
+  agree a b =
+      zero-or-not (a .parameter)
+      (λ z.
+      f .zero (a .serial) (a .id) (a .parameter) z b
+      ∙ agree-whole (single a) b single-whole
+      ∙ sym (g .zero (a .serial) (a .id) (a .parameter) z b))
+      (agree-whole a b)
+
+pub sameness-settled : SamenessSettled
+sameness-settled = record { follows = follows; only = λ r g a b. agree r samePage g follows a b }
+
 pub key-same : KeySame
 unfolding keyOf
 key-same a b s t =
     true-or-false (samePage a b)
-    (λ e. let q = equal a b e in rw e (eq-eqb (keyOf a) (keyOf b) (rw (q .serial, q .id, q .parameter))))
+    (λ e. let q = equal a b e in rw e (eq-eqb (keyOf a) (keyOf b) (omega arith)))
     (λ e.
     let differ : keyOf a ≡ keyOf b → ⊥ =
     λ k. false≢true (sym e ∙ alike a b (record { serial = omega arith; id = omega arith; parameter = omega arith }))
@@ -57,4 +132,4 @@ key-same a b s t =
 -- a key has 40 bits, so there is room beside it
 pub key-below : (n : Name) → Small n → n .parameter < 0x100 → keyOf n < 0x10000000000
 unfolding keyOf
-key-below n s l = omega arith
+key-below n s l = omega (arith, read-below (n .parameter) l)

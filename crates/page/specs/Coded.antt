@@ -3,7 +3,7 @@ use Prim.Native.Nat.{ℕ, _+_, _*_}
 use mathlib.Core.List.{List}
 use denote.Ref.{RefT}
 use Rattle.refusals.specs.Number.{numberOf}
-use Rattle.page.specs.Paper.{Heading, Name, Part}
+use Rattle.page.specs.Paper.{Heading, Name, parameterRead, Part}
 use Rattle.page.specs.declared.Header.{Header}
 use Rattle.page.specs.declared.PageName.{PageName}
 use Rattle.page.specs.declared.Handing.{Handing}
@@ -19,7 +19,7 @@ nameOf p = record { serial = p .serial .0; id = p .id .0; parameter = p .paramet
 
 -- what tells a page as one number
 unfoldable pub keyOf : Name → ℕ
-keyOf n = (n .parameter * 0x10000 + n .id) * 0x10000 + n .serial
+keyOf n = parameterRead (n .parameter) * 0x100000000 + (n .id * 0x10000 + n .serial)
 
 -- the number of an answer: 0 for done
 abbrev pub numberOfHanding : Handing → ℕ

@@ -1,6 +1,6 @@
--- A page's header, the sameness of pages, and the part handed back, as document 01 has them.
+-- A page's header, the sameness of pages, and the part handed back, as the documents have them.
 use Prim.Native.Nat.{ℕ, _+_, _*_, _-_, _/_, _%_}
-use mathlib.Core.Bool.{Bool, not, _&&_}
+use mathlib.Core.Bool.{Bool, cond, not, _&&_, _||_}
 use mathlib.Core.List.{List, [], _∷_}
 use lib.Dec.{eqb}
 use lib.ListN.{length, getD, take, drop}
@@ -39,9 +39,14 @@ pub record Name : Type 0 where
   pub id : ℕ
   pub parameter : ℕ
 
--- 01 Page and text: the same page when serial number, message identifier and page parameter are equal
+-- 02 No. 2, 002 9.3.2: what a receiver takes a page parameter for: with 0 in either half page 1 of 1, else what was sent
+abbrev pub parameterRead : ℕ → ℕ
+parameterRead p = cond (eqb (p / 16) 0 || eqb (p % 16) 0) 0x11 p
+
+-- 01 Page and text, 02 No. 2: the same page when serial number, message identifier and page parameter, as it is read, are equal
 unfoldable pub samePage : Name → Name → Bool
-samePage a b = eqb (a .serial) (b .serial) && (eqb (a .id) (b .id) && eqb (a .parameter) (b .parameter))
+samePage a b =
+    eqb (a .serial) (b .serial) && (eqb (a .id) (b .id) && eqb (parameterRead (a .parameter)) (parameterRead (b .parameter)))
 
 -- 01 Order, the handing back: 16, then 18
 abbrev pub handing : List ℕ → ℕ → List (Bool × ℕ)

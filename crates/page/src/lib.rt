@@ -1,7 +1,7 @@
-// A page's header, the key that pages are the same by, and the part of a page's content that was received.
+// A page's header, what its parameter is read as, the key that pages are the same by, and the part of its content that was received.
 ghost use mathlib.Core.Path.{_≡_};
 ghost use Prim.Native.Nat.{_+_, _*_};
-ghost use Rattle.page.specs.Paper.{header, headerOctets, handedPart, handedNumber};
+ghost use Rattle.page.specs.Paper.{header, headerOctets, parameterRead, handedPart, handedNumber};
 ghost use Rattle.page.specs.Coded.{keyOf, headingOf, nameOf, numberOfHanding, partOf};
 use refusals::Refusal;
 use sizes::MESSAGE;
@@ -69,11 +69,28 @@ pub fn header_octets(heading: Header) -> [u8; 6]
     ]
 }
 
+// The page parameter of a single page: page 1 of 1. GSM 03.41, 9.3.2.
+const SINGLE: u8 = 0x11;
+
+// What a receiver takes a page parameter for: with 0 in either half, a single page's.
+fn parameter_read(parameter: u8) -> u8
+    ensures { λ r. ⌜ r ≡ parameterRead parameter ⌝ }
+{
+    if parameter / 16 == 0 {
+        return SINGLE;
+    }
+    if parameter % 16 == 0 {
+        return SINGLE;
+    }
+    parameter
+}
+
 // What tells a page as one number: two pages are the same page exactly if their keys are equal, so that a search compares once.
 pub fn key(name: PageName) -> u64
     ensures { λ r. ⌜ r ≡ keyOf (nameOf name) ⌝ }
 {
-    (name.parameter as u64 * 0x10000 + name.id.0 as u64) * 0x10000 + name.serial.0 as u64
+    let parameter = parameter_read(name.parameter) as u64;
+    parameter * 0x100000000 + (name.id.0 as u64 * 0x10000 + name.serial.0 as u64)
 }
 
 // Whether `content` hands a part back, and if not why.

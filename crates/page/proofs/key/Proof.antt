@@ -1,5 +1,5 @@
--- `page::key` meets its contract: the number is made as the paper's is.
-use Rattle.laws.proofs.Base.{refl, needs}
+-- `page::key` meets its contract: the number is made as the definition's is, of the parameter as it is read.
+use Rattle.laws.proofs.Base.{needs}
 use Rattle.page.specs.Coded.{keyOf}
 use Rattle.page.proofs.key as own
 use own.Statement.{statement}
@@ -7,10 +7,11 @@ use own.Tie as tie
 
 returns : tie.Need-returns
 unfolding keyOf
-returns c = refl
+returns c = rw (c .before .before .parameter-read .ensures)
 
 pub key-spec : {M : Type 1} → statement M
 key-spec =
     tie.close
     (tie.spec
-    (search needs) (search needs) (search needs) (search needs) (search needs) (search needs) (search needs) returns)
+    (search needs) (search needs) (search needs) (search needs)
+    (search needs) (search needs) (search needs) (search needs) returns)
