@@ -1,0 +1,3 @@
+-- What `plan_parameters` proves.
+pub mod AsRead
+pub mod Cases

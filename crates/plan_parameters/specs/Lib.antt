@@ -1,0 +1,2 @@
+-- What `plan_parameters` defines.
+pub mod Claims
