@@ -10,6 +10,7 @@ use crate::schedule::{Description, Told, SLOTS};
 use crate::sender::lay;
 use crate::side::LENT;
 use crate::text::{pack, CHARACTERS, HEADER};
+use crate::zero_parameter;
 
 /// The edge cases of an entry.
 pub fn cases(entry: Entry) -> Vec<Case> {
@@ -17,18 +18,18 @@ pub fn cases(entry: Entry) -> Vec<Case> {
         Entry::Start => vec![Case::new(entry, &[], &[&[0; STATE]], &[]), Case::new(entry, &[], &[&[]], &[])],
         Entry::Intake => intake(),
         Entry::WriteBlocks => blocks(),
-        Entry::WriteText => writing(),
-        Entry::ReadText => reading(),
+        Entry::WriteText => [writing(), zero_parameter::texts()].concat(),
+        Entry::ReadText => [reading(), zero_parameter::readings()].concat(),
         Entry::Content => contents(),
         Entry::ReadSchedule => schedules(),
         Entry::Description => places(),
-        Entry::ReadPlan => [plans(), bad_entries::plans()].concat(),
-        Entry::WriteSchedule => [schedules_written(), bad_entries::written()].concat(),
-        Entry::CheckSchedule => [checks(), bad_entries::checked()].concat(),
+        Entry::ReadPlan => [plans(), bad_entries::plans(), zero_parameter::plans()].concat(),
+        Entry::WriteSchedule => [schedules_written(), bad_entries::written(), zero_parameter::written()].concat(),
+        Entry::CheckSchedule => [checks(), bad_entries::checked(), zero_parameter::checked()].concat(),
         Entry::Decide => decisions(),
         Entry::Enter => enterings(),
         Entry::Slots => slots(),
-        Entry::ReadHeader => headers(),
+        Entry::ReadHeader => [headers(), zero_parameter::headers()].concat(),
     }
 }
 
@@ -204,7 +205,7 @@ fn schedules_written() -> Vec<Case> {
 }
 
 /// Pages that differ from a page in one thing, and one that has its numbers in each other's place.
-fn near_pages(page: Page) -> Vec<Page> {
+pub fn near_pages(page: Page) -> Vec<Page> {
     vec![
         Page { serial: 0x0110, ..page },
         Page { identifier: 0x0001, ..page },

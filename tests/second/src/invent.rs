@@ -9,6 +9,7 @@ use crate::schedule::{read_schedule, Description, Told, DESCRIPTIONS, SLOTS};
 use crate::sender::lay;
 use crate::side::LENT;
 use crate::text::{ALPHABET, CHARACTERS};
+use crate::zero_parameter::{by_octets, Plans};
 
 /// Octets of the state and of the output that an intake case carries: more than are lent to a sound call.
 pub const CARRIED: usize = 100;
@@ -469,8 +470,47 @@ fn some_previous(random: &mut Random, current: &Plan, most: usize) -> Plan {
     previous
 }
 
+/// A parameter: 11 or what is treated as it, what is near it and stays, or any. // 002 9.3.2 (iv)
+fn some_form(random: &mut Random) -> u8 {
+    let any = random.octet();
+    random.pick(&[0x11, 0x11, 0x11, 0x00, 0x00, any & 0x0F, any & 0xF0, 0x12, 0x21, 0x22, 0x1F, 0xF1, any])
+}
+
+/// A parameter that makes the same page of another's numbers.
+fn same_form(random: &mut Random, page: Page) -> u8 {
+    let any = random.octet();
+    let form = random.pick(&[0x11, 0x11, 0x00, any & 0x0F, any & 0xF0]);
+    if (Page { parameter: form, ..page }).is_same(page) {
+        form
+    } else {
+        page.parameter
+    }
+}
+
+/// Other parameters for about half of a plan's pages, so that pages meet that differ in nothing else; or only such as
+/// leave them the same pages. // 02 No. 2
+fn put_forms(random: &mut Random, plan: &mut Plan) {
+    let same = random.once_in(2);
+    for entry in &mut plan.entries {
+        let plan::Entry::Page(page) = entry else { continue };
+        if random.once_in(2) {
+            page.parameter = if same { same_form(random, *page) } else { some_form(random) };
+        }
+    }
+}
+
+/// Plans whose pages have several parameters beside the same numbers, often such as fit or don't by them. // 02 No. 2
+fn formed_plans(random: &mut Random, most: usize) -> Plans {
+    let full = most == SLOTS && random.once_in(3);
+    let mut current = if full { full_plan(random) } else { some_plan(random, 1, most) };
+    put_forms(random, &mut current);
+    let mut previous = some_previous(random, &current, most);
+    put_forms(random, &mut previous);
+    [current, previous]
+}
+
 /// What a truthful sender may tell of each slot of a plan. // 01 The plan
-fn some_truth(random: &mut Random, current: &Plan, previous: &Plan) -> Vec<Told> {
+fn some_truth(random: &mut Random, [current, previous]: &Plans) -> Vec<Told> {
     let mut told: Vec<Told> = Vec::new();
     for (at, &entry) in current.entries.iter().enumerate() {
         let slot = at + 1;
@@ -704,8 +744,16 @@ fn one_call(random: &mut Random, taken: u8, calm: usize) -> ([u64; 3], Vec<u8>) 
     ([call.numbers[0], call.numbers[1], call.numbers[2]], call.lists.remove(2))
 }
 
+/// Plans as a sender reads them: of these its message is true.
+type Reading = fn(&Plans) -> Plans;
+
 /// A case that its entry doesn't refuse; its plans and schedules have `most` slots at most.
 pub fn sound(entry: Entry, random: &mut Random, most: usize) -> Case {
+    sound_by(entry, random, most, Plans::clone)
+}
+
+/// The same, but for a checker's message, which is true as its sender reads the plans.
+pub fn sound_by(entry: Entry, random: &mut Random, most: usize, reading: Reading) -> Case {
     let received = random.pick(&[22, 44, 66, 88]);
     match entry {
         Entry::Start => Case::new(entry, &[], &[&random.octets(STATE)], &[]),
@@ -728,7 +776,7 @@ pub fn sound(entry: Entry, random: &mut Random, most: usize) -> Case {
         Entry::Description => sound_description(random, most),
         Entry::ReadPlan => Case::new(entry, &[], &[&some_plan(random, 0, most).file()], &[]),
         Entry::WriteSchedule => sound_writing(random, most),
-        Entry::CheckSchedule => checked(random, most, false),
+        Entry::CheckSchedule => checked(random, most, false, reading),
         Entry::Decide => sound_decision(random, most),
         Entry::Enter => sound_entering(random, most),
         Entry::Slots => {
@@ -750,23 +798,49 @@ fn sound_description(random: &mut Random, most: usize) -> Case {
 fn sound_writing(random: &mut Random, most: usize) -> Case {
     let current = some_plan(random, 1, most);
     let previous = some_previous(random, &current, most);
+    writing(random, &[current, previous])
+}
+
+fn writing(random: &mut Random, [current, previous]: &Plans) -> Case {
     let begin = random.within(1, current.count()) as u64;
     Case::new(Entry::WriteSchedule, &[begin, MESSAGE as u64], &[&current.file(), &previous.file()], &[])
 }
 
-/// A truthful message beside its plans, or one that lies at a slot or two.
-fn checked(random: &mut Random, most: usize, lies: bool) -> Case {
+/// A message that is true of the plans as they are read, or one that lies at a slot or two.
+fn checked(random: &mut Random, most: usize, lies: bool, reading: Reading) -> Case {
     loop {
         let current = some_plan(random, 1, most);
         let previous = some_previous(random, &current, most);
-        let mut told = some_truth(random, &current, &previous);
+        let plans = [current, previous];
+        let mut told = some_truth(random, &reading(&plans));
         if lies {
             lie(random, &mut told);
         }
-        let begin = random.within(1, told.len());
-        if let Some((message, received)) = sent(random, begin, &told) {
-            let lists: [&[u8]; 3] = [&current.file(), &previous.file(), &message];
-            return Case::new(Entry::CheckSchedule, &[received], &lists, &[]);
+        if let Some(case) = checking(random, &plans, &told) {
+            return case;
+        }
+    }
+}
+
+/// A message that tells this, beside plans, if it fits.
+fn checking(random: &mut Random, [current, previous]: &Plans, told: &[Told]) -> Option<Case> {
+    let begin = random.within(1, told.len());
+    let (message, received) = sent(random, begin, told)?;
+    Some(Case::new(Entry::CheckSchedule, &[received], &[&current.file(), &previous.file(), &message], &[]))
+}
+
+/// Plans with pages in several forms, beside a message that is true of them, or that would be by the octet as sent; now
+/// and then with a lie.
+fn checked_forms(random: &mut Random, most: usize) -> Case {
+    loop {
+        let plans = formed_plans(random, most);
+        let reading: Reading = random.pick(&[Plans::clone, by_octets]);
+        let mut told = some_truth(random, &reading(&plans));
+        if random.once_in(8) {
+            lie(random, &mut told);
+        }
+        if let Some(case) = checking(random, &plans, &told) {
+            return case;
         }
     }
 }
@@ -843,20 +917,56 @@ fn some_wanted(random: &mut Random, message: &[u8]) -> u16 {
     random.pick(&[there, there & 0x7FFF, 0x0001, 0x8001, 0x0002, any])
 }
 
-/// A case that isn't refused but is close to an edge, where the entry has such.
+/// A case that isn't refused but is close to an edge, where the entry has such. A checker's message is told by the
+/// octet as sent, so that what it is given doesn't hang on which pages are the same.
 fn near(entry: Entry, random: &mut Random, most: usize) -> Case {
     match entry {
-        Entry::CheckSchedule => checked(random, most, true),
+        Entry::CheckSchedule => checked(random, most, true, by_octets),
         _ => sound(entry, random, most),
     }
 }
 
-/// Any case: sound, near an edge, with one fault or several, damaged, or wild.
+/// A case of an entry that takes plans, with pages in several forms; one of another entry is as others. // 02 No. 2
+pub fn formed(entry: Entry, random: &mut Random, most: usize) -> Case {
+    match entry {
+        Entry::ReadPlan => Case::new(entry, &[], &[&formed_plans(random, most)[0].file()], &[]),
+        Entry::WriteSchedule => {
+            let plans = formed_plans(random, most);
+            writing(random, &plans)
+        }
+        Entry::CheckSchedule => checked_forms(random, most),
+        _ => near(entry, random, most),
+    }
+}
+
+/// Any case: of an entry that takes plans, every other one has pages in several forms.
 pub fn any(entry: Entry, random: &mut Random, most: usize) -> Case {
+    match entry {
+        Entry::ReadPlan | Entry::WriteSchedule | Entry::CheckSchedule if random.once_in(2) => {
+            any_formed(entry, random, most)
+        }
+        _ => any_plain(entry, random, most),
+    }
+}
+
+/// Any case: sound, near an edge, with one fault or several, damaged, or wild.
+pub fn any_plain(entry: Entry, random: &mut Random, most: usize) -> Case {
     if entry == Entry::Intake && !random.once_in(4) {
         return sequence(random);
     }
-    let mut case = near(entry, random, most);
+    let case = near(entry, random, most);
+    spoilt(case, random)
+}
+
+/// Any case with pages in several forms: as it is made, with one fault or several, damaged, or wild.
+fn any_formed(entry: Entry, random: &mut Random, most: usize) -> Case {
+    let case = formed(entry, random, most);
+    spoilt(case, random)
+}
+
+/// A case as it is, or with faults, damaged or wild.
+fn spoilt(mut case: Case, random: &mut Random) -> Case {
+    let entry = case.entry;
     match random.below(16) {
         0..=7 => {}
         8..=10 => put(&mut case, &some_faults(entry, random, 1), random),

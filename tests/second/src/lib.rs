@@ -1,4 +1,5 @@
-//! A second implementation of the base of document 01 and of document 02's No. 1, written from the documents alone.
+//! A second implementation of the base of document 01 and of document 02's Nos. 1 and 2, written from the documents
+//! alone.
 
 pub mod bad_entries;
 pub mod blocks;
@@ -18,3 +19,4 @@ pub mod shrink;
 pub mod side;
 pub mod stored;
 pub mod text;
+pub mod zero_parameter;

@@ -8,24 +8,59 @@ const VERSION: [u8; 2] = [0, 1]; // 01 The plan
 const HEAD: usize = 6; // 01 The plan: mark, version, count
 const ENTRY: usize = 6; // 01 The plan: per slot
 
-/// What makes two pages the same page. // 01 Page and text
-#[derive(Clone, Copy, Debug, PartialEq, Eq)]
+/// A page as a plan has it, with its parameter as sent. Whether two are the same page, `is_same` alone tells: octets
+/// that differ can be the same page, so pages, entries and plans have no `==`. // 01 The plan, 02 No. 2
+#[derive(Clone, Copy, Debug)]
 pub struct Page {
     pub serial: u16,
     pub identifier: u16,
     pub parameter: u8,
 }
 
-/// What is planned for a slot. // 01 The plan
+/// Which page of how many.
 #[derive(Clone, Copy, Debug, PartialEq, Eq)]
+pub struct Place {
+    pub page: u8,
+    pub total: u8,
+}
+
+impl Page {
+    /// What its parameter is treated as: page 1 of 1 where either half is 0. // 002 9.3.2 (iv), 02 No. 2
+    pub fn place(self) -> Place {
+        let (page, total) = (self.parameter >> 4, self.parameter & 0x0F);
+        if page == 0 || total == 0 {
+            Place { page: 1, total: 1 }
+        } else {
+            Place { page, total }
+        }
+    }
+
+    /// Whether two pages are the same page. // 01 Page and text, 02 No. 2
+    pub fn is_same(self, other: Page) -> bool {
+        self.serial == other.serial && self.identifier == other.identifier && self.place() == other.place()
+    }
+}
+
+/// What is planned for a slot. // 01 The plan
+#[derive(Clone, Copy, Debug)]
 pub enum Entry {
     Optional,
     Advised,
     Page(Page),
 }
 
+impl Entry {
+    /// The page of a slot that has one.
+    pub fn page(self) -> Option<Page> {
+        match self {
+            Entry::Page(page) => Some(page),
+            _ => None,
+        }
+    }
+}
+
 /// A plan: what is planned for slot 1 and on, 48 at most. // 01 The plan
-#[derive(Clone, Debug, Default, PartialEq, Eq)]
+#[derive(Clone, Debug, Default)]
 pub struct Plan {
     pub entries: Vec<Entry>,
 }
@@ -37,7 +72,8 @@ impl Plan {
 
     /// The lowest slot with a page. // 01 The plan
     pub fn lowest(&self, page: Page) -> Option<usize> {
-        let at = self.entries.iter().position(|&entry| entry == Entry::Page(page))?;
+        let has_it = |entry: &Entry| entry.page().is_some_and(|there| there.is_same(page));
+        let at = self.entries.iter().position(has_it)?;
         Some(at + 1)
     }
 
@@ -45,7 +81,7 @@ impl Plan {
         self.lowest(page).is_some()
     }
 
-    /// The plan as a file. // 01 The plan
+    /// The plan as a file, with each parameter as sent. // 01 The plan
     pub fn file(&self) -> Vec<u8> {
         let mut file = [MARK, &VERSION, &[self.count() as u8]].concat();
         for &entry in &self.entries {

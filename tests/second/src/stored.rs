@@ -5,13 +5,14 @@ use std::time::{Duration, Instant};
 use std::{fs, io};
 
 use crate::blocks::MESSAGE;
-use crate::case::{hex, hex_slots, hex_words, Case, Entry, ENTRIES};
+use crate::case::{self, hex, hex_slots, hex_words, Case, Entry, ENTRIES};
 use crate::edges;
-use crate::invent::{any, faults, put, sequence, sound, Fault};
+use crate::invent::{any, any_plain, faults, formed, put, sequence, sound_by, Fault};
 use crate::random::Random;
-use crate::schedule::read_schedule;
+use crate::schedule::{read_schedule, SLOTS};
 use crate::side::{header, output_length, slots_length, text_length, Ours, Side, LENT, LENT_SLOT, LENT_WORD};
 use crate::text::content;
+use crate::zero_parameter::by_octets;
 
 const SEED: u64 = 0x0C50_B7A4_1700_0001;
 const SLOTS_MOST: usize = 6; // slots of most plans and schedules, to keep the files small
@@ -39,8 +40,8 @@ pub fn files() -> Vec<(&'static str, Vec<String>)> {
         ("content.txt", lines(Entry::Content, 30)),
         ("schedule.txt", [lines(Entry::ReadSchedule, 200), lines(Entry::Description, 60)].concat()),
         ("plan.txt", lines(Entry::ReadPlan, 120)),
-        ("writer.txt", lines(Entry::WriteSchedule, 120)),
-        ("checker.txt", lines(Entry::CheckSchedule, 120)),
+        ("writer.txt", [lines(Entry::WriteSchedule, 120), formed_lines(Entry::WriteSchedule, 40)].concat()),
+        ("checker.txt", [lines(Entry::CheckSchedule, 120), formed_lines(Entry::CheckSchedule, 40)].concat()),
         ("decision.txt", lines(Entry::Decide, 120)),
         ("enter.txt", lines(Entry::Enter, 80)),
         ("slots.txt", lines(Entry::Slots, 80)),
@@ -48,20 +49,33 @@ pub fn files() -> Vec<(&'static str, Vec<String>)> {
     ]
 }
 
-/// The edges of an entry, each of its faults, each pair of them, and as many random cases.
+/// The edges of an entry, each of its faults, each pair of them, and as many random cases. What the faulty ones are
+/// given doesn't hang on which pages are the same.
 fn lines_of(entry: Entry, random_cases: usize) -> Vec<String> {
     let mut random = Random::new(SEED ^ entry as u64);
     let mut cases = edges::cases(entry);
     for faults in fault_sets(entry) {
-        let mut case = sound(entry, &mut random, SLOTS_MOST);
+        let mut case = sound_by(entry, &mut random, SLOTS_MOST, by_octets);
         put(&mut case, &faults, &mut random);
         cases.push(case);
     }
-    for round in 0..random_cases {
-        let most = if round % 10 == 0 { 48 } else { SLOTS_MOST };
-        cases.push(any_call(entry, &mut random, most));
-    }
+    cases.extend((0..random_cases).map(|round| any_call(any_plain, entry, &mut random, most_slots(round))));
     cases.iter().map(line).collect()
+}
+
+/// Random cases with pages in several forms. // 02 No. 2
+fn formed_lines(entry: Entry, count: usize) -> Vec<String> {
+    let mut random = Random::new(!SEED ^ entry as u64);
+    (0..count).map(|round| line(&any_call(formed, entry, &mut random, most_slots(round)))).collect()
+}
+
+/// Every tenth random case has up to 48 slots.
+fn most_slots(round: usize) -> usize {
+    if round % 10 == 0 {
+        SLOTS
+    } else {
+        SLOTS_MOST
+    }
 }
 
 /// Writes the edges of every entry, and then invented cases of each in turn until the time is over.
@@ -74,7 +88,7 @@ pub fn lines(to: &mut impl io::Write, seed: u64, time: Duration) -> io::Result<(
     while begun.elapsed() < time {
         for (entry, random) in &mut randoms {
             let most = random.pick(&[3, 8, 48, 48]);
-            writeln!(to, "{}", line(&any_call(*entry, random, most)))?;
+            writeln!(to, "{}", line(&any_call(any, *entry, random, most)))?;
             if *entry == Entry::Intake {
                 writeln!(to, "{}", sequence_line(&sequence(random)))?;
             }
@@ -94,10 +108,13 @@ pub fn fault_sets(entry: Entry) -> Vec<Vec<Fault>> {
     sets
 }
 
-/// Any case that is one call and no longer than a line should be; sequences of intake have lines of their own.
-fn any_call(entry: Entry, random: &mut Random, most: usize) -> Case {
+/// Invents a case of an entry, with so many slots at most.
+type Invent = fn(Entry, &mut Random, usize) -> Case;
+
+/// An invented case that is one call and no longer than a line should be; sequences of intake have lines of their own.
+fn any_call(invent: Invent, entry: Entry, random: &mut Random, most: usize) -> Case {
     loop {
-        let mut case = any(entry, random, most);
+        let mut case = invent(entry, random, most);
         if entry == Entry::Description {
             case.numbers[2] = 1;
         }
@@ -149,6 +166,33 @@ pub fn line(case: &Case) -> String {
         Entry::ReadHeader => ("H", header_fields(case)),
     };
     format!("{letter} {}", fields.join(" "))
+}
+
+/// The call of a line, where its fields are all that the call is given; none for N, I, Q, G and other files' letters.
+pub fn case_of(line: &str) -> Option<Case> {
+    let fields: Vec<&str> = line.split(' ').collect();
+    let (entry, numbers, lists, words): (Entry, &[usize], &[usize], &[usize]) = match fields[0] {
+        "B" => (Entry::WriteBlocks, &[1, 2, 4], &[3], &[]),
+        "T" => (Entry::WriteText, &[1, 2, 3, 4, 6], &[], &[5]),
+        "R" => (Entry::ReadText, &[2, 3], &[1], &[]),
+        "C" => (Entry::Content, &[2], &[1], &[]),
+        "S" => (Entry::ReadSchedule, &[2], &[1], &[]),
+        "P" => (Entry::ReadPlan, &[], &[1], &[]),
+        "W" => (Entry::WriteSchedule, &[3, 4], &[1, 2], &[]),
+        "K" => (Entry::CheckSchedule, &[4], &[1, 2, 3], &[]),
+        "D" => (Entry::Decide, &[1, 3, 4, 6], &[2], &[5]),
+        "E" => (Entry::Enter, &[1, 3, 4, 5], &[2], &[]),
+        "L" => (Entry::Slots, &[2, 3], &[1], &[]),
+        "H" => (Entry::ReadHeader, &[], &[1], &[]),
+        _ => return None,
+    };
+    let field = |&at: &usize| fields[at].trim_matches('-');
+    Some(Case {
+        entry,
+        numbers: numbers.iter().map(|at| u64::from_str_radix(field(at), 16).ok()).collect::<Option<Vec<u64>>>()?,
+        lists: lists.iter().map(|at| case::octets(field(at))).collect::<Option<Vec<Vec<u8>>>>()?,
+        words: words.iter().map(|at| case::words(field(at))).collect::<Option<Vec<Vec<u16>>>>()?.concat(),
+    })
 }
 
 fn start_fields(case: &Case) -> Vec<String> {

@@ -6,14 +6,15 @@ use std::time::Duration;
 
 use second::case::{octets, Case, Entry, ENTRIES};
 use second::compare::{compare, differ};
-use second::invent::{faults, put, sound};
+use second::invent::{any, faults, put, sound};
 use second::random::Random;
 use second::refusal::number_of;
 use second::schedule::{read_schedule, SLOTS};
 use second::shrink::shrink;
 use second::side::{run, Ours, Side, GUARD, LENT_SLOT};
-use second::stored::files;
+use second::stored::{case_of, files};
 use second::text::Header;
+use second::zero_parameter::files_by_octets;
 
 fn number(case: &Case) -> u8 {
     run(case, &Ours).returned[0] as u8
@@ -154,7 +155,7 @@ fn stored_results_are_the_same_each_time_and_small() {
     assert_eq!(one, other);
     for (name, lines) in one {
         let octets: usize = lines.iter().map(|line| line.len() + 1).sum();
-        assert!(octets <= 200_000, "{name}: {octets}");
+        assert!(octets <= 262_144, "{name}: {octets}"); // what trial reads of a file
     }
 }
 
@@ -169,8 +170,8 @@ fn a_case_is_read_back_from_its_text() {
 }
 
 /// This implementation, but for a decision that compares 16 bits, a reader of text and one of slots that touch memory
-/// with a refusal, a repeat entered under its own slot, a serial number taken for an identifier, and entries of a plan
-/// counted from 0.
+/// with a refusal, a repeat entered under its own slot, a serial number taken for an identifier, entries of a plan
+/// counted from 0, and pages compared by the octet as sent.
 struct Wrong;
 
 impl Side for Wrong {
@@ -211,10 +212,12 @@ impl Side for Wrong {
         }
     }
     fn write_schedule(&self, current: &mut [u8], previous: &mut [u8], begin: usize, out: &mut [u8]) -> u64 {
-        Ours.write_schedule(current, previous, begin, out)
+        let [mut current, mut previous] = files_by_octets(current, previous);
+        Ours.write_schedule(&mut current, &mut previous, begin, out)
     }
     fn check_schedule(&self, current: &mut [u8], previous: &mut [u8], message: &mut [u8], received: usize) -> u64 {
-        Ours.check_schedule(current, previous, message, received)
+        let [mut current, mut previous] = files_by_octets(current, previous);
+        Ours.check_schedule(&mut current, &mut previous, message, received)
     }
     fn decide(
         &self,
@@ -284,6 +287,48 @@ fn an_entry_counted_from_0_is_found() {
     let compared = compare(&[Entry::ReadPlan], 9, Duration::from_secs(20), &Ours, &Wrong);
     let case = compared.difference.expect("a difference");
     assert_eq!((run(&case, &Ours).returned[0] >> 8, case.lists[0].len()), (1, 12), "nothing but the bad entry is left");
+}
+
+#[test]
+fn pages_compared_by_the_octet_as_sent_are_found() {
+    for entry in [Entry::WriteSchedule, Entry::CheckSchedule] {
+        let compared = compare(&[entry], 10, Duration::from_secs(20), &Ours, &Wrong);
+        let case = compared.difference.expect("a difference");
+        assert_eq!(case.lists[0].len() + case.lists[1].len(), 24, "nothing but two slots is left: {}", case.text());
+    }
+}
+
+/// The numbers that this implementation and the wrong one give, where they answer differently.
+fn apart(case: &Case) -> Option<[u8; 2]> {
+    let numbers = [run(case, &Ours), run(case, &Wrong)].map(|outcome| outcome.returned[0] as u8);
+    differ(case, &Ours, &Wrong).then_some(numbers)
+}
+
+#[test]
+fn many_invented_cases_turn_on_a_zero_half() {
+    let mut random = Random::new(14);
+    let mut apart_of = |entry: Entry| -> Vec<[u8; 2]> {
+        let most = [3, 8, 48, 48].into_iter().cycle();
+        most.take(8_000).filter_map(|most| apart(&any(entry, &mut random, most))).collect()
+    };
+    let count = |all: &[[u8; 2]], numbers: [u8; 2]| all.iter().filter(|&&apart| apart == numbers).count();
+    let written = apart_of(Entry::WriteSchedule);
+    assert!(count(&written, [0, 0]) > 1_000, "other messages: {}", count(&written, [0, 0]));
+    assert!(count(&written, [0, 34]) > 40, "fits: {}", count(&written, [0, 34]));
+    let checked = apart_of(Entry::CheckSchedule);
+    for (numbers, least) in [([0, 40], 400), ([40, 0], 400), ([40, 40], 100)] {
+        assert!(count(&checked, numbers) > least, "{numbers:?}: {}", count(&checked, numbers));
+    }
+}
+
+#[test]
+fn many_stored_results_turn_on_a_zero_half() {
+    let files = files();
+    for (letter, least) in [("W ", 150), ("K ", 80)] {
+        let lines = files.iter().flat_map(|(_, lines)| lines).filter(|line| line.starts_with(letter));
+        let count = lines.filter_map(|line| apart(&case_of(line)?)).count();
+        assert!(count > least, "{letter}: {count}");
+    }
 }
 
 #[test]

@@ -1,4 +1,5 @@
-//! Document 01's edges: every case marked P, the listing example, and its words on slots, the held set and the header.
+//! Document 01's edges: every case marked P, the listing example, and its words on slots, the held set and the header;
+//! and the results in `crates/trial/data/paper.txt`.
 
 use second::blocks::{write_blocks, Kind, FILL};
 use second::case::{hex, octets};
@@ -11,6 +12,7 @@ use second::refusal::Refusal;
 use second::schedule::{read_schedule, write_slots, SLOTS};
 use second::sender::write_schedule;
 use second::side::{Ours, Side};
+use second::stored::{case_of, line};
 use second::text::{read_header, read_text, septet, write_text, Header, ALPHABET, CHARACTERS};
 
 const HEADER: Header = Header { serial: 0x0010, identifier: 0x8001, scheme: 0, parameter: 0x11 };
@@ -265,4 +267,17 @@ fn header_read() {
     for length in (0..=200).filter(|&length| length != 88) {
         assert_eq!(Ours.read_header(&mut vec![0xFF; length]), 16);
     }
+}
+
+const PAPER: &str = include_str!("../../../crates/trial/data/paper.txt");
+
+#[test]
+fn the_papers_results() {
+    let mut count = 0;
+    for paper in PAPER.lines() {
+        let Some(case) = case_of(paper) else { continue };
+        assert_eq!(line(&case), paper);
+        count += 1;
+    }
+    assert_eq!(count, 392);
 }

@@ -1,9 +1,9 @@
 //! Results that other people's programs confirm, in `crates/trial/data/peers.txt`.
 
-use second::case::{hex, octets, words, Case, Entry};
+use second::case::{hex, octets, words};
 use second::intake::STATE;
 use second::side::{Ours, Side};
-use second::stored::line;
+use second::stored::{case_of, line};
 use second::text::{pack, read_text, septet, unpack, ALPHABET, CHARACTERS};
 
 const PEERS: &str = include_str!("../../../crates/trial/data/peers.txt");
@@ -16,21 +16,6 @@ fn number(field: &str) -> u64 {
     u64::from_str_radix(field, 16).unwrap()
 }
 
-/// What a line of the formats in README.md gives a call.
-fn case_of(fields: &[&str]) -> Case {
-    let numbers = |at: &[usize]| at.iter().map(|&at| number(fields[at])).collect::<Vec<u64>>();
-    match fields[0] {
-        "B" => Case::new(Entry::WriteBlocks, &numbers(&[1, 2, 4]), &[&list(fields[3])], &[]),
-        "T" => {
-            let text = words(fields[5].trim_matches('-')).unwrap();
-            Case::new(Entry::WriteText, &numbers(&[1, 2, 3, 4, 6]), &[], &text)
-        }
-        "R" => Case::new(Entry::ReadText, &numbers(&[2, 3]), &[&list(fields[1])], &[]),
-        "S" => Case::new(Entry::ReadSchedule, &numbers(&[2]), &[&list(fields[1])], &[]),
-        other => panic!("no such line: {other}"),
-    }
-}
-
 #[test]
 fn all_agree() {
     let mut count = 0;
@@ -40,11 +25,11 @@ fn all_agree() {
             "X" => packing(&list(fields[1]), &list(fields[2])),
             "A" => assert_eq!(ALPHABET[number(fields[1]) as usize], number(fields[2]) as u16),
             "V" => taken(&fields[1..]),
-            _ => assert_eq!(line(&case_of(&fields)), peer),
+            _ => assert_eq!(line(&case_of(peer).expect("a call")), peer),
         }
         count += 1;
     }
-    assert_eq!(count, 214);
+    assert_eq!(count, 359);
 }
 
 fn packing(septets: &[u8], packed: &[u8]) {

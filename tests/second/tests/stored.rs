@@ -3,7 +3,7 @@
 use std::fs;
 use std::path::PathBuf;
 
-use second::stored::files;
+use second::stored::{case_of, files, line};
 
 fn trial() -> PathBuf {
     PathBuf::from(env!("CARGO_MANIFEST_DIR")).join("../../crates/trial")
@@ -18,6 +18,17 @@ fn stored_results_are_what_is_written() {
         }
         let text: String = lines.iter().map(|line| format!("{line}\n")).collect();
         assert!(stored == text, "{name} has more or fewer lines than are written, or other line ends");
+    }
+}
+
+#[test]
+fn a_line_tells_its_call() {
+    let letters = ["N", "I", "Q", "G"]; // more than one call, or memory that a line has only a part of
+    for stored in files().iter().flat_map(|(_, lines)| lines) {
+        match case_of(stored) {
+            Some(case) => assert_eq!(line(&case), *stored),
+            None => assert!(letters.contains(&&stored[..1]), "{stored}"),
+        }
     }
 }
 

@@ -1,12 +1,11 @@
 //! Document 02's No. 1: a refused plan names its lowest bad entry, and whether the kind is unknown or a free slot carries
 //! a page's octets.
 
-use second::case::{octets, Case, Entry};
+use second::case::{Case, Entry};
 use second::invent::any;
 use second::plan::read_plan;
 use second::random::Random;
 use second::side::{run, Ours, Side};
-use second::stored::line;
 
 const PAGE: [u8; 6] = [2, 0x00, 0x10, 0x80, 0x01, 0x11];
 const KIND: [u8; 6] = [3, 0, 0, 0, 0, 0];
@@ -256,30 +255,4 @@ fn no_refusal_but_36_and_37_names_an_entry_and_none_is_33() {
             }
         }
     }
-}
-
-const PAPER: &str = include_str!("../../../crates/trial/data/paper.txt");
-
-/// What a line of plans in the formats of README.md gives a call; none where it is a line of something else.
-fn case_of(line: &str) -> Option<Case> {
-    let fields: Vec<&str> = line.split(' ').collect();
-    let number = |at: usize| u64::from_str_radix(fields[at], 16).unwrap();
-    let list = |at: usize| octets(fields[at].trim_matches('-')).unwrap();
-    match fields[0] {
-        "P" => Some(Case::new(Entry::ReadPlan, &[], &[&list(1)], &[])),
-        "W" => Some(Case::new(Entry::WriteSchedule, &[number(3), number(4)], &[&list(1), &list(2)], &[])),
-        "K" => Some(Case::new(Entry::CheckSchedule, &[number(4)], &[&list(1), &list(2), &list(3)], &[])),
-        _ => None,
-    }
-}
-
-#[test]
-fn the_papers_results() {
-    let mut count = 0;
-    for paper in PAPER.lines() {
-        let Some(case) = case_of(paper) else { continue };
-        assert_eq!(line(&case), paper);
-        count += 1;
-    }
-    assert_eq!(count, 157);
 }
