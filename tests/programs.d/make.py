@@ -140,6 +140,11 @@ def pages_log():
     return b"".join(parts)
 
 
+def zero_log():
+    """A page with parameter 00, in one block."""
+    return blocks(bytes([0x00, 0x10, 0x80, 0x01, 0x00, 0x00]) + packed("Gate 3"), 12, first=0)
+
+
 def chunk_log():
     """A whole chunk of 1,024 pieces and nothing behind it: its last piece ends a schedule message for FULL."""
     return OTHERS * 255 + blocks(*message(48, told(FULL, [])))
@@ -215,6 +220,12 @@ FILES = {
     "set-kind.plan": with_entries(TEN, {4: (1, 0, 0x0100, 0), 7: (4, 0, 0, 0)}),
     # and what comes before such an entry
     "kind9-long.plan": with_entries(TEN, {7: (9, 0, 0, 0)}) + b"\x00",
+    # document 02, No. 2: a zero in the page parameter is page 1 of 1, so the plan is that of two.plan
+    "zero.plan": plan_file([page(0x0010, 0x8001, 0x00), page(0x0010, 0x8001, 0x11)]),
+    # and a page 2 of 1, which is another
+    "other.plan": plan_file([page(0x0010, 0x8001, 0x21)]),
+    # a page with the zero, which is shown as it was sent
+    "zero.log": zero_log(),
     "log": log(),
     "log.list": listed(log()),
     # the log's whole pieces: what is listed where a read fails behind its last octet
