@@ -8,7 +8,7 @@
 #include "plain_simple.h"
 
 enum { MESSAGE = 88, SLOTS = 48, WANTED = 64, HEADER = 8, FRONT = 6, ENTRY = 6 };
-enum { FIRST = 0x8000, REPEATS = 0x40, OPTIONAL = 0x40, ADVISED = 0x41, PAGE = 2 };
+enum { FIRST = 0x8000, REPEATS = 0x40, OPTIONAL = 0x40, ADVISED = 0x41, PAGE = 2, SINGLE = 0x11 };
 
 /* An entry where it stands in its file. */
 static const uint8_t *entry(const uint8_t *file, unsigned slot)
@@ -16,12 +16,21 @@ static const uint8_t *entry(const uint8_t *file, unsigned slot)
     return file + FRONT + ENTRY * slot;
 }
 
-/* The entries of a file, each with its kind and name in one word. */
+/* What a receiver takes a page parameter for: with 0 in either half, page 1 of 1. */
+static uint8_t parameter_read(uint8_t parameter)
+{
+    return parameter >> 4 == 0 || (parameter & 0x0F) == 0 ? SINGLE : parameter;
+}
+
+/* The entries of a file, each with its kind and name in one word, its page parameter as it is read. */
 static void words_of(const uint8_t *file, unsigned count, uint64_t *words)
 {
     for (unsigned slot = 0; slot < count; slot++) {
-        words[slot] = 0;
-        memcpy(words + slot, entry(file, slot), ENTRY);
+        uint8_t name[sizeof *words] = {0};
+
+        memcpy(name, entry(file, slot), ENTRY);
+        name[ENTRY - 1] = parameter_read(name[ENTRY - 1]);
+        memcpy(words + slot, name, sizeof name);
     }
 }
 

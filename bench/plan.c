@@ -26,7 +26,10 @@ static size_t file_length(unsigned count)
     return PLAN_FRONT + PLAN_ENTRY * count;
 }
 
-/* A good plan file of some pages; a few of its slots are optional or advised. */
+/* Page parameters that are one page, but for the last. */
+static const uint8_t parameters[] = {0x00, 0x0F, 0xF0, 0x11, 0x21};
+
+/* A good plan file of some pages; a few of its slots are optional or advised, and some pages come with another parameter. */
 static void make_plan(uint64_t *row, uint8_t pages[PLAN_PAGES][PLAN_ENTRY], unsigned different, unsigned count, uint8_t *file)
 {
     begin_plan(count, file);
@@ -37,6 +40,8 @@ static void make_plan(uint64_t *row, uint8_t pages[PLAN_PAGES][PLAN_ENTRY], unsi
             entry[0] = (uint8_t)(draw(row) % 2);
         else
             memcpy(entry, pages[draw(row) % different], PLAN_ENTRY);
+        if (entry[0] == 2 && one_in(row, 2))
+            entry[PLAN_ENTRY - 1] = parameters[draw(row) % sizeof parameters];
     }
 }
 
