@@ -100,6 +100,9 @@ uint32_t cb_intake(uint8_t *state, size_t state_len, const uint8_t *piece, size_
  *   octet 5      coding scheme; 00 to 0F hex are the default alphabet's
  *   octet 6      page parameter: the page's number in the high half, the total of pages in the low half
  *
+ * Two pages are the same page if serial number, message identifier and page parameter are equal, where a parameter with
+ * 0 in either half counts as 11 hex, page 1 of 1. Wherever a parameter is handed on, it is the octet that was sent.
+ *
  * The default alphabet is GSM 03.38's, and a code point is 16 bits.
  */
 #define CB_HEADER  6 /* octets of a page's header; the content starts after it */
@@ -159,7 +162,7 @@ uint32_t cb_content(const uint8_t *page, size_t page_len, size_t received);
 #define CB_HEADER_IDENTIFIER(returned) ((uint16_t)((uint64_t)(returned) >> 32 & 0xFFFFu))
 #define CB_HEADER_PARAMETER(returned)  ((uint8_t)((uint64_t)(returned) >> 48 & 0xFFu))
 
-/* The halves of a page parameter: page so many of a total. */
+/* The halves of a page parameter: page so many of a total. If either is 0, a receiver takes the page for page 1 of 1. */
 #define CB_PAGE_OF(parameter)  ((uint32_t)(parameter) >> 4 & 0xFu)
 #define CB_TOTAL_OF(parameter) ((uint32_t)(parameter) & 0xFu)
 
@@ -278,7 +281,8 @@ uint32_t cb_read_plan(const uint8_t *file, size_t file_len);
 
 /*
  * Schedules beside plans. A plan goes in as its file, the current one and the one before it; where there is none before,
- * give a file of count 0.
+ * give a file of count 0. Which slots have the same page goes by what is said of pages above: with parameter 00 in one and
+ * 11 in another, otherwise equal, they have one page.
  */
 #define CB_DESCRIPTIONS_TOO_LONG 34 /* refused: the descriptions need over 80 octets */
 #define CB_PLAN_EMPTY            35 /* refused: the current plan's count is 0 */
