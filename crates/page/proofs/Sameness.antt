@@ -20,19 +20,19 @@ read-below : (p : ℕ) → p < 0x100 → parameterRead p < 0x100
 read-below p l = true-or-false (eqb (p / 16) 0 || eqb (p % 16) 0) (λ e. rw e (lit< tt)) (λ e. rw e l)
 
 -- every part that tells a page is equal
-pub record Equal (a b : Name) : Type 0 where
-  pub serial : a .serial ≡ b .serial
-  pub id : a .id ≡ b .id
-  pub parameter : parameterRead (a .parameter) ≡ parameterRead (b .parameter)
+record Equal (a b : Name) : Type 0 where
+  serial : a .serial ≡ b .serial
+  id : a .id ≡ b .id
+  parameter : parameterRead (a .parameter) ≡ parameterRead (b .parameter)
 
-pub equal : (a b : Name) → Same a b → Equal a b
+equal : (a b : Name) → Same a b → Equal a b
 unfolding samePage
 equal a b h =
     let s = both (eqb (a .serial) (b .serial)) _ h in
     let t = both (eqb (a .id) (b .id)) _ (s .1) in
     record { serial = eqb-true _ _ (s .0); id = eqb-true _ _ (t .0); parameter = eqb-true _ _ (t .1) }
 
-pub alike : (a b : Name) → Equal a b → Same a b
+alike : (a b : Name) → Equal a b → Same a b
 unfolding samePage
 alike a b h = simp (eq-eqb _ _ (h .serial), eq-eqb _ _ (h .id), eq-eqb _ _ (h .parameter))
 
@@ -85,7 +85,7 @@ zero-or-not p f g =
     (λ b. f (inr (eqb-true (p % 16) 0 b)))
     (λ b. g (⊎-elim (eqb-false (p / 16) 0 a) (eqb-false (p % 16) 0 b))))
 
--- any two samenesses of which the request is true are equal: first where one page has no zero half, then everywhere
+-- any two samenesses that follow the documents are equal: first where one page has no zero half, then everywhere
 module _ (q r : Name → Name → Bool) (f : Follows q) (g : Follows r) where
   abbrev single : Name → Name
   single a = record { serial = a .serial; id = a .id; parameter = 0x11 }

@@ -64,7 +64,7 @@ twoFirsts = 0x80 ∷ 0x01 ∷ 0x80 ∷ 0x01 ∷ []
 -- 02 No. 2: for each case, what the definitions give and what the request says
 abbrev pub cases : List (List ℕ × List ℕ)
 cases =
-    -- a plan with parameters 00 and then 11 has one page and a repeat, and so have 11 and then 00
+    -- a plan with parameters 00 and then 11 has one page and a repeat, and so has one with 11 and then 00
     (writtenWith (0x00 ∷ 0x11 ∷ []) [], 256 * 11 ∷ telling 0xc0 oneAndRepeat)
     ∷ (writtenWith (0x11 ∷ 0x00 ∷ []) [], 256 * 11 ∷ telling 0xc0 oneAndRepeat)
     -- 0 in either half is enough
