@@ -3,8 +3,8 @@ use Rattle.laws.proofs.Base.{_≡_, refl, sym, _∙_, Bool, _||_, or-true, fals
 use Rattle.laws.proofs.Tests.{true-or-false, both}
 use Rattle.page.specs.Paper.{Name, parameterRead, samePage}
 use Rattle.page.specs.Coded.{keyOf}
-pub use Rattle.page.specs.Claims.{Same, ZeroHalf, Small}
-use Rattle.page.specs.Claims.{SameDecided, SameReflexive, SameSymmetric, SameTransitive, SameIdentifier}
+pub use Rattle.page.specs.Claims.{Same, Small}
+use Rattle.page.specs.Claims.{ZeroHalf, SameDecided, SameReflexive, SameSymmetric, SameTransitive, SameIdentifier}
 use Rattle.page.specs.Claims.{ParametersRead, samePageIn01, Follows, SamenessSettled, KeySame}
 
 -- a parameter with a zero half is read as 11, every other as it was sent

@@ -1,5 +1,5 @@
 -- `page::key` meets its contract: the number is made as the definition's is, of the parameter as it is read.
-use Rattle.laws.proofs.Base.{needs}
+use Rattle.laws.proofs.Base.{arith, needs}
 use Rattle.page.specs.Coded.{keyOf}
 use Rattle.page.proofs.key as own
 use own.Statement.{statement}
@@ -7,7 +7,7 @@ use own.Tie as tie
 
 returns : tie.Need-returns
 unfolding keyOf
-returns c = rw (c .before .before .parameter-read .ensures)
+returns c = omega arith
 
 pub key-spec : {M : Type 1} → statement M
 key-spec =
