@@ -4,7 +4,7 @@ use Rattle.refusals.specs as defs
 use defs.declared.Refusal.{Refusal}
 use defs.declared.Refusal.the-variants.{PieceLength, Discriminator, ReservedCode, NullCode, NotNext, StateImproper, TextLength, NotInAlphabet, EndsInCr, Scheme}
 use defs.declared.Refusal.the-variants.{PageParameter, OutputLength, MessageLength, UsedOctets, ReceivedOctets, ScheduleType, BeginOrEnd, NewPastEnd, DescriptionPastReceived}
-use defs.declared.Refusal.the-variants.{RepeatOfNoFirst, PlanMark, PlanVersion, PlanLength, DescriptionsTooLong, PlanEmpty, PlanKind, PlanStray, Untrue, SlotNumber, WantedCount}
+use defs.declared.Refusal.the-variants.{RepeatOfNoFirst, PlanMark, PlanVersion, PlanLength, DescriptionsTooLong, PlanEmpty, PlanKind, PlanStray, Untrue, SlotNumber, WantedCount, PageOverTotal}
 use defs.Number.{numberOf}
 
 -- the first of some refusals that has a number
@@ -19,7 +19,7 @@ refusalOf n =
     (PieceLength ∷ Discriminator ∷ ReservedCode ∷ NullCode ∷ NotNext ∷ StateImproper
     ∷ TextLength ∷ NotInAlphabet ∷ EndsInCr ∷ Scheme ∷ PageParameter ∷ OutputLength ∷ MessageLength ∷ UsedOctets ∷ ReceivedOctets
     ∷ ScheduleType ∷ BeginOrEnd ∷ NewPastEnd ∷ DescriptionPastReceived ∷ RepeatOfNoFirst
-    ∷ PlanMark ∷ PlanVersion ∷ PlanLength ∷ DescriptionsTooLong ∷ PlanEmpty ∷ PlanKind ∷ PlanStray ∷ Untrue ∷ SlotNumber ∷ WantedCount ∷ [])
+    ∷ PlanMark ∷ PlanVersion ∷ PlanLength ∷ DescriptionsTooLong ∷ PlanEmpty ∷ PlanKind ∷ PlanStray ∷ Untrue ∷ SlotNumber ∷ WantedCount ∷ PageOverTotal ∷ [])
 
 -- `refusalOf` undoes `numberOf`
 pub refusalOf-numberOf : (r : Refusal) → refusalOf (numberOf r) ≡ r
@@ -53,6 +53,7 @@ refusalOf-numberOf PlanStray = refl
 refusalOf-numberOf Untrue = refl
 refusalOf-numberOf SlotNumber = refl
 refusalOf-numberOf WantedCount = refl
+refusalOf-numberOf PageOverTotal = refl
 
 -- two refusals of one number are one refusal
 pub numberOf-injective : (r s : Refusal) → numberOf r ≡ numberOf s → r ≡ s

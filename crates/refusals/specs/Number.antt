@@ -4,9 +4,9 @@ use Rattle.refusals.specs.declared.Refusal.{Refusal}
 use Rattle.refusals.specs.declared.Refusal.the-variants.{PieceLength, Discriminator, ReservedCode, NullCode, NotNext, StateImproper, TextLength, NotInAlphabet}
 use Rattle.refusals.specs.declared.Refusal.the-variants.{EndsInCr, Scheme, PageParameter, OutputLength, MessageLength, UsedOctets, ReceivedOctets}
 use Rattle.refusals.specs.declared.Refusal.the-variants.{ScheduleType, BeginOrEnd, NewPastEnd, DescriptionPastReceived, RepeatOfNoFirst, PlanMark}
-use Rattle.refusals.specs.declared.Refusal.the-variants.{PlanVersion, PlanLength, DescriptionsTooLong, PlanEmpty, PlanKind, PlanStray, Untrue, SlotNumber, WantedCount}
+use Rattle.refusals.specs.declared.Refusal.the-variants.{PlanVersion, PlanLength, DescriptionsTooLong, PlanEmpty, PlanKind, PlanStray, Untrue, SlotNumber, WantedCount, PageOverTotal}
 
--- 01 Numbers given; 02 No. 1 for 36 and 37
+-- 01 Numbers given; 02 No. 1 for 36 and 37, No. 3 for 50
 abbrev pub numberOf : Refusal → ℕ
 numberOf PieceLength = 2
 numberOf Discriminator = 3
@@ -38,3 +38,4 @@ numberOf PlanStray = 37
 numberOf Untrue = 40
 numberOf SlotNumber = 41
 numberOf WantedCount = 42
+numberOf PageOverTotal = 50

@@ -13,7 +13,7 @@ pub enum Refusal {
     NullCode,
     // second to fourth block, but not the next one
     NotNext,
-    // state not proper, or a lent state not 90 octets
+    // state not proper, or a lent state not 90 octets; collector not proper, or not 1,340 octets
     StateImproper,
     // text over 93 characters
     TextLength,
@@ -63,6 +63,8 @@ pub enum Refusal {
     SlotNumber,
     // over 64 wanted identifiers
     WantedCount,
+    // a page to be collected is over its total
+    PageOverTotal,
 }
 
 // The refusal's number in the table.
@@ -100,5 +102,6 @@ pub fn number(refusal: Refusal) -> u8
         Refusal::Untrue => 40,
         Refusal::SlotNumber => 41,
         Refusal::WantedCount => 42,
+        Refusal::PageOverTotal => 50,
     }
 }

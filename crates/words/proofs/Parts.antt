@@ -15,42 +15,42 @@ abbrev pub starts : List ℕ
 starts =
     0 ∷ 0 ∷ 0 ∷ 31 ∷ 71 ∷ 108 ∷ 133 ∷ 177 ∷ 177 ∷ 220 ∷ 220 ∷ 255 ∷ 289 ∷ 308 ∷ 337 ∷ 402 ∷ 433 ∷ 466 ∷ 498 ∷ 542 ∷
     542 ∷ 570 ∷ 610 ∷ 645 ∷ 685 ∷ 731 ∷ 731 ∷ 731 ∷ 731 ∷ 731 ∷ 731 ∷ 763 ∷ 790 ∷ 861 ∷ 861 ∷ 897 ∷ 926 ∷ 960 ∷
-    1002 ∷ 1002 ∷ 1002 ∷ 1039 ∷ 1062 ∷ 1092 ∷ []
+    1002 ∷ 1002 ∷ 1002 ∷ 1039 ∷ 1062 ∷ 1092 ∷ 1092 ∷ 1092 ∷ 1092 ∷ 1092 ∷ 1092 ∷ 1092 ∷ 1092 ∷ 1127 ∷ []
 
 abbrev part : ℕ → List ℕ
 part n = take (getD starts (n + 1) 0 - getD starts n 0) (drop (getD starts n 0) allWords)
 
-parts : each words 43 ≡ each part 43
+parts : each words 51 ≡ each part 51
 unfolding each ascii find joined
 parts = refl
 
-pub part-is : (all : List ℕ) → all ≡ allWords → (n : ℕ) → n < 43 → take (getD starts (n + 1) 0 - getD starts n 0) (drop (getD starts n 0) all) ≡ words n
-part-is all e n h = rw e (sym (each-at part 43 n [] h) ∙ ap (λ (l : List (List ℕ)). getD l n []) (sym parts) ∙ each-at words 43 n [] h)
+pub part-is : (all : List ℕ) → all ≡ allWords → (n : ℕ) → n < 51 → take (getD starts (n + 1) 0 - getD starts n 0) (drop (getD starts n 0) all) ≡ words n
+part-is all e n h = rw e (sym (each-at part 51 n [] h) ∙ ap (λ (l : List (List ℕ)). getD l n []) (sym parts) ∙ each-at words 51 n [] h)
 
 -- parts lie in the text one behind the other
 abbrev ordered : ℕ → Bool
 ordered n = leb (getD starts n 0) (getD starts (n + 1) 0) && leb (getD starts (n + 1) 0) (length allWords)
 
-all-ordered : someBelow (λ (n : ℕ). not (ordered n)) 43 ≡ false
+all-ordered : someBelow (λ (n : ℕ). not (ordered n)) 51 ≡ false
 unfolding someBelow ascii joined
 all-ordered = refl
 
-pub part-inside : (n : ℕ) → n < 43 → (getD starts n 0 ≤ getD starts (n + 1) 0) × (getD starts (n + 1) 0 ≤ length allWords)
+pub part-inside : (n : ℕ) → n < 51 → (getD starts n 0 ≤ getD starts (n + 1) 0) × (getD starts (n + 1) 0 ≤ length allWords)
 part-inside n h =
-    let e = both _ _ (not-false _ (some-false (λ (k : ℕ). not (ordered k)) 43 n all-ordered h)) in
+    let e = both _ _ (not-false _ (some-false (λ (k : ℕ). not (ordered k)) 51 n all-ordered h)) in
     (leb-true _ _ (e .0), leb-true _ _ (e .1))
 
--- every number of a table is at most 42
+-- every number of a table is at most 50
 unfoldable low : List (ℕ × String) → Bool
 low [] = true
-low ((k, w) ∷ t) = leb k 42 && low t
+low ((k, w) ∷ t) = leb k 50 && low t
 
-find-none : (t : List (ℕ × String)) (n : ℕ) → low t ≡ true → 42 < n → find t n ≡ []
+find-none : (t : List (ℕ × String)) (n : ℕ) → low t ≡ true → 50 < n → find t n ≡ []
 unfolding find low
 find-none [] n e h = refl
 find-none ((k, w) ∷ t) n e h =
-    let few = both (leb k 42) (low t) e in
-    rw (ne-eqb n k (λ q. omega (arith, leb-true k 42 (few .0)))) (find-none t n (few .1) h)
+    let few = both (leb k 50) (low t) e in
+    rw (ne-eqb n k (λ q. omega (arith, leb-true k 50 (few .0)))) (find-none t n (few .1) h)
 
 -- no words are put
 behind-none : (at : ℕ) (t : List ℕ) → record { end = at; text = t } ≡ behind [] at t
@@ -65,7 +65,7 @@ behind-none at t = go (leb (at + 0) (length t))
     go true = λ i. record { end = sym (add-zero at) i; text = whole i }
     go false = refl
 
--- of a number over 42 nothing is put
-pub says-none : (n at : ℕ) (t : List ℕ) → 42 < n → record { end = at; text = t } ≡ behind (words n) at t
+-- of a number over 50 nothing is put
+pub says-none : (n at : ℕ) (t : List ℕ) → 50 < n → record { end = at; text = t } ≡ behind (words n) at t
 unfolding low
 says-none n at t h = behind-none at t ∙ ap (λ (x : List ℕ). behind x at t) (sym (find-none table n refl h))

@@ -6,7 +6,7 @@ use Prim.Native.String.{String}
 use lib.Dec.{eqb}
 use Rattle.lines.specs.Paper.{ascii}
 
--- 01 Numbers given, 02 No. 1: those that refuse, in words. Those of 40 are for where End differs, which comes with no slot
+-- 01 Numbers given, 02 Nos. 1 and 3: those that refuse, in words. Those of 40 are for where End differs, which comes with no slot
 abbrev pub table : List (ℕ × String)
 table =
     (2, "the piece is not 23 octets long")
@@ -39,6 +39,7 @@ table =
     ∷ (40, "End is not the plan's number of slots")
     ∷ (41, "the slot is not 1 to 48")
     ∷ (42, "over 64 identifiers are wanted")
+    ∷ (50, "the page's number is over its total")
     ∷ []
 
 -- the words of a number in a table; none where it is not there

@@ -7,7 +7,7 @@ ghost use Rattle.words.specs.Inner.{allWords};
 use refusals::Refusal;
 
 // Where the words of each number from 0 on start; they end where those of the next one start.
-const STARTS: [usize; 44] = [
+const STARTS: [usize; 52] = [
     0,
     0,
     0,
@@ -52,6 +52,14 @@ const STARTS: [usize; 44] = [
     1039,
     1062,
     1092,
+    1092,
+    1092,
+    1092,
+    1092,
+    1092,
+    1092,
+    1092,
+    1127,
 ];
 
 // Puts the words of a refusal behind the first octets of a text, and answers where they end. Where they do not fit, nothing is put.
@@ -89,7 +97,8 @@ pub fn put_words(refusal: Refusal, text: &mut [u8], at: usize) -> usize
         an entry with no page has octets of a page\
         End is not the plan's number of slots\
         the slot is not 1 to 48\
-        over 64 identifiers are wanted",
+        over 64 identifiers are wanted\
+        the page's number is over its total",
         text,
         at,
     )
@@ -100,7 +109,7 @@ fn put_numbered(number: u8, all: &[u8], text: &mut [u8], at: usize) -> usize
     requires { ⌜ now all ≡ allWords ⌝ }
     ensures { λ r. ⌜ record { end = r; text = now (text .exit) } ≡ behind (words number) at (now (text .entry)) ⌝ }
 {
-    if 42 < number {
+    if 50 < number {
         return at;
     }
     let starts = STARTS;

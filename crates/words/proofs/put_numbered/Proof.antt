@@ -9,7 +9,7 @@ use own.put_numbered.Tie as tie
 abbrev number : tie.Else1 → ℕ
 number c = c .before .before .before .args .number
 
-low : (c : tie.Else1) → number c < 43
+low : (c : tie.Else1) → number c < 51
 low c = omega (arith, c .if1 .left)
 
 returns-2 : tie.Need-returns-2
