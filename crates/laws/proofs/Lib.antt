@@ -1,4 +1,5 @@
 -- What `laws` proves.
+pub mod All
 pub mod Base
 pub mod Bits
 pub mod Determined

@@ -1,5 +1,6 @@
 -- Laws of parts of lists: one that is lent comes back into its place, parts of parts, and parts of repeats.
 use Rattle.laws.proofs.Base.{_≡_, sym, ap, _∙_, List, [], _∷_, _++_, append-nil, ℕ, zero, suc, _+_, _-_, _≤_, min, sub-zero, zero-sub, suc-sub-suc, zero-min, min-zero}
+use Rattle.laws.proofs.Base.{_<_, getD, List·getD-append, getD-append-add, getD-take, getD-drop}
 use Rattle.laws.proofs.Base.{suc-min-suc, arith, length, take, drop, replicate, length-append, length-drop, drop-of-length-le, take-length, length-take-le, take-nil}
 use borrow.Rule.Slice.PartMut.{midOf, putMid, post-is, mid-len}
 
@@ -39,3 +40,30 @@ pub drop-replicate : (m n a : ℕ) → drop m (replicate n a) ≡ replicate (n -
 drop-replicate zero n a = rw sub-zero
 drop-replicate (suc m) zero a = rw zero-sub
 drop-replicate (suc m) (suc n) a = drop-replicate m n a ∙ rw suc-sub-suc
+
+-- a part replaced: what stands in front of it, behind it and in it
+module _ (a e : ℕ) (c y : List ℕ) (room : e ≤ length c) (fits : a + length y ≡ e) where
+  abbrev replaced : List ℕ
+  replaced = take a c ++ (y ++ drop e c)
+
+  replaced-front : length (take a c) ≡ a
+  replaced-front = length-take-le a c (omega arith)
+
+  pub replaced-before : (j : ℕ) → j < a → getD replaced j 0 ≡ getD c j 0
+  replaced-before j l = List·getD-append (take a c) (y ++ drop e c) 0 j (rw replaced-front l) ∙ getD-take a c j 0 l
+
+  pub replaced-in : (j : ℕ) → j < length y → getD replaced (a + j) 0 ≡ getD y j 0
+  replaced-in j l =
+      ap (λ (k : ℕ). getD replaced (k + j) 0) (sym replaced-front)
+      ∙ getD-append-add (take a c) (y ++ drop e c) j 0
+      ∙ List·getD-append y (drop e c) 0 j l
+
+  pub replaced-after : (j : ℕ) → e ≤ j → getD replaced j 0 ≡ getD c j 0
+  replaced-after j l =
+      let here : j ≡ length (take a c) + (length y + (j - e)) = rw replaced-front (omega arith) in
+      let there : e + (j - e) ≡ j = omega arith in
+      ap (λ (k : ℕ). getD replaced k 0) here
+      ∙ getD-append-add (take a c) (y ++ drop e c) (length y + (j - e)) 0
+      ∙ getD-append-add y (drop e c) (j - e) 0
+      ∙ getD-drop e c (j - e) 0
+      ∙ ap (λ (k : ℕ). getD c k 0) there

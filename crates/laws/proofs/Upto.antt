@@ -1,7 +1,7 @@
 -- Laws of the numbers below a bound that pass a test, and of what a function gives at each.
 use Rattle.laws.proofs as own
-use own.Base.{_≡_, refl, sym, ap, _∙_, Bool, true, false, cond, not, false≢true, or-true, [], _∷_, _⊎_, ⊎-elim, ℕ, zero, suc, _+_, _≤_, _<_}
-use own.Base.{eq-or-lt-of-le, le-of-suc-le-suc, not-suc-le-zero, add-one, arith, length, getD, length-append, List·getD-append, getD-at}
+use own.Base.{_≡_, refl, sym, ap, _∙_, Bool, true, false, cond, not, false≢true, or-true, or-false, [], _∷_, _⊎_, ⊎-elim, ℕ, zero, suc, _+_, _≤_, _<_}
+use own.Base.{add-zero, eqb, ne-eqb, eq-or-lt-of-le, le-of-suc-le-suc, not-suc-le-zero, add-one, arith, length, getD, length-append, List·getD-append, getD-at}
 use Rattle.laws.specs.Upto.{someBelow, count, picked, each}
 use own.Snoc.{length-snoc}
 use own.Tests.{true-or-false, either}
@@ -91,6 +91,41 @@ module _ (p : ℕ → Bool) where
       (λ b.
       let h : count p i < length (picked p n) = omega (arith, picked-length n, count-grows n i b e) in
       rw (List·getD-append (picked p n) (cond (p n) (n ∷ []) []) 0 (count p i) h) (picked-at n i b e))
+      (below-suc l)
+
+  -- tests that agree below n count the same
+  pub count-agree : (q : ℕ → Bool) (n : ℕ) → ((i : ℕ) → i < n → q i ≡ p i) → count q n ≡ count p n
+  unfolding count
+  count-agree q zero h = refl
+  count-agree q (suc n) h = rw (count-agree q n (λ i l. h i (omega arith)), h n (omega arith))
+
+  -- some number passes exactly where the count is not 0
+  pub some-count : (n : ℕ) → someBelow p n ≡ not (eqb (count p n) 0)
+  unfolding someBelow count
+  some-count zero = refl
+  some-count (suc n) =
+      true-or-false (p n)
+      (λ e. rw (e, or-true, ne-eqb (count p n + 1) 0 (omega arith)))
+      (λ e. rw (e, or-false, add-zero) (some-count n))
+
+  -- where none passes from t on, the count is that up to t
+  pub count-stops : (t n : ℕ) → t ≤ n → ((i : ℕ) → t ≤ i → i < n → p i ≡ false) → count p n ≡ count p t
+  unfolding count
+  count-stops t zero l h = let e : t ≡ 0 = omega arith in rw e
+  count-stops t (suc n) l h =
+      ⊎-elim
+      (λ e. rw e)
+      (λ b. rw (h n (omega arith) (omega arith), add-zero) (count-stops t n (omega arith) (λ i a c. h i a (omega arith))))
+      (eq-or-lt-of-le l)
+
+  -- a test that passes one number more counts one more
+  pub count-more : (q : ℕ → Bool) (n i : ℕ) → i < n → p i ≡ false → q i ≡ true → ((j : ℕ) → (j ≡ i → ⊥) → q j ≡ p j) → count q n ≡ count p n + 1
+  unfolding count
+  count-more q zero i l e f h = absurd (not-suc-le-zero l)
+  count-more q (suc n) i l e f h =
+      ⊎-elim
+      (λ s. rw (← s, e, f, count-agree q i (λ j b. h j (omega arith))) (omega arith))
+      (λ b. rw (h n (omega arith), count-more q n i b e f h) (omega arith))
       (below-suc l)
 
 -- the k-th number that passes, counted from 0
