@@ -4,7 +4,7 @@ use Rattle.laws.specs.Determined.{Determined}
 use Rattle.laws.proofs.Determined.{determined, determined-by}
 use Rattle.refusals.proofs.Inverse.{numberOf-injective, numberOf-positive}
 use Rattle.page.specs as defs
-use defs.Paper.{Part, header, headerOctets, handedPart, handedNumber}
+use defs.Paper.{Part, header, headerOctets, parameterRead, handedPart, handedNumber}
 use defs.Coded.{keyOf, headingOf, nameOf, numberOfHanding}
 use defs.declared.Header.{Header}
 use defs.declared.PageName.{PageName}
@@ -21,6 +21,9 @@ determined-read-header octets =
 
 pub determined-header-octets : (heading : Header) → Determined (λ (r : List ℕ). r ≡ headerOctets (headingOf heading))
 determined-header-octets heading = determined
+
+pub determined-parameter-read : (parameter : ℕ) → Determined (λ (r : ℕ). r ≡ parameterRead parameter)
+determined-parameter-read parameter = determined
 
 pub determined-key : (name : PageName) → Determined (λ (r : ℕ). r ≡ keyOf (nameOf name))
 determined-key name = determined

@@ -1,5 +1,5 @@
 -- Laws of the sameness of pages, and of what page parameters are read as. What rests on sameness in other crates rests on these alone.
-use Rattle.laws.proofs.Base.{_≡_, refl, sym, _∙_, Bool, _||_, or-true, false≢true, inl, inr, ⊎-elim, ℕ, _/_, _%_, _<_, arith, lit<, eqb, eq-eqb, ne-eqb, eqb-true, eqb-false}
+use Rattle.laws.proofs.Base.{_≡_, refl, sym, _∙_, Bool, _||_, or-true, false≢true, inl, inr, ⊎-elim, ℕ, _/_, _%_, _≤_, _<_, pos-of-ne-zero, arith, lit<, eqb, eq-eqb, ne-eqb, eqb-true, eqb-false}
 use Rattle.laws.proofs.Tests.{true-or-false, both}
 use Rattle.page.specs.Paper.{Name, parameterRead, samePage}
 use Rattle.page.specs.Coded.{keyOf}
@@ -14,6 +14,23 @@ read-zero p (inr e) = rw (eq-eqb (p % 16) 0 e, or-true (eqb (p / 16) 0))
 
 pub read-sent : (p : ℕ) → (ZeroHalf p → ⊥) → parameterRead p ≡ p
 read-sent p h = rw (ne-eqb (p / 16) 0 (λ e. h (inl e)), ne-eqb (p % 16) 0 (λ e. h (inr e)))
+
+-- what follows where a parameter has a zero half, and where it has none
+zero-or-not : {C : Type 0} (p : ℕ) → (ZeroHalf p → C) → ((ZeroHalf p → ⊥) → C) → C
+zero-or-not p f g =
+    true-or-false (eqb (p / 16) 0)
+    (λ a. f (inl (eqb-true (p / 16) 0 a)))
+    (λ a.
+    true-or-false (eqb (p % 16) 0)
+    (λ b. f (inr (eqb-true (p % 16) 0 b)))
+    (λ b. g (⊎-elim (eqb-false (p / 16) 0 a) (eqb-false (p % 16) 0 b))))
+
+-- neither half of what is read is 0
+pub read-halves : (p : ℕ) → (1 ≤ parameterRead p / 16) × (1 ≤ parameterRead p % 16)
+read-halves p =
+    zero-or-not p
+    (λ z. rw (read-zero p z) (omega arith, omega arith))
+    (λ h. rw (read-sent p h) (pos-of-ne-zero (λ e. h (inl e)), pos-of-ne-zero (λ e. h (inr e))))
 
 -- an octet is read as an octet
 read-below : (p : ℕ) → p < 0x100 → parameterRead p < 0x100
@@ -74,16 +91,6 @@ follows =
       zero = λ s i p z b. rw (read-zero p z);
       others = λ a b h k. rw (read-sent (a .parameter) h, read-sent (b .parameter) k);
     }
-
--- what follows where a parameter has a zero half, and where it has none
-zero-or-not : {C : Type 0} (p : ℕ) → (ZeroHalf p → C) → ((ZeroHalf p → ⊥) → C) → C
-zero-or-not p f g =
-    true-or-false (eqb (p / 16) 0)
-    (λ a. f (inl (eqb-true (p / 16) 0 a)))
-    (λ a.
-    true-or-false (eqb (p % 16) 0)
-    (λ b. f (inr (eqb-true (p % 16) 0 b)))
-    (λ b. g (⊎-elim (eqb-false (p / 16) 0 a) (eqb-false (p % 16) 0 b))))
 
 -- any two samenesses that follow the documents are equal: first where one page has no zero half, then everywhere
 module _ (q r : Name → Name → Bool) (f : Follows q) (g : Follows r) where

@@ -73,7 +73,7 @@ pub fn header_octets(heading: Header) -> [u8; 6]
 const SINGLE: u8 = 0x11;
 
 // What a receiver takes a page parameter for: with 0 in either half, a single page's.
-fn parameter_read(parameter: u8) -> u8
+pub fn parameter_read(parameter: u8) -> u8
     ensures { λ r. ⌜ r ≡ parameterRead parameter ⌝ }
 {
     if parameter / 16 == 0 {
