@@ -1,5 +1,6 @@
 /*
- * The calls of Csobvarit for C: cell broadcast blocks, text, schedules and plans, on memory that the caller lends.
+ * The calls of Csobvarit for C: cell broadcast blocks, text, messages of several pages, schedules and plans, on memory that
+ * the caller lends.
  *
  * Every call takes every input of every length and ends; what it doesn't take it refuses by a number.
  *
@@ -21,6 +22,7 @@
  *   cb_write_blocks      100    cb_read_schedule     400    cb_slots             300
  *   cb_description       500    cb_read_plan       1,300    cb_write_schedule  4,800
  *   cb_check_schedule  3,900    cb_decide            500    cb_enter             400
+ *   cb_start_collector   100    cb_collect           300
  */
 #ifndef CSOBVARIT_H
 #define CSOBVARIT_H
@@ -39,7 +41,7 @@ extern "C" {
 #define CB_OUTPUT 88 /* GSM 04.12, 3.1: a message, which is a page or a schedule message */
 
 /* Answers. */
-#define CB_DONE            0 /* cb_start: the state is ready */
+#define CB_DONE            0 /* cb_start, cb_start_collector: the memory is ready; cb_collect: a message is handed out */
 #define CB_PAGE            0 /* a page is complete */
 #define CB_TAKEN           1 /* the block is taken, and its message goes on */
 #define CB_PIECE_LENGTH    2 /* refused: the piece isn't 23 octets long; GSM 04.12, 3.1 */
@@ -48,9 +50,12 @@ extern "C" {
 #define CB_NULL_CODE       5 /* refused: sequence code 15, a null block, whatever its content; GSM 04.12, 3.4 */
 #define CB_NOT_NEXT        6 /* refused: a second to fourth block that isn't the next one of the message held */
 #define CB_SCHEDULE        7 /* a schedule message is complete; GSM 04.12, 3.5 */
-#define CB_STATE_IMPROPER  8 /* refused: the state isn't 90 octets long, or neither call can have left it so */
+#define CB_STATE_IMPROPER  8 /* refused: the state isn't 90 octets long, or neither call can have left it so; for
+                                cb_start_collector and cb_collect: the collector isn't 1,340 octets long; for
+                                cb_collect also: it isn't proper */
 #define CB_OUTPUT_LENGTH  15 /* refused: the memory to write isn't exactly as long as it must be: 88 octets for output,
-                                page or schedule, 92 octets for blocks, 93 code points for text, 48 numbers for slots */
+                                page or schedule, 92 octets for blocks, 1,340 for a message of several pages, 93 code
+                                points for text, 48 numbers for slots */
 
 /* What cb_intake returns is answer + 256 * octets received; what cb_start returns is an answer. */
 #define CB_ANSWER(returned)   ((uint32_t)(returned) & 0xFFu)
@@ -119,10 +124,10 @@ uint32_t cb_intake(uint8_t *state, size_t state_len, const uint8_t *piece, size_
 
 /*
  * What most calls return is number + 256 * count. What is counted is told with each: used octets, characters, slots, the
- * slot that 40 names, the entry that 36 and 37 name, or CB_READ.
+ * pages of a message, the slot that 40 names, the entry that 36 and 37 name, or CB_READ.
  */
 #define CB_NUMBER(returned) ((uint32_t)(returned) & 0xFFu)
-#define CB_COUNT(returned)  ((uint32_t)(returned) >> 8) /* 0 with a refusal other than 36, 37 and 40 */
+#define CB_COUNT(returned)  ((uint32_t)(returned) >> 8) /* 0 with a refusal other than 36, 37 and 40, and with CB_KEPT */
 
 /*
  * Writes a page of 88 octets: header, and the text packed, with CR after it up to 93 characters.
@@ -174,6 +179,66 @@ uint32_t cb_content(const uint8_t *page, size_t page_len, size_t received);
  *   16                          the page isn't 88 octets long; the others are 0
  */
 uint64_t cb_read_header(const uint8_t *page, size_t page_len);
+
+/*
+ * Messages of several pages (GSM 03.41, 9.3.2): up to 15 pages that have serial number, message identifier and total in
+ * common. A collector keeps pages, in whatever order they come, until all of a message are there. It lies in the caller's
+ * memory, and what is handed out has the same layout.
+ *
+ *   octet 1      the total of pages, 0 where none is held
+ *   octets 2-3   serial number, high octet first
+ *   octets 4-5   message identifier, high octet first
+ *   and for each of the pages 1 to 15, at CB_PAGE_PLACE:
+ *   octet 1      the octets received of it, 0 where it isn't held
+ *   octets 2-89  the page as it came, its header included; 2B where it isn't held
+ *
+ * Number and total of a page are the halves of its parameter; where either is 0, it is page 1 of 1. The coding scheme has
+ * no say in which message a page is of.
+ */
+#define CB_COLLECTOR  1340 /* octets of a collector, and of a message handed out */
+#define CB_MOST_PAGES   15 /* pages of a message at most */
+
+/* Where page 1 to 15 begins in a collector or a message handed out: collector[CB_PAGE_PLACE(number)] is the octets received
+   of it, and the page is behind that. */
+#define CB_PAGE_PLACE(number) (5u + 89u * ((uint32_t)(number) - 1u))
+
+#define CB_KEPT             1 /* the page is kept, or passed over because an earlier copy is */
+#define CB_PAGE_OVER_TOTAL 50 /* refused: the page's number is over its total */
+
+/*
+ * Makes a collector ready for its first page. Call it once before the first cb_collect, at every power-up: what memory
+ * happens to hold can look like pages kept, and cb_collect can't tell.
+ *
+ *   CB_DONE             collector: total, serial number and identifier 0, and no page held
+ *   CB_STATE_IMPROPER   collector_len isn't 1,340; collector: untouched
+ */
+uint32_t cb_start_collector(uint8_t *collector, size_t collector_len);
+
+/*
+ * Takes a page with the octets received of it, as cb_intake gives them: number + 256 * pages handed out. A page that is
+ * held already is passed over, whatever its octets. A page of another serial number, identifier or total than those held
+ * drops them and begins with itself.
+ *
+ *   CB_DONE (0)        every page of the message is there, this one the last that was missing; the count is its total.
+ *                      collector: as after cb_start_collector
+ *                      output: the message; the pages past its total as after cb_start_collector
+ *   CB_KEPT (1)        the count is 0; output: untouched
+ *                      collector: holds the page besides what it held, changed nowhere else; a page that is passed over
+ *                      changes nothing; one that begins a message leaves all else as after cb_start_collector
+ *   8, 15, 16, 18, 50  the count is 0; the first of these that applies, in this order; output: untouched
+ *                      collector: untouched, save that one that isn't proper becomes as after cb_start_collector, and the
+ *                      page is lost. 8 is a collector_len that isn't 1,340, or a collector that isn't proper; 15 is an
+ *                      output_len that isn't 1,340
+ *
+ * A collector is proper if its total is 0 and no page is held, or its total is 1 to 15, some but not all of the pages up to
+ * the total are held, none past it, and each with 22, 44, 66 or 88 octets received. Nothing else in it is looked at.
+ *
+ * Give each call the collector as the call before left it, and only pages that cb_intake answered by CB_PAGE: a schedule
+ * message would be taken for a page. Which pages go to which collector is the caller's choice; with several channels or
+ * messages at a time, a collector for each loses none to the others.
+ */
+uint32_t cb_collect(uint8_t *collector, size_t collector_len, const uint8_t *page, size_t page_len, size_t received,
+                    uint8_t *output, size_t output_len);
 
 #define CB_BLOCKS 92 /* octets of four blocks */
 

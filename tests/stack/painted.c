@@ -83,7 +83,7 @@ static void fill_plan(uint8_t *plan, unsigned slots, unsigned pages)
 int main(void)
 {
     static uint8_t state[CB_STATE], output[CB_OUTPUT], page[CB_OUTPUT], message[CB_OUTPUT], blocks[CB_BLOCKS];
-    static uint8_t current[CB_PLAN], previous[CB_PLAN];
+    static uint8_t current[CB_PLAN], previous[CB_PLAN], collector[CB_COLLECTOR], collected[CB_COLLECTOR];
     static const uint8_t piece[CB_PIECE] = {0x30};
     static uint16_t text[CB_TEXT], wanted[CB_MOST_WANTED];
     static uint32_t slots[CB_SLOTS];
@@ -100,6 +100,8 @@ int main(void)
     SHOW(cb_read_text, 2, LENT(page), 88, LENT(text));
     SHOW(cb_content, 2, LENT(page), 88);
     SHOW(cb_read_header, 1, LENT(page));
+    SHOW(cb_start_collector, 1, LENT(collector));
+    SHOW(cb_collect, 3, LENT(collector), LENT(page), 88, LENT(collected)); /* page 1 of 1, which is handed out */
     SHOW(cb_write_blocks, 3, LENT(page), 0, 88, LENT(blocks));
     SHOW(cb_write_schedule, 4, LENT(current), LENT(previous), 1, LENT(message));
     SHOW(cb_read_schedule, 2, LENT(message), 88);

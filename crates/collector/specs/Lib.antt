@@ -1,0 +1,4 @@
+-- What `collector` defines.
+pub mod Coded
+pub mod Inner
+pub mod Paper
