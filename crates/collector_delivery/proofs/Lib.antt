@@ -1,0 +1,3 @@
+-- What `collector_delivery` proves.
+pub mod Air
+pub mod Two

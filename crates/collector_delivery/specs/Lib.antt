@@ -1,0 +1,2 @@
+-- What `collector_delivery` states.
+pub mod Claims

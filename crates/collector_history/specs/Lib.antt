@@ -1,0 +1,2 @@
+-- What `collector_history` states.
+pub mod Claims
