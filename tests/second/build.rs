@@ -6,7 +6,7 @@ use std::{env, fs};
 
 const ALL: &str = "libcsobvarit.a"; // the archive with all entries; where it is there, it alone is linked
 
-const ENTRIES: [&str; 15] = [
+const ENTRIES: [&str; 17] = [
     "cb_start",
     "cb_intake",
     "cb_write_blocks",
@@ -22,6 +22,8 @@ const ENTRIES: [&str; 15] = [
     "cb_enter",
     "cb_slots",
     "cb_read_header",
+    "cb_start_collector",
+    "cb_collect",
 ];
 
 fn main() {

@@ -18,9 +18,11 @@ pub enum Entry {
     Enter,
     Slots,
     ReadHeader,
+    StartCollector,
+    Collect,
 }
 
-pub const ENTRIES: [Entry; 15] = [
+pub const ENTRIES: [Entry; 17] = [
     Entry::Start,
     Entry::Intake,
     Entry::WriteBlocks,
@@ -36,6 +38,8 @@ pub const ENTRIES: [Entry; 15] = [
     Entry::Enter,
     Entry::Slots,
     Entry::ReadHeader,
+    Entry::StartCollector,
+    Entry::Collect,
 ];
 
 impl Entry {
@@ -56,6 +60,8 @@ impl Entry {
             Entry::Enter => "cb_enter",
             Entry::Slots => "cb_slots",
             Entry::ReadHeader => "cb_read_header",
+            Entry::StartCollector => "cb_start_collector",
+            Entry::Collect => "cb_collect",
         }
     }
 
@@ -77,12 +83,28 @@ impl Entry {
             Entry::Enter => (&["known", "received", "slot", "held"], &["message"], ""),
             Entry::Slots => (&["received", "slots length"], &["message"], ""),
             Entry::ReadHeader => (&[], &["page"], ""),
+            Entry::StartCollector => (&[], &["collector"], ""),
+            Entry::Collect => {
+                let numbers = &["call", "collector length", "output length", "received"];
+                (numbers, &["collector", "output", "page"], "")
+            }
+        }
+    }
+
+    /// The numbers of each call, where a case is a sequence of calls on memory that lasts; otherwise none.
+    pub fn per_call(self) -> Option<usize> {
+        match self {
+            Entry::Intake => Some(3),
+            Entry::Collect => Some(4),
+            _ => None,
         }
     }
 }
 
 /// All that a call is given. An intake case is a sequence of calls on one state and one output: three numbers
-/// for each call (0 start or 1 intake, then the lengths of state and output lent) and a piece for each call.
+/// for each call (0 start or 1 intake, then the lengths of state and output lent) and a piece for each call. A case of
+/// the collector is one too, with the collector as the state, pages as the pieces, and the octets received as a fourth
+/// number.
 #[derive(Clone, Debug, PartialEq, Eq)]
 pub struct Case {
     pub entry: Entry,
@@ -107,10 +129,10 @@ impl Case {
 
     /// The calls that a case makes.
     pub fn calls(&self) -> u64 {
-        match self.entry {
-            Entry::Intake => self.numbers.len() as u64 / 3,
-            Entry::Description => self.numbers[2],
-            _ => 1,
+        match self.entry.per_call() {
+            Some(numbers) => (self.numbers.len() / numbers) as u64,
+            None if self.entry == Entry::Description => self.numbers[2],
+            None => 1,
         }
     }
 
@@ -143,9 +165,9 @@ impl Case {
     /// Whether the case has as many numbers and lists as its entry takes.
     fn is_whole(&self) -> bool {
         let (numbers, lists, _) = self.entry.fields();
-        match self.entry {
-            Entry::Intake => self.numbers.len() % 3 == 0 && self.lists.len() == 2 + self.numbers.len() / 3,
-            _ => self.numbers.len() == numbers.len() && self.lists.len() == lists.len(),
+        match self.entry.per_call() {
+            Some(each) => self.numbers.len() % each == 0 && self.lists.len() == 2 + self.numbers.len() / each,
+            None => self.numbers.len() == numbers.len() && self.lists.len() == lists.len(),
         }
     }
 }

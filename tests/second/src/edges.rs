@@ -8,6 +8,7 @@ use crate::invent::CARRIED;
 use crate::plan::{self, Page, Plan};
 use crate::schedule::{Description, Told, SLOTS};
 use crate::sender::lay;
+use crate::several_pages;
 use crate::side::LENT;
 use crate::text::{pack, CHARACTERS, HEADER};
 use crate::zero_parameter;
@@ -30,6 +31,8 @@ pub fn cases(entry: Entry) -> Vec<Case> {
         Entry::Enter => enterings(),
         Entry::Slots => slots(),
         Entry::ReadHeader => [headers(), zero_parameter::headers()].concat(),
+        Entry::StartCollector => several_pages::starts(),
+        Entry::Collect => several_pages::collected(),
     }
 }
 

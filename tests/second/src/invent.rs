@@ -2,11 +2,13 @@
 
 use crate::blocks::{BLOCK, CONTENT, FILL, MESSAGE};
 use crate::case::{Case, Entry};
+use crate::collector::{place_of, COLLECTOR, HEAD, MOST_PAGES, PLACE};
 use crate::intake::STATE;
 use crate::plan::{self, Page, Plan};
 use crate::random::Random;
 use crate::schedule::{read_schedule, Description, Told, DESCRIPTIONS, SLOTS};
 use crate::sender::lay;
+use crate::several_pages::{self, collecting, from_start, holding, littered, parameter, started, Message, Sent};
 use crate::side::LENT;
 use crate::text::{ALPHABET, CHARACTERS};
 use crate::zero_parameter::{by_octets, Plans};
@@ -53,6 +55,7 @@ pub enum Fault {
     SlotUntrue,
     Slot,
     WantedTooMany,
+    PageOverTotal,
 }
 
 /// The reader's faults, of the message in a list and received in a number. // 01 Order
@@ -136,6 +139,15 @@ pub fn faults(entry: Entry) -> Vec<(u8, Fault)> {
             [vec![(15, Fault::Length(1, SLOTS))], reader_faults(0, 0), vec![(24, Fault::RepeatOfNoFirst(0))]].concat()
         }
         Entry::ReadHeader => vec![(16, Fault::MessageLength(0))],
+        Entry::StartCollector => vec![(8, Fault::StateLength)],
+        Entry::Collect => vec![
+            (8, Fault::StateLength),
+            (8, Fault::StateImproper),
+            (15, Fault::Length(2, COLLECTOR)),
+            (16, Fault::MessageLength(2)),
+            (18, Fault::Received(3)),
+            (50, Fault::PageOverTotal),
+        ],
     }
 }
 
@@ -150,6 +162,7 @@ fn put_one(case: &mut Case, fault: Fault, random: &mut Random) {
     match fault {
         Fault::Length(number, not) => put_output_length(case, number, other_length(random, not)),
         Fault::StateLength => put_state_length(case, random),
+        Fault::StateImproper if case.entry == Entry::Collect => put_improper_collector(&mut case.lists[0], random),
         Fault::StateImproper => put_improper(&mut case.lists[0], random),
         Fault::PieceLength => case.lists[2].resize(random.pick(&[0, 1, 22, 24, 46, 256 + 23]), 0x20),
         Fault::Discriminator => put_type(case, 0x60, random.pick(&[0x00, 0x40, 0x60])),
@@ -184,6 +197,7 @@ fn put_one(case: &mut Case, fault: Fault, random: &mut Random) {
         Fault::SlotUntrue => put_untrue(&mut case.lists[0]),
         Fault::Slot => case.numbers[2] = random.pick(&[0, 49, 50, 64, 256 + 1, (1 << 32) + 1, u64::MAX]),
         Fault::WantedTooMany => case.words.resize(random.pick(&[65, 66, 128]), 1),
+        Fault::PageOverTotal => set(&mut case.lists[2], 5, random.pick(&[0x21, 0x32, 0x43, 0xF1, 0xF3, 0xFE])),
     }
 }
 
@@ -209,10 +223,14 @@ fn alter(list: &mut [u8], at: usize, random: &mut Random) {
     }
 }
 
+/// Lends a state or a collector of another length.
 fn put_state_length(case: &mut Case, random: &mut Random) {
-    let length = random.pick(&[0, 1, 2, 22, 88, 89, 91, 92, 100, 256 + STATE]);
+    let length = match case.entry {
+        Entry::StartCollector | Entry::Collect => other_length(random, COLLECTOR),
+        _ => random.pick(&[0, 1, 2, 22, 88, 89, 91, 92, 100, 256 + STATE]),
+    };
     match case.entry {
-        Entry::Start => case.lists[0].resize(length, LENT),
+        Entry::Start | Entry::StartCollector => case.lists[0].resize(length, LENT),
         _ => {
             case.numbers[1] = length as u64;
             at_least(&mut case.lists[0], length);
@@ -220,10 +238,10 @@ fn put_state_length(case: &mut Case, random: &mut Random) {
     }
 }
 
-/// Lends an output of a length; an intake case carries its output as a list.
+/// Lends an output of a length; a case that is a sequence carries its output as a list.
 fn put_output_length(case: &mut Case, number: usize, length: usize) {
     case.numbers[number] = length as u64;
-    if case.entry == Entry::Intake {
+    if case.entry.per_call().is_some() {
         at_least(&mut case.lists[1], length);
     }
 }
@@ -246,6 +264,41 @@ fn put_improper(state: &mut [u8], random: &mut Random) {
             alter(state, at, random);
         }
     }
+}
+
+/// Makes a collector of 1,340 octets improper. // 02 No. 3
+fn put_improper_collector(collector: &mut [u8], random: &mut Random) {
+    let (total, kind) = (random.within(1, MOST_PAGES - 1), random.below(6));
+    match kind {
+        0 => collector[0] = random.within(MOST_PAGES + 1, 255) as u8,
+        1 => collector[0] = 0,
+        5 => {}
+        _ => collector[0] = total as u8,
+    }
+    match kind {
+        0 => {}
+        1 => put_received(collector, random.within(1, MOST_PAGES), random),
+        2 => (1..=MOST_PAGES).for_each(|number| collector[place_of(number)] = 0),
+        3 => (1..=total).for_each(|number| put_received(collector, number, random)),
+        4 => put_received(collector, random.within(total + 1, MOST_PAGES), random),
+        _ => collector[place_of(random.within(1, MOST_PAGES))] = random.pick(&several_pages::BAD_RECEIVED),
+    }
+}
+
+/// Makes a page of a collector one that is held.
+fn put_received(collector: &mut [u8], number: usize, random: &mut Random) {
+    collector[place_of(number)] = random.pick(&several_pages::RECEIVED);
+}
+
+/// Changes one octet of a collector of 1,340 octets, mostly one that is looked at, to a number that means something or
+/// to any other.
+fn damage_collector(collector: &mut [u8], random: &mut Random) {
+    let (place, anywhere) = (place_of(random.within(1, MOST_PAGES)), random.below(COLLECTOR));
+    let at = random.pick(&[0, 0, place, place, place, anywhere % HEAD, anywhere]);
+    let any = random.octet();
+    let received = random.pick(&several_pages::RECEIVED);
+    let bad = random.pick(&several_pages::BAD_RECEIVED);
+    collector[at] = random.pick(&[0, 1, 2, 3, 14, 15, 16, received, received, bad, any]);
 }
 
 /// Changes some bits of the piece's type octet.
@@ -744,6 +797,199 @@ fn one_call(random: &mut Random, taken: u8, calm: usize) -> ([u64; 3], Vec<u8>) 
     ([call.numbers[0], call.numbers[1], call.numbers[2]], call.lists.remove(2))
 }
 
+/// What tells a message: numbers out of few, so that messages meet that differ in one thing, and mostly a low total.
+fn some_numbers(random: &mut Random) -> Message {
+    let other = random.word();
+    let (any, few) = (random.within(1, MOST_PAGES), random.within(2, 4));
+    Message {
+        serial: random.pick(&[0x0010, 0x0010, 0x0011, 0x8001, other]),
+        identifier: random.pick(&[0x8001, 0x8001, 0x0001, 0x0010, other]),
+        total: random.pick(&[2, few, few, any, any, MOST_PAGES]),
+    }
+}
+
+/// A message that differs from another in one thing, or any.
+fn other_numbers(random: &mut Random, message: Message) -> Message {
+    let Message { serial, identifier, .. } = message;
+    let (bit, total) = (1 << random.below(16), random.within(1, MOST_PAGES));
+    match random.below(5) {
+        0 => Message { serial: serial ^ bit, ..message },
+        1 => Message { identifier: identifier ^ bit, ..message },
+        2 => Message { total, ..message },
+        3 => Message { serial: identifier, identifier: serial, ..message },
+        _ => some_numbers(random),
+    }
+}
+
+/// A page of a message, mostly with one octet all over its content; one that is single has a zero half now and then.
+fn some_sent(random: &mut Random, message: Message, number: usize) -> Sent {
+    let any = random.octet();
+    let parameter = match parameter(message, number) {
+        0x11 => random.pick(&[0x11, 0x11, 0x00, any & 0x0F, any & 0xF0]),
+        parameter => parameter,
+    };
+    let mut page = several_pages::page_with(message, parameter, random.octet());
+    page[4] = random.pick(&[0x01, 0x01, 0x00, 0x0F, any]);
+    if random.once_in(10) {
+        let content = random.octets(MESSAGE - 6);
+        page[6..].copy_from_slice(&content);
+    }
+    (page, random.pick(&several_pages::RECEIVED) as u64)
+}
+
+/// Any page that a collector takes.
+fn any_sent(random: &mut Random, message: Message) -> Sent {
+    let number = random.within(1, message.total);
+    some_sent(random, message, number)
+}
+
+/// A collector that is proper, and the message whose pages it holds; often as calls leave it, and often with other
+/// octets where they aren't looked at. // 02 No. 3
+fn some_collector(random: &mut Random) -> (Vec<u8>, Message) {
+    let mut message = some_numbers(random);
+    message.total = message.total.max(2);
+    let (least, most) = (1, message.total - 1);
+    let any = random.within(least, most);
+    let held = random.pick(&[least, any, most, most]);
+    let numbers = some_order(random, message.total);
+    let pages: Vec<(usize, Sent)> =
+        numbers[..held].iter().map(|&number| (number, some_sent(random, message, number))).collect();
+    let mut collector = if random.once_in(6) { started() } else { holding(message, &pages) };
+    match random.below(6) {
+        0 => collector = littered(collector),
+        1 => put_page(&mut collector, random),
+        _ => {}
+    }
+    (collector, message)
+}
+
+/// The numbers of all pages up to a total, in any order.
+fn some_order(random: &mut Random, total: usize) -> Vec<usize> {
+    let mut numbers: Vec<usize> = (1..=total).collect();
+    for at in (1..total).rev() {
+        numbers.swap(at, random.below(at + 1));
+    }
+    numbers
+}
+
+/// Any octets for the page in some place, held or not.
+fn put_page(collector: &mut [u8], random: &mut Random) {
+    let at = place_of(random.within(1, MOST_PAGES));
+    let octets = random.octets(MESSAGE);
+    collector[at + 1..at + PLACE].copy_from_slice(&octets);
+}
+
+/// A collector of octets without sense, but for the octets that are looked at, which mostly have some.
+fn wild_collector(random: &mut Random) -> Vec<u8> {
+    let mut collector = random.octets(COLLECTOR);
+    let total = random.pick(&[0, 2, 3, 14, 15, 16]);
+    collector[0] = total as u8;
+    for number in 1..=MOST_PAGES {
+        let past = number > total;
+        let received = random.pick(&several_pages::RECEIVED);
+        collector[place_of(number)] = if past || random.once_in(2) { 0 } else { received };
+    }
+    if random.once_in(4) {
+        damage_collector(&mut collector, random);
+    }
+    collector
+}
+
+/// One call of the collector that isn't refused: mostly a page of the message that it holds.
+fn single_collecting(random: &mut Random) -> Case {
+    let (collector, message) = some_collector(random);
+    let of = if random.once_in(4) { other_numbers(random, message) } else { message };
+    let missing: Vec<usize> = (1..=of.total).filter(|&number| collector[place_of(number)] == 0).collect();
+    let sent = if missing.is_empty() || random.once_in(3) {
+        any_sent(random, of)
+    } else {
+        let number = random.pick(&missing);
+        some_sent(random, of, number)
+    };
+    collecting(&collector, &sent, COLLECTOR)
+}
+
+/// The same with a collector that is damaged in one place, or wild.
+fn near_collecting(random: &mut Random) -> Case {
+    let mut case = single_collecting(random);
+    match random.below(6) {
+        0 => damage_collector(&mut case.lists[0], random),
+        1 => case.lists[0][..COLLECTOR].copy_from_slice(&wild_collector(random)),
+        _ => {}
+    }
+    case
+}
+
+/// Pages in a row: messages in any order of their pages, each with copies of pages that came and pages of others in
+/// between, the more the less calm it is; some messages again right after.
+fn some_row(random: &mut Random, first: Message) -> Vec<Sent> {
+    let mut message = first;
+    let calm = random.pick(&[2, 4, 8, 64]);
+    let mut row: Vec<Sent> = Vec::new();
+    for _ in 0..random.within(1, 3) {
+        for number in some_order(random, message.total) {
+            row.push(some_sent(random, message, number));
+            if random.once_in(calm) {
+                let came = random.pick(&[number, number, 1]);
+                row.push(some_sent(random, message, came));
+            }
+            if random.once_in(4 * calm) {
+                let other = other_numbers(random, message);
+                row.push(any_sent(random, other));
+            }
+        }
+        if !random.once_in(3) {
+            message = other_numbers(random, message);
+        }
+    }
+    row
+}
+
+/// A sequence of calls of the collector: from a start, from a proper collector, from one that is damaged in one place or
+/// from anything, with faults in some calls.
+pub fn collecting_sequence(random: &mut Random) -> Case {
+    let (mut collector, message) = some_collector(random);
+    let first = if random.once_in(3) { some_numbers(random) } else { message };
+    let mut case = from_start(&some_row(random, first));
+    match random.below(8) {
+        0 => collector = wild_collector(random),
+        1 => damage_collector(&mut collector, random),
+        _ => {}
+    }
+    case.lists[0][..COLLECTOR].copy_from_slice(&collector);
+    if random.once_in(3) {
+        case.numbers.drain(..4);
+        case.lists.remove(2);
+    }
+    let (calls, calm) = (case.lists.len() - 2, random.pick(&[8, 32, 1024]));
+    for call in 0..calls {
+        if random.once_in(calm) {
+            put_into_call(&mut case, call, random);
+        }
+    }
+    case
+}
+
+/// A fault in one call of a sequence of the collector, or a start in its place.
+fn put_into_call(case: &mut Case, call: usize, random: &mut Random) {
+    let at = 4 * call;
+    if random.once_in(8) {
+        case.numbers[at] = 0;
+        return;
+    }
+    let numbers = &case.numbers[at..at + 4];
+    let lists = [&case.lists[0], &case.lists[1], &case.lists[2 + call]].map(Vec::as_slice);
+    let mut one = Case::new(Entry::Collect, numbers, &lists, &[]);
+    let all = faults(Entry::Collect);
+    let fault = random.pick(&all).1;
+    if fault != Fault::StateImproper {
+        put_one(&mut one, fault, random);
+    }
+    case.numbers[at..at + 4].copy_from_slice(&one.numbers);
+    let [page, output, collector] = [2, 1, 0].map(|list| one.lists.remove(list));
+    (case.lists[0], case.lists[1], case.lists[2 + call]) = (collector, output, page);
+}
+
 /// Plans as a sender reads them: of these its message is true.
 type Reading = fn(&Plans) -> Plans;
 
@@ -784,6 +1030,12 @@ pub fn sound_by(entry: Entry, random: &mut Random, most: usize, reading: Reading
             Case::new(entry, &[received, SLOTS as u64], &[&message], &[])
         }
         Entry::ReadHeader => Case::new(entry, &[], &[&random.octets(MESSAGE)], &[]),
+        Entry::StartCollector => {
+            let (collector, octet) = (some_collector(random).0, random.octet());
+            let any = if random.once_in(8) { random.octets(COLLECTOR) } else { vec![octet; COLLECTOR] };
+            Case::new(entry, &[], &[if random.once_in(2) { &collector } else { &any }], &[])
+        }
+        Entry::Collect => single_collecting(random),
     }
 }
 
@@ -922,6 +1174,7 @@ fn some_wanted(random: &mut Random, message: &[u8]) -> u16 {
 fn near(entry: Entry, random: &mut Random, most: usize) -> Case {
     match entry {
         Entry::CheckSchedule => checked(random, most, true, by_octets),
+        Entry::Collect => near_collecting(random),
         _ => sound(entry, random, most),
     }
 }
@@ -953,6 +1206,9 @@ pub fn any(entry: Entry, random: &mut Random, most: usize) -> Case {
 pub fn any_plain(entry: Entry, random: &mut Random, most: usize) -> Case {
     if entry == Entry::Intake && !random.once_in(4) {
         return sequence(random);
+    }
+    if entry == Entry::Collect && random.once_in(2) {
+        return collecting_sequence(random);
     }
     let case = near(entry, random, most);
     spoilt(case, random)
@@ -1049,6 +1305,10 @@ fn wild(case: &mut Case, random: &mut Random) {
     if !case.words.is_empty() {
         case.words = (0..words).map(|_| random.word() & 0x3FF).collect();
     }
+    if case.entry == Entry::Collect && random.once_in(2) {
+        case.lists[0] = wild_collector(random);
+        case.numbers[1] = COLLECTOR as u64;
+    }
 }
 
 /// Keeps numbers within the widths that C gives them, and lengths within reason.
@@ -1062,6 +1322,7 @@ pub fn clip(case: &mut Case) {
         Entry::WriteSchedule => &[u64::MAX, 511],
         Entry::Decide | Entry::Enter => &[1, u64::MAX, u64::MAX, u64::MAX],
         Entry::Slots => &[u64::MAX, 511],
+        Entry::Collect => &[1, 4095, 4095, u64::MAX],
         _ => &[],
     };
     for (number, &most) in case.numbers.iter_mut().zip(widths.iter().cycle()) {

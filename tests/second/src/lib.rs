@@ -1,10 +1,11 @@
-//! A second implementation of the base of document 01 and of document 02's Nos. 1 and 2, written from the documents
+//! A second implementation of the base of document 01 and of document 02's Nos. 1 to 3, written from the documents
 //! alone.
 
 pub mod bad_entries;
 pub mod blocks;
 pub mod case;
 pub mod checker;
+pub mod collector;
 pub mod compare;
 pub mod decision;
 pub mod edges;
@@ -15,6 +16,7 @@ pub mod random;
 pub mod refusal;
 pub mod schedule;
 pub mod sender;
+pub mod several_pages;
 pub mod shrink;
 pub mod side;
 pub mod stored;

@@ -1,4 +1,4 @@
-//! The refusals of document 01's table of numbers, with those of document 02's No. 1 in the place of its 33.
+//! The refusals of document 01's table of numbers, with those of document 02's No. 1 in the place of its 33, and of No. 3.
 
 /// A refusal; one of an entry in a plan has that entry's number, from 1. // 01 Numbers given, 02 No. 1
 #[derive(Clone, Copy, Debug, PartialEq, Eq)]
@@ -32,10 +32,11 @@ pub enum Refusal {
     PlanStray(usize),
     SlotOutside,
     WantedTooMany,
+    PageOverTotal,
 }
 
 impl Refusal {
-    /// The number of a refusal. // 01 Numbers given, 02 No. 1
+    /// The number of a refusal. // 01 Numbers given, 02 Nos. 1 and 3
     pub fn number(self) -> u8 {
         match self {
             Refusal::PieceLength => 2,
@@ -67,6 +68,7 @@ impl Refusal {
             Refusal::PlanStray(_) => 37,
             Refusal::SlotOutside => 41,
             Refusal::WantedTooMany => 42,
+            Refusal::PageOverTotal => 50,
         }
     }
 

@@ -2,7 +2,9 @@
 
 use std::ops::Range;
 
+use crate::blocks::FILL;
 use crate::case::{Case, Entry};
+use crate::collector::{COLLECTOR, HEAD, PLACE};
 
 /// The smallest case found that still `stays`: shorter lists, then zeros for octets, then smaller numbers.
 pub fn shrink(case: &Case, stays: impl Fn(&Case) -> bool) -> Case {
@@ -27,6 +29,7 @@ fn tried(tries: &mut usize) -> bool {
 fn smaller(case: &Case) -> impl Iterator<Item = Case> + '_ {
     without_call(case)
         .chain(without_slot(case))
+        .chain(without_page(case))
         .chain((0..case.lists.len()).flat_map(|list| shorter(case, list)))
         .chain(fewer_words(case))
         .chain((0..case.lists.len()).flat_map(|list| zeroed(case, list)))
@@ -34,13 +37,26 @@ fn smaller(case: &Case) -> impl Iterator<Item = Case> + '_ {
         .chain((0..case.numbers.len()).flat_map(|number| less(case, number)))
 }
 
-/// An intake case without one of its calls.
+/// A sequence of calls without one of them.
 fn without_call(case: &Case) -> impl Iterator<Item = Case> + '_ {
-    let calls = if case.entry == Entry::Intake { case.numbers.len() / 3 } else { 0 };
-    (0..calls).map(|call| {
+    let each = case.entry.per_call().unwrap_or(0);
+    let calls = case.numbers.len().checked_div(each).unwrap_or(0);
+    (0..calls).map(move |call| {
         let mut case = case.clone();
         case.lists.remove(2 + call);
-        case.numbers.drain(3 * call..3 * call + 3);
+        case.numbers.drain(each * call..each * (call + 1));
+        case
+    })
+}
+
+/// A collector with the place of one of its pages as at start.
+fn without_page(case: &Case) -> impl Iterator<Item = Case> + '_ {
+    let is_collector = case.entry == Entry::Collect && case.lists[0].len() >= COLLECTOR;
+    let places = (HEAD..if is_collector { COLLECTOR } else { HEAD }).step_by(PLACE);
+    places.filter(|&at| case.lists[0][at] != 0).map(|at| {
+        let mut case = case.clone();
+        case.lists[0][at] = 0;
+        case.lists[0][at + 1..at + PLACE].fill(FILL);
         case
     })
 }

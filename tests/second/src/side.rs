@@ -3,6 +3,7 @@
 use crate::blocks::{write_blocks, Kind};
 use crate::case::{Case, Entry};
 use crate::checker::{check_schedule, Finding};
+use crate::collector::{collect, start_collector, Collected};
 use crate::decision::{decide, enter};
 use crate::intake::{intake, start, Answer};
 use crate::plan::read_plan;
@@ -41,6 +42,8 @@ pub trait Side {
     fn enter(&self, known: bool, message: &mut [u8], received: usize, slot: usize, held: u64) -> u64;
     fn slots(&self, message: &mut [u8], received: usize, slots: &mut [u32]) -> u64;
     fn read_header(&self, page: &mut [u8]) -> u64;
+    fn start_collector(&self, collector: &mut [u8]) -> u64;
+    fn collect(&self, collector: &mut [u8], page: &mut [u8], received: usize, output: &mut [u8]) -> u64;
 }
 
 /// This implementation.
@@ -159,6 +162,18 @@ impl Side for Ours {
             Err(refusal) => refusal.number() as u64,
         }
     }
+
+    fn start_collector(&self, collector: &mut [u8]) -> u64 {
+        number_of(&start_collector(collector)) as u64
+    }
+
+    fn collect(&self, collector: &mut [u8], page: &mut [u8], received: usize, output: &mut [u8]) -> u64 {
+        match collect(collector, page, received, output) {
+            Ok(Collected::Kept) => 1,
+            Ok(Collected::HandedOut(pages)) => 256 * pages as u64,
+            Err(refusal) => refusal.number() as u64,
+        }
+    }
 }
 
 /// What the calls of a case return, and all of the lent memory after them, guards included.
@@ -184,7 +199,7 @@ fn unguarded<T>(list: &mut [T]) -> &mut [T] {
     &mut list[..length]
 }
 
-/// The memory that a case lends, other than intake, each piece with a guard after it.
+/// The memory that a case of one entry's calls lends, each piece with a guard after it.
 struct Lent {
     lists: Vec<Vec<u8>>,
     words: Vec<u16>,
@@ -195,8 +210,8 @@ struct Lent {
 
 /// Runs a case on a side.
 pub fn run(case: &Case, side: &impl Side) -> Outcome {
-    if case.entry == Entry::Intake {
-        return run_intake(case, side);
+    if let Some(numbers) = case.entry.per_call() {
+        return run_sequence(case, side, numbers);
     }
     let mut lent = Lent {
         lists: case.lists.iter().map(|list| guarded(list, LENT)).collect(),
@@ -238,7 +253,7 @@ pub fn slots_length(case: &Case) -> usize {
     }
 }
 
-/// The calls of a case, other than intake.
+/// The calls of a case that isn't a sequence.
 fn call(case: &Case, side: &impl Side, lent: &mut Lent) -> Vec<u64> {
     let mut lists = lent.lists.iter_mut().map(|list| unguarded(list));
     let mut list = || lists.next().expect("a case has all of its lists");
@@ -247,7 +262,7 @@ fn call(case: &Case, side: &impl Side, lent: &mut Lent) -> Vec<u64> {
     let n = |at: usize| case.number(at);
     vec![match case.entry {
         Entry::Start => side.start(list()),
-        Entry::Intake => unreachable!("intake cases are sequences"),
+        Entry::Intake | Entry::Collect => unreachable!("these cases are sequences"),
         Entry::WriteBlocks => side.write_blocks(list(), n(0) != 0, n(1), out),
         Entry::WriteText => side.write_text(header(case), words, out),
         Entry::ReadText => side.read_text(list(), n(0), text),
@@ -265,6 +280,7 @@ fn call(case: &Case, side: &impl Side, lent: &mut Lent) -> Vec<u64> {
         Entry::Enter => side.enter(n(0) != 0, list(), n(1), n(2), case.numbers[3]),
         Entry::Slots => side.slots(list(), n(0), slots),
         Entry::ReadHeader => side.read_header(list()),
+        Entry::StartCollector => side.start_collector(list()),
     }]
 }
 
@@ -278,19 +294,21 @@ pub fn header(case: &Case) -> Header {
     }
 }
 
-/// A sequence of calls on one state and one output; the memory is noted after every call.
-fn run_intake(case: &Case, side: &impl Side) -> Outcome {
+/// A sequence of calls on one state or collector and one output; the memory is noted after every call.
+fn run_sequence(case: &Case, side: &impl Side, per_call: usize) -> Outcome {
     let mut outcome = Outcome::default();
     let mut state = case.lists[0].clone();
     let mut output = case.lists[1].clone();
-    for (piece, numbers) in case.lists[2..].iter().zip(case.numbers.chunks_exact(3)) {
+    for (piece, numbers) in case.lists[2..].iter().zip(case.numbers.chunks_exact(per_call)) {
         let mut piece = guarded(piece, LENT);
         let lent_state = numbers[1].min(state.len() as u64) as usize;
         let lent_output = numbers[2].min(output.len() as u64) as usize;
-        outcome.returned.push(if numbers[0] == 0 {
-            side.start(&mut state[..lent_state])
-        } else {
-            side.intake(&mut state[..lent_state], unguarded(&mut piece), &mut output[..lent_output])
+        let (state_lent, output_lent) = (&mut state[..lent_state], &mut output[..lent_output]);
+        outcome.returned.push(match (case.entry, numbers[0]) {
+            (Entry::Collect, 0) => side.start_collector(state_lent),
+            (Entry::Collect, _) => side.collect(state_lent, unguarded(&mut piece), numbers[3] as usize, output_lent),
+            (_, 0) => side.start(state_lent),
+            _ => side.intake(state_lent, unguarded(&mut piece), output_lent),
         });
         outcome.octets.extend(&state);
         outcome.octets.extend(&output);

@@ -6,10 +6,12 @@ use std::{fs, io};
 
 use crate::blocks::MESSAGE;
 use crate::case::{self, hex, hex_slots, hex_words, Case, Entry, ENTRIES};
+use crate::collector::COLLECTOR;
 use crate::edges;
-use crate::invent::{any, any_plain, faults, formed, put, sequence, sound_by, Fault};
+use crate::invent::{any, any_plain, collecting_sequence, faults, formed, put, sequence, sound_by, Fault};
 use crate::random::Random;
 use crate::schedule::{read_schedule, SLOTS};
+use crate::several_pages::{collecting, Sent};
 use crate::side::{header, output_length, slots_length, text_length, Ours, Side, LENT, LENT_SLOT, LENT_WORD};
 use crate::text::content;
 use crate::zero_parameter::by_octets;
@@ -17,6 +19,8 @@ use crate::zero_parameter::by_octets;
 const SEED: u64 = 0x0C50_B7A4_1700_0001;
 const SLOTS_MOST: usize = 6; // slots of most plans and schedules, to keep the files small
 const LONG: usize = 400; // longer lists are left to the comparison
+const LONG_COLLECTOR: usize = 1700; // the same of the collector's
+const RUN: usize = 4; // so many equal octets of a collector or a message are written as a run
 
 /// Writes one file per subject and says how many cases and octets each has.
 pub fn write(folder: &Path) -> io::Result<String> {
@@ -46,6 +50,7 @@ pub fn files() -> Vec<(&'static str, Vec<String>)> {
         ("enter.txt", lines(Entry::Enter, 80)),
         ("slots.txt", lines(Entry::Slots, 80)),
         ("header.txt", lines(Entry::ReadHeader, 80)),
+        ("collector.txt", [lines(Entry::StartCollector, 4), lines(Entry::Collect, 16), rows(10)].concat()),
     ]
 }
 
@@ -92,6 +97,9 @@ pub fn lines(to: &mut impl io::Write, seed: u64, time: Duration) -> io::Result<(
             if *entry == Entry::Intake {
                 writeln!(to, "{}", sequence_line(&sequence(random)))?;
             }
+            if *entry == Entry::Collect {
+                writeln!(to, "{}", row_line(&row_of(&collecting_sequence(random))))?;
+            }
         }
     }
     to.flush()
@@ -111,15 +119,19 @@ pub fn fault_sets(entry: Entry) -> Vec<Vec<Fault>> {
 /// Invents a case of an entry, with so many slots at most.
 type Invent = fn(Entry, &mut Random, usize) -> Case;
 
-/// An invented case that is one call and no longer than a line should be; sequences of intake have lines of their own.
+/// An invented case that is one call and no longer than a line should be; sequences have lines of their own.
 fn any_call(invent: Invent, entry: Entry, random: &mut Random, most: usize) -> Case {
     loop {
         let mut case = invent(entry, random, most);
         if entry == Entry::Description {
             case.numbers[2] = 1;
         }
-        let single = entry != Entry::Intake || case.numbers.len() == 3 && case.numbers[0] == 1;
-        if single && case.words.len() < LONG && case.lists.iter().all(|list| list.len() < LONG) {
+        let single = entry.per_call().is_none_or(|numbers| case.numbers.len() == numbers && case.numbers[0] == 1);
+        let long = match entry {
+            Entry::StartCollector | Entry::Collect => LONG_COLLECTOR,
+            _ => LONG,
+        };
+        if single && case.words.len() < long && case.lists.iter().all(|list| list.len() < long) {
             return case;
         }
     }
@@ -146,7 +158,41 @@ fn sequence_line(case: &Case) -> String {
     fields.join(" ")
 }
 
-/// A case and what it gives as a line.
+/// Pages in a row, each from a start.
+fn rows(count: usize) -> Vec<String> {
+    let mut random = Random::new(SEED);
+    (0..count).map(|_| row_line(&row_of(&collecting_sequence(&mut random)))).collect()
+}
+
+/// The pages of a sequence of the collector.
+fn row_of(case: &Case) -> Vec<Sent> {
+    let calls = case.numbers.chunks_exact(4).zip(&case.lists[2..]);
+    calls.filter(|(numbers, _)| numbers[0] == 1).map(|(numbers, page)| (page.clone(), numbers[3])).collect()
+}
+
+/// Pages as a started collector takes them: for each, the number, the pages handed out and the output, and at the end
+/// the collector.
+pub fn row_line(pages: &[Sent]) -> String {
+    let mut collector = vec![0; COLLECTOR];
+    Ours.start_collector(&mut collector);
+    let mut fields = vec!["O".to_string()];
+    for (page, received) in pages {
+        let mut output = vec![LENT; COLLECTOR];
+        let returned = Ours.collect(&mut collector, &mut page.clone(), *received as usize, &mut output);
+        fields.extend([octets(page), format!("{received:x}"), low(returned), high(returned), left_runs(&output)]);
+    }
+    fields.push(runs(&collector));
+    fields.join(" ")
+}
+
+/// The pages of such a line.
+pub fn row(line: &str) -> Option<Vec<Sent>> {
+    let fields: Vec<&str> = line.strip_prefix("O ")?.split(' ').collect();
+    let sent = |group: &[&str]| Some((plain(group[0])?, u64::from_str_radix(group[1], 16).ok()?));
+    fields.chunks_exact(5).map(sent).collect()
+}
+
+/// A case and what it gives as a line; one of the collector that starts it is told as pages in a row.
 pub fn line(case: &Case) -> String {
     let (letter, fields) = match case.entry {
         Entry::Start => ("N", start_fields(case)),
@@ -164,11 +210,14 @@ pub fn line(case: &Case) -> String {
         Entry::Enter => ("E", enter_fields(case)),
         Entry::Slots => ("L", slots_fields(case)),
         Entry::ReadHeader => ("H", header_fields(case)),
+        Entry::StartCollector => ("J", start_collector_fields(case)),
+        Entry::Collect if case.numbers[0] == 0 => return row_line(&row_of(case)),
+        Entry::Collect => ("M", collect_fields(case)),
     };
     format!("{letter} {}", fields.join(" "))
 }
 
-/// The call of a line, where its fields are all that the call is given; none for N, I, Q, G and other files' letters.
+/// The call of a line, where its fields are all that the call is given; none for N, I, Q, G, O and other files' letters.
 pub fn case_of(line: &str) -> Option<Case> {
     let fields: Vec<&str> = line.split(' ').collect();
     let (entry, numbers, lists, words): (Entry, &[usize], &[usize], &[usize]) = match fields[0] {
@@ -184,6 +233,12 @@ pub fn case_of(line: &str) -> Option<Case> {
         "E" => (Entry::Enter, &[1, 3, 4, 5], &[2], &[]),
         "L" => (Entry::Slots, &[2, 3], &[1], &[]),
         "H" => (Entry::ReadHeader, &[], &[1], &[]),
+        "J" => return Some(Case::new(Entry::StartCollector, &[], &[&from_runs(fields[1])?], &[])),
+        "M" => {
+            let number = |at: usize| u64::from_str_radix(fields[at], 16).ok();
+            let sent = (plain(fields[2])?, number(3)?);
+            return Some(collecting(&from_runs(fields[1])?, &sent, number(4)? as usize));
+        }
         _ => return None,
     };
     let field = |&at: &usize| fields[at].trim_matches('-');
@@ -310,6 +365,22 @@ fn header_fields(case: &Case) -> Vec<String> {
     [vec![list(case, 0), low(returned)], values.to_vec()].concat()
 }
 
+fn start_collector_fields(case: &Case) -> Vec<String> {
+    let mut collector = given(case, 0);
+    let returned = Ours.start_collector(&mut collector);
+    vec![runs(&case.lists[0]), low(returned), after_runs(&case.lists[0], &collector)]
+}
+
+/// One call of the collector, which is as long as what is lent of it.
+fn collect_fields(case: &Case) -> Vec<String> {
+    let before = &case.lists[0][..case.number(1).min(case.lists[0].len())];
+    let mut collector = before.to_vec();
+    let mut output = vec![LENT; case.number(2)];
+    let returned = Ours.collect(&mut collector, &mut given(case, 2), case.number(3), &mut output);
+    let taken = vec![runs(before), list(case, 2), number(case, 3), number(case, 2)];
+    [taken, vec![low(returned), high(returned), after_runs(before, &collector), left_runs(&output)]].concat()
+}
+
 /// A number of a case as a field.
 fn number(case: &Case, at: usize) -> String {
     format!("{:x}", case.numbers[at])
@@ -367,6 +438,54 @@ fn after(before: &[u8], after: &[u8]) -> String {
 /// Output after a call; `=` where it is as it was lent.
 fn left(out: &[u8]) -> String {
     after(&vec![LENT; out.len()], out)
+}
+
+/// The octets of a field.
+fn plain(field: &str) -> Option<Vec<u8>> {
+    case::octets(field.trim_matches('-'))
+}
+
+/// The octets of a collector or a message as a field: four or more equal ones in a row are their count in parentheses and
+/// the octet.
+pub fn runs(list: &[u8]) -> String {
+    if list.is_empty() {
+        return "-".into();
+    }
+    let one = |run: &[u8]| match run.len() {
+        RUN.. => format!("({:x}){:02x}", run.len(), run[0]),
+        _ => hex(run),
+    };
+    list.chunk_by(|one, next| one == next).map(one).collect()
+}
+
+/// Reads what `runs` writes; none where the octets aren't written as it does.
+pub fn from_runs(field: &str) -> Option<Vec<u8>> {
+    let mut list = Vec::new();
+    let mut rest = field.trim_matches('-');
+    while !rest.is_empty() {
+        let (count, digits) = match rest.strip_prefix('(') {
+            Some(run) => run.split_once(')')?,
+            None => ("1", rest),
+        };
+        let (octet, after) = digits.split_at_checked(2)?;
+        list.resize(list.len() + usize::from_str_radix(count, 16).ok()?, u8::from_str_radix(octet, 16).ok()?);
+        rest = after;
+    }
+    (runs(&list) == field).then_some(list)
+}
+
+/// A collector after a call; `=` where it is as it was.
+fn after_runs(before: &[u8], after: &[u8]) -> String {
+    if before == after {
+        "=".into()
+    } else {
+        runs(after)
+    }
+}
+
+/// A message after a call; `=` where it is as it was lent.
+fn left_runs(out: &[u8]) -> String {
+    after_runs(&vec![LENT; out.len()], out)
 }
 
 fn left_words(text: &[u16]) -> String {

@@ -41,12 +41,14 @@ entries! {
     cb_enter(bool, *const u8, usize, usize, usize, u64) -> u64;
     cb_slots(*const u8, usize, usize, *mut u32, usize) -> u32;
     cb_read_header(*const u8, usize) -> u64;
+    cb_start_collector(*mut u8, usize) -> u32;
+    cb_collect(*mut u8, usize, *const u8, usize, usize, *mut u8, usize) -> u32;
 }
 
 /// The archives.
 pub struct Theirs;
 
-/// Whether the archives have an entry; an intake case starts its state too.
+/// Whether the archives have an entry; an intake case starts its state too, and a collecting one its collector.
 pub fn has(entry: Entry) -> bool {
     match entry {
         Entry::Start => linked::cb_start::CALL.is_some(),
@@ -64,6 +66,8 @@ pub fn has(entry: Entry) -> bool {
         Entry::Enter => linked::cb_enter::CALL.is_some(),
         Entry::Slots => linked::cb_slots::CALL.is_some(),
         Entry::ReadHeader => linked::cb_read_header::CALL.is_some(),
+        Entry::StartCollector => linked::cb_start_collector::CALL.is_some(),
+        Entry::Collect => linked::cb_collect::CALL.is_some() && linked::cb_start_collector::CALL.is_some(),
     }
 }
 
@@ -147,5 +151,14 @@ impl Side for Theirs {
 
     fn read_header(&self, page: &mut [u8]) -> u64 {
         call!(cb_read_header(page.as_ptr(), page.len()))
+    }
+
+    fn start_collector(&self, collector: &mut [u8]) -> u64 {
+        call!(cb_start_collector(collector.as_mut_ptr(), collector.len()))
+    }
+
+    fn collect(&self, collector: &mut [u8], page: &mut [u8], received: usize, output: &mut [u8]) -> u64 {
+        let (c, p, o) = (collector.len(), page.len(), output.len());
+        call!(cb_collect(collector.as_mut_ptr(), c, page.as_ptr(), p, received, output.as_mut_ptr(), o))
     }
 }

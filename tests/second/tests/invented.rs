@@ -5,6 +5,7 @@ use std::collections::BTreeSet;
 use std::time::Duration;
 
 use second::case::{octets, Case, Entry, ENTRIES};
+use second::collector::{is_proper, place_of, COLLECTOR};
 use second::compare::{compare, differ};
 use second::invent::{any, faults, put, sound};
 use second::random::Random;
@@ -12,7 +13,7 @@ use second::refusal::number_of;
 use second::schedule::{read_schedule, SLOTS};
 use second::shrink::shrink;
 use second::side::{run, Ours, Side, GUARD, LENT_SLOT};
-use second::stored::{case_of, files};
+use second::stored::{case_of, files, row};
 use second::text::Header;
 use second::zero_parameter::files_by_octets;
 
@@ -30,6 +31,7 @@ fn sound_cases_are_not_refused() {
             let fine = match entry {
                 Entry::Enter => read_schedule(&case.lists[0], case.number(1)).is_ok(),
                 Entry::Intake => [0, 1, 7].contains(&given),
+                Entry::Collect => [0, 1].contains(&given),
                 Entry::WriteSchedule => [0, 34].contains(&given),
                 _ => given == 0,
             };
@@ -91,6 +93,28 @@ fn stored_results_cover_every_number() {
     assert_eq!(numbers("D ", 7), BTreeSet::from([0, 41, 42]));
     assert_eq!(numbers("L ", 4), reader.into_iter().chain([15]).collect());
     assert_eq!(numbers("H ", 2), BTreeSet::from([0, 16]));
+    assert_eq!(numbers("J ", 2), BTreeSet::from([0, 8]));
+    assert_eq!(numbers("M ", 5), BTreeSet::from([0, 1, 8, 15, 16, 18, 50]));
+}
+
+/// The pages that stored lines of a letter hand out; `first` is the field of the first number, and each call of a line
+/// has `each` fields.
+fn handed_out(files: &[(&str, Vec<String>)], letter: &str, first: usize, each: usize) -> BTreeSet<String> {
+    let lines = files.iter().flat_map(|(_, lines)| lines).filter(|line| line.starts_with(letter));
+    let fields: Vec<Vec<&str>> = lines.map(|line| line.split(' ').skip(first).collect()).collect();
+    let calls = fields.iter().flat_map(|fields| fields.chunks(each)).filter(|call| call.len() > 1 && call[0] == "0");
+    calls.map(|call| call[1].to_string()).collect()
+}
+
+#[test]
+fn stored_results_hand_out_messages_of_every_total() {
+    let files = files();
+    let all: BTreeSet<String> = (1..=15).map(|total| format!("{total:x}")).collect();
+    assert_eq!(handed_out(&files, "M ", 5, 4), all);
+    assert!(["1", "2", "3", "f"].iter().all(|&total| handed_out(&files, "O ", 3, 5).contains(total)));
+    let (_, lines) = files.iter().find(|(name, _)| *name == "collector.txt").expect("it is written");
+    assert!(lines.iter().map(|line| line.len() + 1).sum::<usize>() <= 240_000);
+    assert!(lines.iter().filter_map(|line| row(line)).any(|pages| pages.len() > 30));
 }
 
 /// The entries that stored lines of a letter name with 36 and with 37; `at` is the field of the number, the next is the
@@ -171,7 +195,7 @@ fn a_case_is_read_back_from_its_text() {
 
 /// This implementation, but for a decision that compares 16 bits, a reader of text and one of slots that touch memory
 /// with a refusal, a repeat entered under its own slot, a serial number taken for an identifier, entries of a plan
-/// counted from 0, and pages compared by the octet as sent.
+/// counted from 0, pages compared by the octet as sent, and a collector in which the later copy of a page stays.
 struct Wrong;
 
 impl Side for Wrong {
@@ -246,6 +270,19 @@ impl Side for Wrong {
         let (serial, identifier) = (returned >> 16 & 0xFFFF, returned >> 32 & 0xFFFF);
         returned & !0xFFFF_FFFF_0000 | serial << 32 | identifier << 16
     }
+    fn start_collector(&self, collector: &mut [u8]) -> u64 {
+        Ours.start_collector(collector)
+    }
+    fn collect(&self, collector: &mut [u8], page: &mut [u8], received: usize, output: &mut [u8]) -> u64 {
+        let before = collector.to_vec();
+        let returned = Ours.collect(collector, page, received, output);
+        if returned == 1 && before == collector {
+            let at = place_of((page[5] >> 4) as usize);
+            collector[at] = received as u8;
+            collector[at + 1..at + 89].copy_from_slice(page);
+        }
+        returned
+    }
 }
 
 #[test]
@@ -287,6 +324,34 @@ fn an_entry_counted_from_0_is_found() {
     let compared = compare(&[Entry::ReadPlan], 9, Duration::from_secs(20), &Ours, &Wrong);
     let case = compared.difference.expect("a difference");
     assert_eq!((run(&case, &Ours).returned[0] >> 8, case.lists[0].len()), (1, 12), "nothing but the bad entry is left");
+}
+
+#[test]
+fn a_later_copy_that_stays_is_found() {
+    let compared = compare(&[Entry::Collect], 17, Duration::from_secs(20), &Ours, &Wrong);
+    let case = compared.difference.expect("a difference");
+    assert_eq!(case.calls(), 1, "{}", case.text());
+    assert!((1..=15).filter(|&number| case.lists[0][place_of(number)] != 0).count() == 1, "{}", case.text());
+}
+
+#[test]
+fn invented_collectors_are_proper_and_improper() {
+    let mut random = Random::new(18);
+    let (mut all, mut first, mut calls) = (0, [0; 51], 0);
+    for _ in 0..20_000 {
+        let case = any(Entry::Collect, &mut random, 48);
+        let lent = case.numbers[1] == COLLECTOR as u64 && case.lists[0].len() >= COLLECTOR;
+        let improper = lent && case.numbers[0] == 1 && !is_proper(&case.lists[0][..COLLECTOR]);
+        all += improper as usize;
+        let outcome = run(&case, &Ours);
+        assert!(!improper || outcome.returned[0] == 8);
+        outcome.returned.iter().for_each(|returned| first[(returned & 0xFF) as usize] += 1);
+        calls += outcome.returned.len();
+    }
+    assert!(all > 1_000, "{all} improper");
+    for number in [0, 1, 8, 15, 16, 18, 50] {
+        assert!(first[number] > 500, "{number}: {} of {calls}", first[number]);
+    }
 }
 
 #[test]

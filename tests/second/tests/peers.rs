@@ -1,12 +1,13 @@
-//! Results that other people's programs confirm, in `crates/trial/data/peers.txt`.
+//! Results that other people's programs confirm, in `crates/trial/data/peers.txt` and `peers_messages.txt`.
 
 use second::case::{hex, octets, words};
 use second::intake::STATE;
 use second::side::{Ours, Side};
-use second::stored::{case_of, line};
+use second::stored::{case_of, line, row, row_line};
 use second::text::{pack, read_text, septet, unpack, ALPHABET, CHARACTERS};
 
 const PEERS: &str = include_str!("../../../crates/trial/data/peers.txt");
+const MESSAGES: &str = include_str!("../../../crates/trial/data/peers_messages.txt");
 
 fn list(field: &str) -> Vec<u8> {
     octets(field.trim_matches('-')).unwrap()
@@ -62,4 +63,13 @@ fn peers_know_every_septet_but_the_escape() {
     let septets: Vec<u64> = known.map(|line| number(line.split(' ').nth(1).unwrap())).collect();
     assert_eq!(septets.len(), 127);
     assert!(septets.iter().all(|&at| septet(ALPHABET[at as usize]) == Some(at as u8)));
+}
+
+#[test]
+fn all_agree_on_messages_of_several_pages() {
+    let (comments, messages): (Vec<&str>, Vec<&str>) = MESSAGES.lines().partition(|line| line.starts_with('#'));
+    assert_eq!((comments.len(), messages.len()), (51, 50));
+    for message in messages {
+        assert_eq!(row_line(&row(message).expect("pages in a row")), message);
+    }
 }

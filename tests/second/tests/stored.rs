@@ -3,7 +3,7 @@
 use std::fs;
 use std::path::PathBuf;
 
-use second::stored::{case_of, files, line};
+use second::stored::{case_of, files, line, row, row_line};
 
 fn trial() -> PathBuf {
     PathBuf::from(env!("CARGO_MANIFEST_DIR")).join("../../crates/trial")
@@ -25,9 +25,10 @@ fn stored_results_are_what_is_written() {
 fn a_line_tells_its_call() {
     let letters = ["N", "I", "Q", "G"]; // more than one call, or memory that a line has only a part of
     for stored in files().iter().flat_map(|(_, lines)| lines) {
-        match case_of(stored) {
-            Some(case) => assert_eq!(line(&case), *stored),
-            None => assert!(letters.contains(&&stored[..1]), "{stored}"),
+        match (case_of(stored), row(stored)) {
+            (Some(case), _) => assert_eq!(line(&case), *stored),
+            (None, Some(pages)) => assert_eq!(row_line(&pages), *stored),
+            (None, None) => assert!(letters.contains(&&stored[..1]), "{stored}"),
         }
     }
 }
