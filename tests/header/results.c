@@ -28,6 +28,8 @@ static const struct {
     NUMBER(CB_SLOTS, 48),
     NUMBER(CB_PLAN, 294),
     NUMBER(CB_MOST_WANTED, 64),
+    NUMBER(CB_COLLECTOR, 1340),
+    NUMBER(CB_MOST_PAGES, 15),
     NUMBER(CB_DONE, 0),
     NUMBER(CB_PAGE, 0),
     NUMBER(CB_TAKEN, 1),
@@ -62,6 +64,8 @@ static const struct {
     NUMBER(CB_UNTRUE, 40),
     NUMBER(CB_SLOT_NUMBER, 41),
     NUMBER(CB_WANTED_COUNT, 42),
+    NUMBER(CB_PAGE_OVER_TOTAL, 50),
+    NUMBER(CB_KEPT, 1),
     NUMBER(CB_READ, 1),
     NUMBER(CB_FIRST, 0x8000),
     NUMBER(CB_OPTIONAL, 0x40),
@@ -180,6 +184,45 @@ static struct octets take_octets(void)
     return taken;
 }
 
+/* The next run of a list: how many equal octets it has, and where the digits of the octet are. */
+static size_t run_of(const char **list)
+{
+    char *end;
+    size_t count;
+
+    if (**list != '(')
+        return 1;
+    count = strtoul(*list + 1, &end, 16);
+    if (end == *list + 1 || *end != ')')
+        stop("no run");
+    *list = end + 1;
+    return count;
+}
+
+/* Octets of which equal ones are written as runs: their count in parentheses, and the octet. */
+static struct octets take_runs(void)
+{
+    const char *list = take();
+    struct octets taken;
+    size_t len = 0;
+
+    if (strcmp(list, "-") == 0)
+        return lent(0);
+    for (const char *at = list; *at != '\0'; at += 2) {
+        len += run_of(&at);
+        if (strlen(at) < 2)
+            stop("no list");
+    }
+    taken = lent(len);
+    len = 0;
+    for (const char *at = list; *at != '\0'; at += 2) {
+        size_t count = run_of(&at);
+        memset(taken.at + len, (int)digits(at, 2), count);
+        len += count;
+    }
+    return taken;
+}
+
 static struct points take_points(void)
 {
     const char *list = take();
@@ -250,6 +293,39 @@ static void hold_left(const void *memory, size_t len, size_t size)
         hold_list(memory, len, size);
 }
 #define HOLD_LEFT(memory) hold_left((memory).at, (memory).len, sizeof *(memory).at)
+
+enum { RUN = 4 }; /* so many equal octets in a row are written as a run, and no fewer */
+
+/* Holds octets, with their runs, to the next field. */
+static void hold_runs(struct octets list)
+{
+    static char shown[2 * CB_COLLECTOR + 1]; /* a run is never longer than its octets */
+    char *to = shown;
+    size_t count;
+
+    if (list.len > CB_COLLECTOR)
+        stop("too long a list");
+    for (size_t i = 0; i < list.len; i += count) {
+        count = 1;
+        while (i + count < list.len && list.at[i + count] == list.at[i])
+            count++;
+        if (count < RUN)
+            count = 1;
+        else
+            to += sprintf(to, "(%zx)", count);
+        to += sprintf(to, "%02x", (unsigned)list.at[i]);
+    }
+    hold(list.len > 0 ? shown : "-");
+}
+
+/* Memory after a call, with its runs: = where it is as it was. */
+static void hold_runs_after(const uint8_t *before, struct octets after)
+{
+    if (memcmp(before, after.at, after.len) == 0)
+        hold("=");
+    else
+        hold_runs(after);
+}
 
 /* Counts a call that returned something. */
 #define CALLED(call) (calls++, (call))
@@ -394,6 +470,106 @@ static void read_header(void)
     try_halves(CB_HEADER_PARAMETER(returned));
 }
 
+static void start_collector(void)
+{
+    struct octets collector = take_runs(), before = lent(collector.len);
+
+    memcpy(before.at, collector.at, collector.len);
+    hold_number(CB_ANSWER(CALLED(cb_start_collector(collector.at, collector.len))));
+    hold_runs_after(before.at, collector);
+}
+
+/* The number of a page and its total, where neither half of the parameter is 0; otherwise both are 1. */
+static void number_and_total(struct octets page, uint32_t *number, uint32_t *total)
+{
+    uint8_t parameter = CB_HEADER_PARAMETER(CALLED(cb_read_header(page.at, page.len)));
+
+    try_halves(parameter);
+    *number = CB_PAGE_OF(parameter);
+    *total = CB_TOTAL_OF(parameter);
+    if (*number == 0 || *total == 0)
+        *number = *total = 1;
+}
+
+/* Where a page stands in a message handed out: its octets received, and behind them the page. */
+static uint8_t *place(struct octets message, uint32_t number)
+{
+    if (CB_PAGE_PLACE(number) > message.len - 1 - CB_OUTPUT)
+        stop("a page's place is past the message");
+    return message.at + CB_PAGE_PLACE(number);
+}
+
+/* The page that completed a message stands in its place, and every page of it has octets received. What else a lent
+ * collector held goes out as it stood, so the headers of the other pages can be any. */
+static void try_place(struct octets message, uint32_t count, struct octets page, size_t received)
+{
+    uint32_t number, total;
+
+    for (uint32_t k = 1; k <= count; k++) {
+        uint8_t octets = *place(message, k);
+        if (octets != 22 && octets != 44 && octets != 66 && octets != 88)
+            stop("a page handed out has no octets received");
+    }
+    number_and_total(page, &number, &total);
+    if (total != count || *place(message, number) != received ||
+        memcmp(place(message, number) + 1, page.at, page.len) != 0)
+        stop("the page that came last isn't in its place");
+}
+
+/* Of a message collected from a start, every page stands in the place of its number. */
+static void try_places(struct octets message, uint32_t count)
+{
+    for (uint32_t k = 1; k <= count; k++) {
+        struct octets page = {place(message, k) + 1, CB_OUTPUT};
+        uint32_t number, total;
+        number_and_total(page, &number, &total);
+        if (number != k || total != count)
+            stop("a page handed out isn't in its place");
+    }
+}
+
+/* Takes a page, and holds what came of it, but for the collector. */
+static uint32_t collect_page(struct octets collector, struct octets page, size_t received, struct octets output)
+{
+    uint32_t returned = CALLED(cb_collect(collector.at, collector.len, page.at, page.len, received,
+                                          output.at, output.len));
+
+    hold_number(CB_NUMBER(returned));
+    hold_number(CB_COUNT(returned));
+    if (CB_NUMBER(returned) == CB_DONE && !differs)
+        try_place(output, CB_COUNT(returned), page, received);
+    return returned;
+}
+
+static void collect(void)
+{
+    struct octets collector = take_runs(), page = take_octets();
+    size_t received = take_size();
+    struct octets output = lent(take_size()), before = lent(collector.len), as_lent = lent(output.len);
+
+    memcpy(before.at, collector.at, collector.len);
+    collect_page(collector, page, received, output);
+    hold_runs_after(before.at, collector);
+    hold_runs_after(as_lent.at, output);
+}
+
+static void pages_in_a_row(void)
+{
+    struct octets collector = lent(CB_COLLECTOR), as_lent = lent(CB_COLLECTOR);
+
+    if (CALLED(cb_start_collector(collector.at, collector.len)) != CB_DONE)
+        stop("cb_start_collector refuses a collector of CB_COLLECTOR octets");
+    while (rest != NULL && strchr(rest, ' ') != NULL) {
+        struct octets page = take_octets(), output = lent(CB_COLLECTOR);
+        size_t received = take_size();
+        uint32_t returned = collect_page(collector, page, received, output);
+        hold_runs_after(as_lent.at, output);
+        if (CB_NUMBER(returned) == CB_DONE && !differs)
+            try_places(output, CB_COUNT(returned));
+    }
+    hold_runs(collector);
+}
+
 /* A schedule with its descriptions in the message's order, which cb_slots must tell by their slots. */
 static void read_schedule(void)
 {
@@ -511,6 +687,7 @@ static const struct {
     {'N', start}, {'I', intake}, {'Q', sequence}, {'V', texts}, {'B', write_blocks}, {'T', write_text},
     {'R', read_text}, {'C', content}, {'H', read_header}, {'S', read_schedule}, {'G', description}, {'L', all_slots},
     {'P', read_plan}, {'W', write_schedule}, {'K', check_schedule}, {'D', decide}, {'E', enter},
+    {'J', start_collector}, {'M', collect}, {'O', pages_in_a_row},
 };
 
 static void run_line(void)
