@@ -1,12 +1,14 @@
 /*
- * A board: takes pieces of 23 octets from standard input and shows the pages that it reads: board [IDENTIFIER...] < PIECES
+ * A board: takes pieces of 23 octets from standard input, shows the pages that it reads, and each message when its last page
+ * is there: board [IDENTIFIER...] < PIECES
  *
  * The identifiers, in hex, are those that it wants. Without a schedule it reads everything; with one it decides for each slot
- * and sleeps through what it skips. After a complete message it sleeps to the end of the slot.
+ * and sleeps through what it skips. After a complete page or schedule it sleeps to the end of the slot.
  *
  * What is simplified: a real board knows by the channel's timing where a slot begins. Here every four pieces of the input are
  * a slot, from the first piece on. The slot after a schedule is its Begin, and after its End there is no schedule. One with
- * Begin 1, or where there was none, begins a period, in which nothing is held yet.
+ * Begin 1, or where there was none, begins a period, in which nothing is held yet. All pages go to one collector, so a page of
+ * another message drops those before it; a board on which messages come interleaved has a collector for each identifier.
  */
 #include <stdio.h>
 #include <stdlib.h>
@@ -23,6 +25,7 @@ static uint8_t schedule[CB_OUTPUT]; /* it, and how much of it was received */
 static size_t schedule_received;
 static size_t slot, end;            /* the slot that goes on, and the last that the schedule tells of */
 static uint64_t held;               /* the slots whose pages are held */
+static uint8_t collector[CB_COLLECTOR]; /* the pages of a message that is not whole yet */
 
 static int fail(const char *what)
 {
@@ -77,22 +80,58 @@ static bool wakes(void)
     return reads;
 }
 
-/* Shows a page, with its text or, in another alphabet, its octets, and enters it among those held. */
-static void take_page(const uint8_t *page, size_t received)
+/* Shows what was received of a page: its text or, in another alphabet, its octets. */
+static void show_content(const uint8_t *page, size_t received)
 {
     uint16_t text[CB_TEXT];
-    uint64_t header = cb_read_header(page, CB_OUTPUT);
-    uint8_t parameter = CB_HEADER_PARAMETER(header);
     uint32_t read = cb_read_text(page, CB_OUTPUT, received, text, CB_TEXT);
 
-    printf("page %04X %04X %u/%u ", CB_HEADER_SERIAL(header), CB_HEADER_IDENTIFIER(header), CB_PAGE_OF(parameter),
-           CB_TOTAL_OF(parameter));
     for (uint32_t i = 0; i < CB_COUNT(read); i++)
         printf(text[i] >= 0x20 && text[i] < 0x7F ? "%c" : "<%04X>", text[i]);
     if (CB_NUMBER(read) == CB_SCHEME && CB_NUMBER(cb_content(page, CB_OUTPUT, received)) == 0)
         for (size_t i = CB_HEADER; i < received; i++)
             printf("%02X", page[i]);
+}
+
+static void show_page(const uint8_t *page, size_t received)
+{
+    uint64_t header = cb_read_header(page, CB_OUTPUT);
+    uint8_t parameter = CB_HEADER_PARAMETER(header);
+
+    printf("page %04X %04X %u/%u ", CB_HEADER_SERIAL(header), CB_HEADER_IDENTIFIER(header), CB_PAGE_OF(parameter),
+           CB_TOTAL_OF(parameter));
+    show_content(page, received);
     putchar('\n');
+}
+
+static void show_message(const uint8_t *message, uint32_t pages)
+{
+    printf("message %02X%02X %02X%02X, %u page%s: ", message[1], message[2], message[3], message[4], pages,
+           pages == 1 ? "" : "s");
+    for (uint32_t i = 1; i <= pages; i++) {
+        const uint8_t *place = message + CB_PAGE_PLACE(i);
+        show_content(place + 1, place[0]);
+    }
+    putchar('\n');
+}
+
+/* Collects a page, and shows the message that it makes whole. */
+static void collect(const uint8_t *page, size_t received)
+{
+    uint8_t message[CB_COLLECTOR];
+    uint32_t taken = cb_collect(collector, sizeof collector, page, CB_OUTPUT, received, message, sizeof message);
+
+    if (CB_NUMBER(taken) == 0)
+        show_message(message, CB_COUNT(taken));
+    else if (CB_NUMBER(taken) != CB_KEPT)
+        printf("page refused by %u\n", CB_NUMBER(taken));
+}
+
+/* Shows a page, collects it, and enters it among those held. */
+static void take_page(const uint8_t *page, size_t received)
+{
+    show_page(page, received);
+    collect(page, received);
     if (!known)
         return;
     held = cb_enter(known, schedule, sizeof schedule, schedule_received, slot, held);
@@ -124,9 +163,10 @@ int main(int count, char **words)
         if (!want(words[i]))
             return fail("an identifier isn't 1 to 4 hex digits");
 
+    cb_start_collector(collector, sizeof collector); /* once, since the pages of a message come in many slots */
     while ((length = fread(piece, 1, sizeof piece, stdin)) > 0 && !ferror(stdin)) {
         if (pieces++ % SLOT_PIECES == 0) {
-            /* No message goes across slots; without this a block after a sleep could go on with what an earlier slot began. */
+            /* No page goes across slots; without this a block after a sleep could go on with what an earlier slot began. */
             cb_start(state, sizeof state);
             awake = wakes();
         }
