@@ -36,11 +36,18 @@ static int check(const struct subject *subject)
     return 0;
 }
 
+static void renew(const struct subject *subject, int call)
+{
+    if (subject->renew != NULL)
+        subject->renew(call);
+}
+
 /* Time of the processor, so that other programs' turns aren't counted. */
 static double timed_pass(const struct subject *subject, int call, bool rattle)
 {
     struct timespec from, to;
 
+    renew(subject, call);
     clock_gettime(CLOCK_PROCESS_CPUTIME_ID, &from);
     subject->pass(call, rattle);
     clock_gettime(CLOCK_PROCESS_CPUTIME_ID, &to);
@@ -98,6 +105,7 @@ int measure(const struct subject *subject, int argc, char **argv)
         return 0;
     }
     if (call >= 0 && argc == 5 && strcmp(task, "pass") == 0) {
+        renew(subject, call);
         subject->pass(call, strcmp(side, "rattle") == 0);
         printf("%d\n", subject->inputs);
         return 0;

@@ -15,6 +15,8 @@ struct subject {
 
     /* Makes the inputs of that length. What it calls itself is plain C's, or with by_rattle Rattle's. */
     void (*prepare)(size_t length, bool by_rattle);
+    /* Makes what a pass of a call changes as it was before; NULL where nothing is changed that matters. */
+    void (*renew)(int call);
     /* Goes once over the inputs with a call, by its place among the names. */
     void (*pass)(int call, bool rattle);
     /* Holds Rattle and plain C to the same numbers and memory, on how many calls. */
