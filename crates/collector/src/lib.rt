@@ -1,9 +1,9 @@
 // Messages of several pages, collected in memory that the caller lends: 1,340 octets of collector, and as many of output.
 ghost use mathlib.Core.Path.{_≡_};
 ghost use mathlib.Core.List.{_++_};
-ghost use Prim.Native.Nat.{_+_, _*_, _-_, _≤_, _<_};
+ghost use Prim.Native.Nat.{_-_, _≤_, _<_};
 ghost use lib.ListN.{length, take};
-ghost use Rattle.collector.specs.Paper.{pageNumber, pageTotal, pagePlace, total, held, blanks, start, begun, isOf, goesOn, put, withPage, settled, moved, collected, startCall, collectCall};
+ghost use Rattle.collector.specs.Paper.{pageNumber, pageTotal, pagePlace, blanks, start, begun, isOf, goesOn, put, withPage, settled, moved, collected, startCall, collectCall};
 ghost use Rattle.collector.specs.Coded.{numberOfAnswer, pagesOfAnswer};
 ghost use Rattle.collector.specs.Inner.{pagesIn, pagesOf, Takes, Holds, Adds};
 use refusals::Refusal;

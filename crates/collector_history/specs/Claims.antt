@@ -163,19 +163,19 @@ unfoldable pub afterCalls : List ℕ → List Call → List ℕ
 afterCalls c [] = c
 afterCalls c (x ∷ xs) = afterCalls (afterCall c x) xs
 
+-- the page that a call gives
+abbrev pub offer : List ℕ → ℕ → Offered
+offer p n = record { page = p; received = n }
+
 -- 01 Intake, DECISIONS, The collector's memory: the pages given by calls: one refused by 15, or by 8 for the length, gives none
 unfoldable pub counted : List Call → List Offered
 counted [] = []
-counted (on p n o ∷ xs) = cond (eqb (length o) 1340) (record { page = p; received = n } ∷ counted xs) (counted xs)
+counted (on p n o ∷ xs) = cond (eqb (length o) 1340) (offer p n ∷ counted xs) (counted xs)
 counted (off m w p n o ∷ xs) = counted xs
 
 -- a call after a start call on memory m and further calls
 abbrev pub callAfter : List ℕ → List Call → List ℕ → ℕ → List ℕ → CollectLeft
 callAfter m xs p n o = collectCall (afterCalls (startCall m .collector) xs) p n o
-
--- the page that a call gives
-abbrev pub offer : List ℕ → ℕ → Offered
-offer p n = record { page = p; received = n }
 
 -- DECISIONS, Several numbers in one: number and pages handed out come out of what a call returns, whatever it is given
 abbrev pub UnpackedCollect : Type 0
