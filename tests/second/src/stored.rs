@@ -253,7 +253,7 @@ pub fn case_of(line: &str) -> Option<Case> {
 fn start_fields(case: &Case) -> Vec<String> {
     let mut state = given(case, 0);
     let returned = Ours.start(&mut state);
-    vec![list(case, 0), low(returned), after(&case.lists[0], &state)]
+    vec![list(case, 0), low(returned), after(&case.lists[0], &state, octets)]
 }
 
 /// One intake call: its state is as long as what is lent of it.
@@ -263,7 +263,7 @@ fn intake_fields(case: &Case) -> Vec<String> {
     let mut output = vec![LENT; case.number(2)];
     let returned = Ours.intake(&mut state, &mut given(case, 2), &mut output);
     let taken = vec![octets(before), list(case, 2), number(case, 2)];
-    [taken, vec![low(returned), high(returned), after(before, &state), left(&output)]].concat()
+    [taken, vec![low(returned), high(returned), after(before, &state, octets), left(&output)]].concat()
 }
 
 fn blocks_fields(case: &Case) -> Vec<String> {
@@ -368,7 +368,7 @@ fn header_fields(case: &Case) -> Vec<String> {
 fn start_collector_fields(case: &Case) -> Vec<String> {
     let mut collector = given(case, 0);
     let returned = Ours.start_collector(&mut collector);
-    vec![runs(&case.lists[0]), low(returned), after_runs(&case.lists[0], &collector)]
+    vec![runs(&case.lists[0]), low(returned), after(&case.lists[0], &collector, runs)]
 }
 
 /// One call of the collector, which is as long as what is lent of it.
@@ -378,7 +378,7 @@ fn collect_fields(case: &Case) -> Vec<String> {
     let mut output = vec![LENT; case.number(2)];
     let returned = Ours.collect(&mut collector, &mut given(case, 2), case.number(3), &mut output);
     let taken = vec![runs(before), list(case, 2), number(case, 3), number(case, 2)];
-    [taken, vec![low(returned), high(returned), after_runs(before, &collector), left_runs(&output)]].concat()
+    [taken, vec![low(returned), high(returned), after(before, &collector, runs), left_runs(&output)]].concat()
 }
 
 /// A number of a case as a field.
@@ -426,18 +426,18 @@ fn words(list: &[u16]) -> String {
     }
 }
 
-/// Memory after a call; `=` where it is as it was.
-fn after(before: &[u8], after: &[u8]) -> String {
+/// Memory after a call, as `told` writes it; `=` where it is as it was.
+fn after(before: &[u8], after: &[u8], told: fn(&[u8]) -> String) -> String {
     if before == after {
         "=".into()
     } else {
-        octets(after)
+        told(after)
     }
 }
 
 /// Output after a call; `=` where it is as it was lent.
 fn left(out: &[u8]) -> String {
-    after(&vec![LENT; out.len()], out)
+    after(&vec![LENT; out.len()], out, octets)
 }
 
 /// The octets of a field.
@@ -474,18 +474,9 @@ pub fn from_runs(field: &str) -> Option<Vec<u8>> {
     (runs(&list) == field).then_some(list)
 }
 
-/// A collector after a call; `=` where it is as it was.
-fn after_runs(before: &[u8], after: &[u8]) -> String {
-    if before == after {
-        "=".into()
-    } else {
-        runs(after)
-    }
-}
-
 /// A message after a call; `=` where it is as it was lent.
 fn left_runs(out: &[u8]) -> String {
-    after_runs(&vec![LENT; out.len()], out)
+    after(&vec![LENT; out.len()], out, runs)
 }
 
 fn left_words(text: &[u16]) -> String {
