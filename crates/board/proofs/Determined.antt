@@ -14,7 +14,7 @@ use defs.declared.Decision.the-variants.{Read, Skip, Refused}
 use defs.declared.Wanted.{Wanted as WantedCode}
 use defs.Paper.{Wanted, Decided, decide}
 use defs.Inner.{filledWanted}
-use defs.Coded.{idOf, wantedOf, decidedOf}
+use defs.Coded.{idOf, wantedOf, lentWanted, decidedOf}
 
 wanted-injective : (r s : WantedCode) → wantedOf r ≡ wantedOf s → r ≡ s
 wanted-injective r s e =
@@ -36,8 +36,8 @@ decisionFrom-decidedOf (Refused r) = rw (ne-eqb (numberOf r) 0 (numberOf-positiv
 decided-injective : (r s : Decision) → decidedOf r ≡ decidedOf s → r ≡ s
 decided-injective r s e = sym (decisionFrom-decidedOf r) ∙ ap decisionFrom e ∙ decisionFrom-decidedOf s
 
-pub determined-decide-on : (known : Bool) (m : List ℕ) (received slot : ℕ) (wanted : WantedCode) (held : Held)
-    → Determined (λ (r : Decision). decidedOf r ≡ decide (lentSchedule known m received) slot (wantedOf wanted) (held .0))
+pub determined-decide-on : (known : Bool) (m : List ℕ) (received slot : ℕ) (wanted : List ℕ) (held : Held)
+    → Determined (λ (r : Decision). decidedOf r ≡ decide (lentSchedule known m received) slot (lentWanted wanted) (held .0))
 determined-decide-on known m received slot wanted held = determined-by decidedOf decided-injective
 
 pub determined-decide : (schedule : Schedule) (slot : ℕ) (wanted : WantedCode) (held : Held)

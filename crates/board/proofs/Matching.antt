@@ -1,30 +1,21 @@
 -- Laws of wanted lists: the loop that looks through one, and which identifiers match.
-use Rattle.laws.proofs.Base.{_≡_, ap, true, false, List, ℕ, _+_, _%_, _<_, mod-mod, length, getD, take, length-map, List·getD-map, eqb, eq-eqb, ne-eqb, eqb-true}
+use Rattle.laws.proofs.Base.{_≡_, ap, true, false, List, ℕ, _+_, _%_, _<_, mod-mod, length, getD, take, eqb, eq-eqb, ne-eqb, eqb-true}
 use Rattle.laws.specs.Search.{some}
 use Rattle.laws.proofs.Search.{some-turn, some-found, some-implies, some-agree}
-use Rattle.page.specs.declared.MessageId.{MessageId}
 use Rattle.board.specs as defs
 use defs.Paper.{Wanted, matches15, isWanted}
-use defs.Coded.{idOf, idsOf}
+use defs.Inner.{counted}
 
--- the identifier that stands for one past the end of an array
-abbrev pub none : MessageId
-none = record { 0 = 0 }
-
-module _ (x : ℕ) (ids : List MessageId) (i : ℕ) (inside : i < length ids) where
-  near : i < length (idsOf ids)
-  near = rw length-map inside
-
-  own : getD (idsOf ids) i 0 ≡ getD ids i none .0
-  own = List·getD-map idOf ids i none
-
+module _ (x : ℕ) (ids : List ℕ) (i : ℕ) (inside : i < length ids) where
   -- one of the first n matches
-  pub matches-found : (n : ℕ) → i < n → getD ids i none .0 % 0x8000 ≡ x % 0x8000 → some (matches15 x) (take n (idsOf ids)) ≡ true
-  matches-found n l e = some-found (matches15 x) 0 n (idsOf ids) i l near (rw own (eq-eqb _ _ e))
+  pub matches-found : (n : ℕ) → i < n → getD ids i 0 % 0x8000 ≡ x % 0x8000 → isWanted (counted n ids) x ≡ true
+  unfolding isWanted
+  matches-found n l e = some-found (matches15 x) 0 n ids i l inside (eq-eqb _ _ e)
 
   -- none of the first so far, and not the next
-  pub matches-turn : (getD ids i none .0 % 0x8000 ≡ x % 0x8000 → ⊥) → some (matches15 x) (take i (idsOf ids)) ≡ false → some (matches15 x) (take (i + 1) (idsOf ids)) ≡ false
-  matches-turn e before = some-turn (matches15 x) 0 (idsOf ids) i near before (rw own (ne-eqb _ _ e))
+  pub matches-turn : (getD ids i 0 % 0x8000 ≡ x % 0x8000 → ⊥) → isWanted (counted i ids) x ≡ false → isWanted (counted (i + 1) ids) x ≡ false
+  unfolding isWanted
+  matches-turn e before = some-turn (matches15 x) 0 ids i inside before (ne-eqb _ _ e)
 
 -- the low 15 bits of an identifier match what it matches
 pub low15-wanted : (w : Wanted) (x : ℕ) → isWanted w (x % 0x8000) ≡ isWanted w x

@@ -2,6 +2,7 @@
 use Prim.Native.Nat.{ℕ}
 use mathlib.Core.Bool.{true, false}
 use mathlib.Core.List.{List, map}
+use lib.ListN.{length}
 use Rattle.refusals.specs.Number.{numberOf}
 use Rattle.page.specs.declared.MessageId.{MessageId}
 use Rattle.board.specs.declared.Wanted.{Wanted as WantedCode}
@@ -18,6 +19,10 @@ idsOf xs = map idOf xs
 
 abbrev pub wantedOf : WantedCode → Wanted
 wantedOf w = record { count = w .count; ids = idsOf (w .ids) }
+
+-- the identifiers of a list that is lent
+abbrev pub lentWanted : List ℕ → Wanted
+lentWanted l = record { count = length l; ids = l }
 
 -- 0 with read or skip, or the refusal's number with skip
 abbrev pub decidedOf : Decision → Decided

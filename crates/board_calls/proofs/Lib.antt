@@ -1,3 +1,2 @@
 -- What `board_calls` proves.
-pub mod Decided
 pub mod Determined

@@ -2,15 +2,15 @@
 use mathlib.Core.Bool.{Bool}
 use mathlib.Core.List.{List}
 use Prim.Native.Nat.{ℕ}
-use lib.ListN.{length}
 use Rattle.calls.specs.Paper.{inOne, bitOf}
 use Rattle.board.specs.Paper.{Decided, decide}
+use Rattle.board.specs.Coded.{lentWanted}
 use Rattle.board_held.specs.Coded.{lentSchedule}
 
 -- 01 Decision: what is decided beside a schedule message that is known or not, for a list of wanted identifiers
 abbrev pub decidedFor : Bool → List ℕ → ℕ → ℕ → List ℕ → ℕ → Decided
 decidedFor known m received slot wanted held =
-    decide (lentSchedule known m received) slot (record { count = length wanted; ids = wanted }) held
+    decide (lentSchedule known m received) slot (lentWanted wanted) held
 
 -- DECISIONS, Several numbers in one: number + 256 × (1 read, 0 skip)
 abbrev pub packedDecided : Decided → ℕ

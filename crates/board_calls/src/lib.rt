@@ -16,8 +16,7 @@ pub extern "C" fn cb_decide(
 ) -> u32
     ensures { λ r. ⌜ r ≡ decideCall known (now (message .entry)) received slot (now (wanted .entry)) held ⌝ }
 {
-    let list = board::wanted_of(wanted);
-    let answer = board::decide_on(known, message, received, slot, list, Held(held));
+    let answer = board::decide_on(known, message, received, slot, wanted, Held(held));
     match answer {
         Decision::Read => 256,
         Decision::Skip => 0,

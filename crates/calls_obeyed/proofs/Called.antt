@@ -11,9 +11,10 @@ use Rattle.board_obeyed.specs.Claims.{Obeys, boardAfter}
 use Rattle.board_obeyed.proofs.Obeyed.{wakes, wakes-only}
 use Rattle.calls.specs.Paper.{bitOf}
 use Rattle.plan_calls.specs.Paper.{besideNumber, fileFaults, filesEntry, writtenFrom, checkedBeside, packedChecked, checkScheduleCall}
+use Rattle.board.specs.Coded.{lentWanted}
 use Rattle.board_calls.specs.Paper.{packedDecided, decidedFor}
 use Rattle.calls_unpacked.proofs.Unpacked.{unpacked-write-schedule, unpacked-check-schedule, unpacked-decide}
-use Rattle.calls_obeyed.specs.Claims.{planIn, wantedList, CallsAccepted, ObeysCalls, CallsWake, CallsWakeOnly, afterSlots, CallsPeriod}
+use Rattle.calls_obeyed.specs.Claims.{planIn, CallsAccepted, ObeysCalls, CallsWake, CallsWakeOnly, afterSlots, CallsPeriod}
 
 -- no test on two files holds
 abbrev Good : List ℕ → List ℕ → Type 0
@@ -65,16 +66,16 @@ calls-accepted c p b o z =
       blocks = true-call c p (w .0) (write (planIn c) (planIn p) b o .output) (22 * lastUsed (write (planIn c) (planIn p) b o .used)) (a .used);
     })
 
-pub obeys : (c p m : List ℕ) (received : ℕ) (w : List ℕ) → ObeysCalls c p m received w → Obeys (planIn c) (planIn p) m received (wantedList w)
+pub obeys : (c p m : List ℕ) (received : ℕ) (w : List ℕ) → ObeysCalls c p m received w → Obeys (planIn c) (planIn p) m received (lentWanted w)
 obeys c p m received w o = record { accepted = accepts c p m received (o .accepted); few = o .few }
 
 pub calls-wake : CallsWake
 calls-wake c p m received w o held i q l =
-    ap packedDecided (wakes (planIn c) (planIn p) m received (wantedList w) (obeys c p m received w o) held i q l)
+    ap packedDecided (wakes (planIn c) (planIn p) m received (lentWanted w) (obeys c p m received w o) held i q l)
 
 pub calls-wake-only : CallsWakeOnly
 calls-wake-only c p m received w o held i l e =
-    wakes-only (planIn c) (planIn p) m received (wantedList w) (obeys c p m received w o) held i l
+    wakes-only (planIn c) (planIn p) m received (lentWanted w) (obeys c p m received w o) held i l
     (bit-read (decidedFor true m received (suc i) w held .read) (sym (unpacked-decide true m received (suc i) w held .1) ∙ e))
   where
     bit-read : (b : Bool) → bitOf b ≡ 1 → b ≡ true
@@ -90,5 +91,5 @@ pub calls-period : CallsPeriod
 unfolding boardAfter afterSlots
 calls-period c m received w lost b zero = refl
 calls-period c m received w lost b (suc n) =
-    let held = boardAfter c m received (wantedList w) lost b n .held in
+    let held = boardAfter c m received (lentWanted w) lost b n .held in
     rw (calls-period c m received w lost b n, unpacked-decide true m received (suc n) w held .1, read-one (decidedFor true m received (suc n) w held .read))

@@ -12,11 +12,12 @@ use Rattle.sender_message.specs.Paper as told
 use Rattle.sender.specs.Paper as sender
 use Rattle.checker.specs.Paper.{check, isTrue}
 use Rattle.board.specs.Paper.{isWanted, reads, decide}
+use Rattle.board.specs.Coded.{lentWanted}
 use Rattle.board_held.specs.Paper.{isHeld, tellsOf}
 use Rattle.plan_calls.specs.Paper.{writeScheduleCall}
 use Rattle.board_calls.specs.Paper.{decideCall}
 use Rattle.board_obeyed.specs.Claims.{WantedPage}
-use Rattle.calls_obeyed.specs.Claims.{planIn, wantedList, ObeysCalls}
+use Rattle.calls_obeyed.specs.Claims.{planIn, ObeysCalls}
 
 -- 01 Where the edges are: a plan file of two slots, both serial number 0010, identifier 8001, parameter 11; and one of no slots
 abbrev current : List ℕ
@@ -40,7 +41,7 @@ unfolding readPlan entriesIn entryIn check planNumber bad some read upto.someBel
 obeys = record { accepted = refl; few = lit≤ tt }
 
 -- slot 1 is the lowest of a page whose identifier 8001 matches in 15 bits
-pub first-wanted : WantedPage (planIn current) (wantedList (1 ∷ [])) 0
+pub first-wanted : WantedPage (planIn current) (lentWanted (1 ∷ [])) 0
 unfolding readPlan entriesIn entryIn bad some isWanted
 first-wanted = record { below = lit< tt; page = refl; wanted = refl }
 

@@ -9,7 +9,7 @@ use Rattle.block_writer.specs.Paper.{lastUsed}
 use Rattle.plan.specs.Paper.{Plan, entryAt}
 use Rattle.plan_read.specs.Paper.{readPlan}
 use Rattle.plan_slots.specs.Paper.{pageAt, lowestAt}
-use Rattle.board.specs.Paper.{Wanted}
+use Rattle.board.specs.Coded.{lentWanted}
 use Rattle.plan_calls.specs.Paper.{writeScheduleCall, checkScheduleCall}
 use Rattle.board_calls.specs.Paper.{decideCall}
 use Rattle.held_calls.specs.Paper.{enterCall}
@@ -18,10 +18,6 @@ use Rattle.board_obeyed.specs.Claims.{WantedPage, Why, Board, boardAfter}
 -- 01 The plan: the plan that a file holds
 abbrev pub planIn : List ℕ → Plan
 planIn f = readPlan f .plan
-
--- 01 Decision: the wanted list that C lends
-abbrev pub wantedList : List ℕ → Wanted
-wantedList w = record { count = length w; ids = w }
 
 -- 01 The plan, our writer: a message m of so many used octets is accepted beside the files c and p, with 88 received and with 22 times the block that holds the last used octet
 pub record AcceptedCall (c p m : List ℕ) (used : ℕ) : Type 0 where
@@ -43,13 +39,13 @@ pub record ObeysCalls (c p m : List ℕ) (received : ℕ) (w : List ℕ) : Type 
 abbrev pub CallsWake : Type 0
 CallsWake =
     (c p m : List ℕ) (received : ℕ) (w : List ℕ) → ObeysCalls c p m received w
-    → (held i : ℕ) → WantedPage (planIn c) (wantedList w) i → lowestAt (planIn c) i ≡ suc i → decideCall true m received (suc i) w held ≡ 256
+    → (held i : ℕ) → WantedPage (planIn c) (lentWanted w) i → lowestAt (planIn c) i ≡ suc i → decideCall true m received (suc i) w held ≡ 256
 
 -- 00 demand 3, for C: and of the slots of the period it reads no others than those marked advised, wanted first transmissions, and repeats of those that aren't held
 abbrev pub CallsWakeOnly : Type 0
 CallsWakeOnly =
     (c p m : List ℕ) (received : ℕ) (w : List ℕ) → ObeysCalls c p m received w
-    → (held i : ℕ) → i < planIn c .count → decideCall true m received (suc i) w held / 256 ≡ 1 → Why (planIn c) m (wantedList w) held i
+    → (held i : ℕ) → i < planIn c .count → decideCall true m received (suc i) w held / 256 ≡ 1 → Why (planIn c) m (lentWanted w) held i
 
 -- 01 Decision: a board in C gets the page planned for slot i, and enters it by cb_enter
 abbrev pub enteringCall : Plan → List ℕ → ℕ → ℕ → Board → Board
@@ -72,4 +68,4 @@ afterSlots c m received w lost b (suc n) =
 abbrev pub CallsPeriod : Type 0
 CallsPeriod =
     (c : Plan) (m : List ℕ) (received : ℕ) (w : List ℕ) (lost : ℕ → Bool) (b : Board) (n : ℕ)
-    → afterSlots c m received w lost b n ≡ boardAfter c m received (wantedList w) lost b n
+    → afterSlots c m received w lost b n ≡ boardAfter c m received (lentWanted w) lost b n

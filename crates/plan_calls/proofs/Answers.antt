@@ -29,11 +29,8 @@ use Rattle.calls.specs.Paper.{inOne}
 use Rattle.calls.specs.Claims.{IsLeft}
 use Rattle.calls.proofs.Packed.{left-number}
 use Rattle.plan_calls.specs as defs
-use defs.declared.Files.{Files}
 use defs.Paper.{fileFaults, filesEntry, writtenFrom, writtenLeft, writeScheduleCall, checkedBeside, packedChecked, checkScheduleCall}
-use defs.Coded.{filesOf}
-use defs.Inner.{Filed, filed}
-use Rattle.plan_calls.proofs.Filed.{files-refused, files-good, files-entry, files-named}
+use Rattle.plan_calls.proofs.Filed.{Files, Filed, filesOf, filed, files-refused, files-good, files-entry, files-named}
 
 -- a refusal and the entry that comes with it, packed
 pub refused-left : (g : Refusal) (s : ℕ) {r : ℕ} {o : List ℕ} → r ≡ inOne (numberOf g) s

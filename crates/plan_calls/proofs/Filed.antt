@@ -1,5 +1,5 @@
 -- Laws of two plan files that are read together.
-use Rattle.laws.proofs.Base.{_≡_, refl, sym, ap, _∙_, Bool, true, false, cond, not, List, ℕ, eqb, ne-eqb, eqb-true}
+use Rattle.laws.proofs.Base.{_≡_, refl, sym, ap, _∙_, Bool, true, false, cond, not, List, ℕ, eqb, eqb-true}
 use Rattle.laws.specs.Ruled.{ruled}
 use Rattle.laws.proofs.Tests.{true-or-false}
 use Rattle.laws.proofs.Outcome.{Outcome, refuses, passes, outcome}
@@ -12,14 +12,43 @@ use Rattle.plan.specs.declared.Verdict.{Verdict}
 use Rattle.plan.specs.declared.Verdict.the-variants.{Good, Refused}
 use Rattle.plan_read.specs.Paper.{PlanRead, readPlan}
 use Rattle.plan.specs.Coded.{verdictOf, planOf}
-use Rattle.plan.specs.Paper.{naming}
+use Rattle.plan.specs.declared.Plan.{Plan as PlanCode}
+use Rattle.plan.specs.Paper.{Plan, naming, Verdict as Said}
 use Rattle.plan_read.specs.Coded.{readingOf}
 use Rattle.plan_read.proofs.Named.{read-named}
 use Rattle.plan_calls.specs as defs
-use defs.declared.Files.{Files}
 use defs.Paper.{fileFaults, filesEntry}
-use defs.Coded.{filesOf}
-use defs.Inner.{Filed, filed}
+
+-- two files as a call holds them: the refusal that comes first, and their plans
+pub record Files : Type 0 where
+  pub verdict : Verdict
+  pub current : PlanCode
+  pub previous : PlanCode
+
+-- the same in the paper's terms: the number that they are refused by, 0 where both are good, the entry that is named with it, and their plans
+pub record Filed : Type 0 where
+  pub number : ℕ
+  pub entry : ℕ
+  pub current : Plan
+  pub previous : Plan
+
+abbrev pub filesOf : Files → Filed
+filesOf f =
+    record {
+      number = verdictOf (f .verdict) .number;
+      entry = verdictOf (f .verdict) .entry;
+      current = planOf (f .current);
+      previous = planOf (f .previous);
+    }
+
+abbrev pub filed : List ℕ → List ℕ → Filed
+filed c p =
+    record {
+      number = ruled (λ (n : ℕ). n) (fileFaults c p) 0;
+      entry = filesEntry c p;
+      current = readPlan c .plan;
+      previous = readPlan p .plan;
+    }
 
 -- a number that answers unless it is 0
 unless-self : (n : ℕ) → n ≡ cond (not (eqb n 0)) n 0
@@ -31,30 +60,27 @@ unless-self n = go (eqb n 0) refl
 
 module _ (c p : List ℕ) where
   module _ (x y : Reading) (d : readingOf x ≡ readPlan c) (e : readingOf y ≡ readPlan p) where
-    -- what is read of both, with a number and an entry
-    with-entry : (n s : ℕ) → n ≡ filed c p .number → s ≡ filesEntry c p
-        → record { number = n; entry = s; current = planOf (x .plan); previous = planOf (y .plan) } ≡ filed c p
-    with-entry n s q h = λ i. record { number = q i; entry = h i; current = d i .plan; previous = e i .plan }
+    -- what is read of both, with the refusal that comes first
+    pub both-read : (v : Verdict) → verdictOf v ≡ cond (eqb (verdictOf (x .verdict) .number) 0) (verdictOf (y .verdict)) (verdictOf (x .verdict))
+        → filesOf (record { verdict = v; current = x .plan; previous = y .plan }) ≡ filed c p
+    both-read v q = λ i. record { number = number i; entry = entry i; current = d i .plan; previous = e i .plan }
+      where
+        own : verdictOf v ≡ cond (eqb (readPlan c .number) 0) (verdictOf (y .verdict)) (verdictOf (x .verdict))
+        own = q ∙ ap (λ (n : ℕ). cond (eqb n 0) (verdictOf (y .verdict)) (verdictOf (x .verdict))) (ap (λ (r : PlanRead). r .number) d)
 
-    pub current-good : x .verdict ≡ Good
-        → record {
-          number = verdictOf (y .verdict) .number;
-          entry = verdictOf (y .verdict) .entry;
-          current = planOf (x .plan);
-          previous = planOf (y .plan);
-        } ≡ filed c p
-    current-good k =
-        let good : readPlan c .number ≡ 0 = sym (ap (λ (r : PlanRead). r .number) d) ∙ ap (λ (v : Verdict). verdictOf v .number) k in
-        with-entry (verdictOf (y .verdict) .number) (verdictOf (y .verdict) .entry)
-        (rw good (ap (λ (r : PlanRead). r .number) e ∙ unless-self (readPlan p .number))) (rw good (ap (λ (r : PlanRead). r .entry) e))
+        number : verdictOf v .number ≡ filed c p .number
+        number =
+            ap (λ (w : Said). w .number) own
+            ∙ true-or-false (eqb (readPlan c .number) 0)
+            (λ g. rw (g, ap (λ (r : PlanRead). r .number) e) (unless-self (readPlan p .number)))
+            (λ g. rw (g, ap (λ (r : PlanRead). r .number) d))
 
-    pub current-refused : {f : Refusal} {s : ℕ} → x .verdict ≡ Refused f s
-        → record { number = numberOf f; entry = s; current = planOf (x .plan); previous = planOf (y .plan) } ≡ filed c p
-    current-refused {f} {s} k =
-        let number : readPlan c .number ≡ numberOf f = sym (ap (λ (r : PlanRead). r .number) d) ∙ ap (λ (v : Verdict). verdictOf v .number) k in
-        let entry : readPlan c .entry ≡ s = sym (ap (λ (r : PlanRead). r .entry) d) ∙ ap (λ (v : Verdict). verdictOf v .entry) k in
-        let refused = ne-eqb (numberOf f) 0 (numberOf-positive f) in
-        with-entry (numberOf f) s (rw (number, refused)) (rw (number, refused) (sym entry))
+        entry : verdictOf v .entry ≡ filesEntry c p
+        entry =
+            ap (λ (w : Said). w .entry) own
+            ∙ true-or-false (eqb (readPlan c .number) 0)
+            (λ g. rw (g, ap (λ (r : PlanRead). r .entry) e))
+            (λ g. rw (g, ap (λ (r : PlanRead). r .entry) d))
 
   -- what the tests of two files make of an answer
   module _ {A : Type 0} (by : ℕ → A) (f : Files) (e : filesOf f ≡ filed c p) (x : A) where

@@ -1,12 +1,12 @@
 // The entries for C that take plans, as files: they read them, and write and check schedule messages beside them.
 ghost use mathlib.Core.Path.{_≡_};
+ghost use mathlib.Core.Bool.{cond};
+ghost use lib.Dec.{eqb};
 ghost use Rattle.refusals.specs.Number.{numberOf};
 ghost use Rattle.calls.specs.Paper.{inOne};
+ghost use Rattle.plan.specs.Coded.{verdictOf};
 ghost use Rattle.plan_calls.specs.Paper.{planCall, writeScheduleCall, checkScheduleCall};
-ghost use Rattle.plan_calls.specs.Coded.{filesOf};
-ghost use Rattle.plan_calls.specs.Inner.{filed};
 use checker::Checking;
-use plan::Plan;
 use plan::Verdict;
 use refusals::Refusal;
 use sender::Sending;
@@ -32,33 +32,13 @@ fn packed(refusal: Refusal, entry: u8) -> u32
     refusals::number(refusal) as u32 + 256 * entry as u32
 }
 
-// Two plan files read: what the first refused one is refused by, and their plans.
-struct Files {
-    verdict: Verdict,
-    current: Plan,
-    previous: Plan,
-}
-
-fn read_plans(current: &[u8], previous: &[u8]) -> Files
-    ensures { λ r. ⌜ filesOf r ≡ filed (now (current .entry)) (now (previous .entry)) ⌝ }
+// The refusal of the current plan file, and where it has none that of the previous one.
+fn first_refusal(current: Verdict, previous: Verdict) -> Verdict
+    ensures { λ r. ⌜ verdictOf r ≡ cond (eqb (verdictOf current .number) 0) (verdictOf previous) (verdictOf current) ⌝ }
 {
-    let this = plan_read::read_plan(current);
-    let last = plan_read::read_plan(previous);
-    let verdict = this.verdict;
-    let other = last.verdict;
-    let plan = this.plan;
-    let older = last.plan;
-    match verdict {
-        Verdict::Good => Files {
-            verdict: other,
-            current: plan,
-            previous: older,
-        },
-        Verdict::Refused(refusal, entry) => Files {
-            verdict: Verdict::Refused(refusal, entry),
-            current: plan,
-            previous: older,
-        },
+    match current {
+        Verdict::Good => previous,
+        Verdict::Refused(refusal, entry) => Verdict::Refused(refusal, entry),
     }
 }
 
@@ -75,13 +55,16 @@ pub extern "C" fn cb_write_schedule(
     if out.len() != MESSAGE {
         return refusals::number(Refusal::OutputLength) as u32;
     }
-    let files = read_plans(current, previous);
-    let verdict = files.verdict;
-    if let Verdict::Refused(refusal, entry) = verdict {
+    let this = plan_read::read_plan(current);
+    let last = plan_read::read_plan(previous);
+    let verdict = this.verdict;
+    let other = last.verdict;
+    let first = first_refusal(verdict, other);
+    if let Verdict::Refused(refusal, entry) = first {
         return packed(refusal, entry);
     }
-    let plan = files.current;
-    let older = files.previous;
+    let plan = this.plan;
+    let older = last.plan;
     let answer = sender::write_schedule(plan, older, begin, out);
     match answer {
         Sending::Written(used) => 256 * used as u32,
@@ -99,13 +82,16 @@ pub extern "C" fn cb_check_schedule(
 ) -> u32
     ensures { λ r. ⌜ r ≡ checkScheduleCall (now (current .entry)) (now (previous .entry)) (now (message .entry)) received ⌝ }
 {
-    let files = read_plans(current, previous);
-    let verdict = files.verdict;
-    if let Verdict::Refused(refusal, entry) = verdict {
+    let this = plan_read::read_plan(current);
+    let last = plan_read::read_plan(previous);
+    let verdict = this.verdict;
+    let other = last.verdict;
+    let first = first_refusal(verdict, other);
+    if let Verdict::Refused(refusal, entry) = first {
         return packed(refusal, entry);
     }
-    let plan = files.current;
-    let older = files.previous;
+    let plan = this.plan;
+    let older = last.plan;
     let answer = checker::check_schedule(plan, older, message, received);
     match answer {
         Checking::True => 0,

@@ -1,6 +1,6 @@
 -- Marks: two entries with a page have the same one exactly if their marks are equal, so that a search among marks finds a page's slots.
 use Rattle.laws.proofs.Base.{_≡_, refl, sym, ap, _∙_, Bool, true, false, not, _&&_, List, [], _∷_, ℕ, zero, suc, _+_, _<_, min, arith, eqb, ltb, length, getD, take, set}
-use Rattle.laws.proofs.Base.{replicate, length-map, length-set, take-all, getD-set-same, getD-set-other, eq-eqb, ne-eqb, eqb-true, eqb-false, ltb-true, ltb-false}
+use Rattle.laws.proofs.Base.{length-map, length-set, take-all, getD-set-same, getD-set-other, eq-eqb, ne-eqb, eqb-true, eqb-false, ltb-true, ltb-false}
 use borrow.Author.Count.{below-none, below-more}
 use Rattle.laws.specs.Search.{some, firstFrom}
 use Rattle.laws.proofs.Search.{found-some}
@@ -14,8 +14,8 @@ use Rattle.plan.specs.Coded.{entryOf, entriesOf}
 use defs.Inner.{Marked, Marks}
 use Rattle.plan.proofs.Entries.{none, entry-at}
 
-pub marks-none : (es : List EntryCode) → length es ≡ 48 → Marks (replicate 48 0) (entriesOf es) 0
-marks-none es full = record { long = refl; whole = length-map es entryOf ∙ full; each = below-none _ }
+pub marks-none : (es : List EntryCode) (ms : List ℕ) → length es ≡ 48 → length ms ≡ 48 → Marks ms (entriesOf es) 0
+marks-none es ms full room = record { long = room; whole = length-map es entryOf ∙ full; each = below-none _ }
 
 -- a turn of the loop that fills an array with marks
 pub marks-more : (es : List EntryCode) (ms : List ℕ) (i m : ℕ) → i < length es → Marks ms (entriesOf es) i

@@ -38,18 +38,17 @@ fn mark(entry: Entry) -> u64
     page::key(name) * 0x10000 + entry.kind as u64
 }
 
-// The entries of a plan as numbers.
-fn marks_of(entries: [Entry; SLOTS]) -> [u64; SLOTS]
-    ensures { λ r. ⌜ Marks r (entriesOf entries) 48 ⌝ }
+// Writes the entries of a plan as numbers.
+fn mark_all(entries: [Entry; SLOTS], marks: &mut [u64])
+    requires { ⌜ length (now marks) ≡ 48 ⌝ }
+    ensures { λ r. ⌜ Marks (now (marks .exit)) (entriesOf entries) 48 ⌝ }
 {
-    let mut marks = [0u64; SLOTS];
     let mut i = 0;
     while i < SLOTS {
         let entry = entries[i];
         marks[i] = mark(entry);
         i += 1;
     }
-    marks
 }
 
 // The place, counted from 1, of the first of some marks that is as given; 0 for none.
@@ -127,8 +126,10 @@ pub fn all_planned(current: Plan, previous: Plan) -> [Planned; SLOTS]
 {
     let entries = current.entries;
     let older = previous.entries;
-    let marks = marks_of(entries);
-    let marks_before = marks_of(older);
+    let mut marks = [0u64; SLOTS];
+    mark_all(entries, &mut marks[..]);
+    let mut marks_before = [0u64; SLOTS];
+    mark_all(older, &mut marks_before[..]);
     let count = slots_of(current.count);
     let before = slots_of(previous.count);
     said_by_marks(entries, &marks[..count], &marks_before[..before])

@@ -1,4 +1,5 @@
 -- What `schedule_places` proves.
+pub mod Bits
 pub mod Steps
 pub mod Finds
 pub mod Placing

@@ -2,13 +2,13 @@
 use mathlib.Core.Path.{_≡_}
 use mathlib.Core.Bool.{Bool, false, cond, _&&_}
 use mathlib.Core.List.{List}
-use Prim.Native.Nat.{ℕ, _+_, _≤_, _<_}
+use Prim.Native.Nat.{ℕ, _+_, _-_, _/_, _%_, _^_, _≤_, _<_}
 use lib.ListN.{length, getD, replicate}
-use lib.Dec.{leb, ltb}
+use lib.Dec.{eqb, leb, ltb}
 use Rattle.laws.specs.Ruled.{ruled}
 use Rattle.laws.specs.Upto.{count, each}
 use Rattle.refusals.specs.Number.{numberOf}
-use Rattle.schedule.specs.Paper.{Told, octetAt, end, width, told, place, rank, tells, isFirst, grouped, base, faults, Read, unread, good}
+use Rattle.schedule.specs.Paper.{Told, octetAt, end, new, width, told, place, rank, tells, isFirst, grouped, base, faults, Read, unread, good}
 use Rattle.schedule.specs.Coded.{toldOf}
 use Rattle.schedule.specs.Inner.{toldBy}
 use Rattle.schedule_places.specs.declared.Step.{Step}
@@ -48,6 +48,10 @@ pub record Readable (m : List ℕ) (received e : ℕ) : Type 0 where
   pub ends : e ≡ end m
   pub last : e ≤ 48
 
+-- 01 Schedule message: a number of 48 bits that are the new bits, that of slot 1 the highest
+abbrev pub NewBits : List ℕ → ℕ → Type 0
+NewBits m x = (i : ℕ) → i < 48 → eqb (x / 2 ^ (47 - i) % 2) 1 ≡ new m i
+
 -- a description and the place after it, or one that passes the received octets
 pub data Stepped : Type 0 where
   took : Told → ℕ → Stepped
@@ -81,7 +85,7 @@ pub record Finds (m : List ℕ) (b : Bool) (e : ℕ) (s : List ℕ) (f : List Bo
 
 -- a group of descriptions found within the received octets, or refused by 23 because its last passes them
 abbrev pub Group : List ℕ → ℕ → Bool → List ℕ → List Bool → List ℕ → List Bool → Reach → Type 0
-Group m received b s f t g (To at) = Finds m b (end m) s f t g at × (at ≤ received) × (length t ≡ 48)
+Group m received b s f t g (To at) = Finds m b (end m) s f t g at × (at ≤ received)
 Group m received b s f t g (Refused r) =
     (numberOf r ≡ 23) × (received < place m (base m b + count (grouped m b) (end m)))
 

@@ -7,7 +7,7 @@ ghost use Rattle.schedule.specs.Paper.{place as placeOf, base, isFirst, falseRe
 ghost use Rattle.schedule.specs.Coded.{toldOf, readOf};
 ghost use Rattle.schedule.specs.Inner.{toldBy};
 ghost use Rattle.schedule_places.specs.Coded.{placedOf};
-ghost use Rattle.schedule_places.specs.Inner.{placed, unplacedBy, Readable, Group, steppedOf, step, Firsts};
+ghost use Rattle.schedule_places.specs.Inner.{placed, unplacedBy, Readable, NewBits, Group, steppedOf, step, Firsts};
 use refusals::Refusal;
 use schedule::Description;
 use schedule::HEADER;
@@ -35,29 +35,36 @@ pub fn read_places(message: &[u8], received: usize) -> Placed
     let Reading::Read(_, end) = header else {
         return refused(header);
     };
+    let bits = new_bits(message);
+    let mut places = [0; SLOTS];
+    let mut firsts = [false; SLOTS];
     let news = find_group(
         message,
         received,
         end,
+        bits,
         true,
-        [0; SLOTS],
-        [false; SLOTS],
         HEADER,
+        &mut places,
+        &mut firsts,
     );
-    let reach = news.reach;
-    let Reach::To(next) = reach else {
+    let Reach::To(next) = news else {
         return refused(Reading::Refused(Refusal::DescriptionPastReceived));
     };
-    let found = news.places;
-    let marked = news.firsts;
-    let others = find_group(message, received, end, false, found, marked, next);
-    let reach = others.reach;
-    let Reach::To(_) = reach else {
+    let others = find_group(
+        message,
+        received,
+        end,
+        bits,
+        false,
+        next,
+        &mut places,
+        &mut firsts,
+    );
+    let Reach::To(_) = others else {
         return refused(Reading::Refused(Refusal::DescriptionPastReceived));
     };
-    let places = others.places;
-    let firsts = others.firsts;
-    if has_false_repeat(message, places, firsts, end) {
+    if has_false_repeat(message, &places, &firsts, end) {
         return refused(Reading::Refused(Refusal::RepeatOfNoFirst));
     }
     Placed {
@@ -76,56 +83,54 @@ fn refused(answer: Reading) -> Placed
     }
 }
 
+// The new bits as one number of 48 bits, that of slot 1 the highest.
+fn new_bits(message: &[u8]) -> u64
+    ensures { λ r. ⌜ NewBits (now (message .entry)) r ⌝ }
+{
+    let mut bits: u64 = 0;
+    let mut j = 0;
+    while j < 6 {
+        bits = 256 * bits + schedule::octet_at(message, 2 + j) as u64;
+        j += 1;
+    }
+    bits
+}
+
 // The place after a group of descriptions, or the refusal.
 enum Reach {
     To(usize),
     Refused(Refusal),
 }
 
-// A group's descriptions among others: the place after them, where that of each slot starts, and which are first transmissions.
-struct Part {
-    reach: Reach,
-    places: [u8; SLOTS],
-    firsts: [bool; SLOTS],
-}
-
-// Finds the descriptions of the slots up to End whose new bit is as given, which start at a place.
+// Finds the descriptions of the slots up to End whose new bit is as given, which start at a place: where that of each slot starts,
+// and which are first transmissions.
 fn find_group(
     message: &[u8],
     received: usize,
     end: usize,
+    bits: u64,
     new: bool,
-    places: [u8; SLOTS],
-    firsts: [bool; SLOTS],
     from: usize,
-) -> Part
-    requires { ⌜ Readable (now message) received end × (from ≡ placeOf (now message) (base (now message) new)) × (from ≤ received) ⌝ }
-    ensures { λ r. ⌜ Group (now (message .entry)) received new places firsts (r .places) (r .firsts) (r .reach) ⌝ }
+    places: &mut [u8],
+    firsts: &mut [bool],
+) -> Reach
+    requires { ⌜ Readable (now message) received end × NewBits (now message) bits × (from ≡ placeOf (now message) (base (now message) new)) × (from ≤ received) × (length (now places) ≡ 48) × (length (now firsts) ≡ 48) ⌝ }
+    ensures { λ r. ⌜ Group (now (message .entry)) received new (now (places .entry)) (now (firsts .entry)) (now (places .exit)) (now (firsts .exit)) r ⌝ }
 {
-    let mut found = places;
-    let mut marked = firsts;
     let mut at = from;
     let mut i = 0;
     while i < end {
-        if schedule::is_new(message, i) == new {
+        if ((bits >> (47 - i)) % 2 == 1) == new {
             let Step::Took(description, next) = step_at(message, received, at) else {
-                return Part {
-                    reach: Reach::Refused(Refusal::DescriptionPastReceived),
-                    places: found,
-                    firsts: marked,
-                };
+                return Reach::Refused(Refusal::DescriptionPastReceived);
             };
-            found[i] = at as u8;
-            marked[i] = is_first(description);
+            places[i] = at as u8;
+            firsts[i] = is_first(description);
             at = next;
         }
         i += 1;
     }
-    Part {
-        reach: Reach::To(at),
-        places: found,
-        firsts: marked,
-    }
+    Reach::To(at)
 }
 
 // A description with the place after it, or one that passes the received octets.
@@ -162,14 +167,13 @@ fn is_first(description: Description) -> bool
 }
 
 // Whether a slot up to End repeats what is no first transmission in a slot below it.
-fn has_false_repeat(message: &[u8], places: [u8; SLOTS], firsts: [bool; SLOTS], end: usize) -> bool
-    requires { ⌜ (end ≤ 48) × Firsts (now message) places firsts end ⌝ }
-    ensures { λ r. ⌜ r ≡ someBelow (falseRepeat (toldBy (now (message .entry)) places)) end ⌝ }
+fn has_false_repeat(message: &[u8], places: &[u8], firsts: &[bool], end: usize) -> bool
+    requires { ⌜ (end ≤ 48) × (length (now places) ≡ 48) × (length (now firsts) ≡ 48) × Firsts (now message) (now places) (now firsts) end ⌝ }
+    ensures { λ r. ⌜ r ≡ someBelow (falseRepeat (toldBy (now (message .entry)) (now (places .entry)))) end ⌝ }
 {
     let mut i = 0;
     while i < end {
-        let at = places[i] as usize;
-        let n = schedule::octet_at(message, at) as usize;
+        let n = schedule::octet_at(message, places[i] as usize) as usize;
         if n < 0x40 {
             if n == 0 {
                 return true;

@@ -17,13 +17,12 @@ module _ (b : ℕ) (s : ℕ → Shown) (n : ℕ) where
   used-length = let parts = length-append (bitmapOf s n) (descriptions s n) in omega (arith, bitmap-length)
 
   -- the header, the descriptions of the new slots and those of the others, one after the other
-  pub message-put : (x y z : List ℕ) (at to : ℕ)
-      → x ≡ sets (replicate 104 43) 0 ((b ∷ n ∷ []) ++ bitmapOf s n) → y ≡ sets x 8 (told s true n) → at ≡ 8 + length (told s true n)
+  pub message-put : (blank x y z : List ℕ) (at to : ℕ)
+      → x ≡ sets blank 0 ((b ∷ n ∷ []) ++ bitmapOf s n) → y ≡ sets x 8 (told s true n) → at ≡ 8 + length (told s true n)
       → z ≡ sets y at (told s false n) → to ≡ at + length (told s false n)
-      → (z ≡ sets (replicate 104 43) 0 (usedPart b s n)) × (to ≡ 8 + length (descriptions s n))
+      → (z ≡ sets blank 0 (usedPart b s n)) × (to ≡ 8 + length (descriptions s n))
   unfolding usedPart
-  message-put x y z at to p q r e f =
-      let blank : List ℕ = replicate 104 43 in
+  message-put blank x y z at to p q r e f =
       let head : List ℕ = b ∷ n ∷ bitmapOf s n in
       let eight : 0 + length head ≡ 8 = omega (arith, bitmap-length) in
       let groups : List ℕ = told s true n ++ told s false n in

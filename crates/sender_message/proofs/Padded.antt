@@ -11,13 +11,12 @@ pub sets-append : (l : List ℕ) (i : ℕ) (xs ys : List ℕ) → sets l i (xs +
 sets-append l i [] ys = rw add-zero
 sets-append l i (x ∷ xs) ys = sets-append (set l i x) (suc i) xs ys ∙ rw (add-suc, suc-add)
 
--- a turn of the loop that puts octets one after the other behind two others
-pub sets-turn : (f : ℕ → ℕ) (l o : List ℕ) (a b j v : ℕ) → o ≡ sets l 0 ((a ∷ b ∷ []) ++ each f j) → v ≡ f j
-    → set o (2 + j) v ≡ sets l 0 ((a ∷ b ∷ []) ++ each f (j + 1))
+-- a turn of a loop that puts octets one after the other from a place on
+pub sets-turn : (f : ℕ → ℕ) (l o : List ℕ) (a j v : ℕ) → o ≡ sets l a (each f j) → v ≡ f j → set o (a + j) v ≡ sets l a (each f (j + 1))
 unfolding each
-sets-turn f l o a b j v e q =
-    let place : 2 + j ≡ 0 + length (a ∷ b ∷ each f j) = omega (arith, each-length f j) in
-    rw (e, q, add-one, place) (sym (sets-append l 0 (a ∷ b ∷ each f j) (f j ∷ [])))
+sets-turn f l o a j v e q =
+    let place : a + j ≡ a + length (each f j) = rw (each-length f j) in
+    rw (e, q, add-one, place) (sym (sets-append l a (each f j) (f j ∷ [])))
 
 -- the first 88 octets of what is put over 2B are padded
 pub sets-padded : (o : List ℕ) → length o ≤ 88 → take 88 (sets (replicate 104 43) 0 o) ≡ padded o

@@ -3,7 +3,7 @@ ghost use mathlib.Core.Path.{_≡_};
 ghost use mathlib.Core.Bool.{cond, _&&_};
 ghost use mathlib.Core.List.{[], _∷_, _++_};
 ghost use Prim.Native.Nat.{_+_, _≤_, _<_};
-ghost use lib.ListN.{length, replicate};
+ghost use lib.ListN.{length};
 ghost use lib.Seq.{sets};
 ghost use Rattle.sender_message.specs.Paper.{octetsOf, octetsOfAll, group, descriptions, newBits, bitmapOf, usedPart, writeMessage};
 ghost use Rattle.sender_message.specs.Coded.{toldAs, writingOf, shownIn};
@@ -15,7 +15,7 @@ use sizes::FILLER;
 use sizes::MESSAGE;
 use sizes::SLOTS;
 
-// The octets of a header and of 48 descriptions of two octets.
+// The octets of a header and of 48 descriptions of two octets. A message that fits has the first 88 of them.
 const ROOM: usize = 104;
 
 // What the writer answers: the used octets, or a refusal.
@@ -25,13 +25,13 @@ pub enum Writing {
 }
 
 // The new bit of a slot; past the count it is 0.
-fn new_bit(slot: Slot, counted: bool) -> u8
-    ensures { λ r. ⌜ r ≡ cond (counted && slot .new) 1 0 ⌝ }
+fn new_bit(new: bool, counted: bool) -> u8
+    ensures { λ r. ⌜ r ≡ cond (counted && new) 1 0 ⌝ }
 {
     if !counted {
         return 0;
     }
-    if slot.new {
+    if new {
         return 1;
     }
     0
@@ -47,18 +47,17 @@ fn new_octet(slots: [Slot; SLOTS], count: usize, j: usize) -> u8
     while k < 8 {
         let i = 8 * j + k;
         let slot = slots[i];
-        bits = 2 * bits + new_bit(slot, i < count);
+        bits = 2 * bits + new_bit(slot.new, i < count);
         k += 1;
     }
     bits
 }
 
-// Begin, End and the new bits, with nothing told after them.
-fn header(slots: [Slot; SLOTS], count: usize, begin: usize) -> [u8; ROOM]
-    requires { ⌜ (begin ≤ count) × (count ≤ 48) ⌝ }
-    ensures { λ r. ⌜ r ≡ sets (replicate 104 43) 0 ((begin ∷ count ∷ []) ++ bitmapOf (shownIn slots) count) ⌝ }
+// Puts Begin, End and the new bits at the front.
+fn put_header(octets: &mut [u8], slots: [Slot; SLOTS], count: usize, begin: usize)
+    requires { ⌜ (length (now octets) ≡ 104) × (begin ≤ count) × (count ≤ 48) ⌝ }
+    ensures { λ r. ⌜ now (octets .exit) ≡ sets (now (octets .entry)) 0 ((begin ∷ count ∷ []) ++ bitmapOf (shownIn slots) count) ⌝ }
 {
-    let mut octets = [FILLER; ROOM];
     octets[0] = begin as u8;
     octets[1] = count as u8;
     let mut j = 0;
@@ -66,43 +65,28 @@ fn header(slots: [Slot; SLOTS], count: usize, begin: usize) -> [u8; ROOM]
         octets[2 + j] = new_octet(slots, count, j);
         j += 1;
     }
-    octets
 }
 
-// A message filled up to a place. It has room for 48 first transmissions; one that fits has its first 88 octets.
-struct Filling {
-    octets: [u8; ROOM],
-    at: usize,
-}
-
-// Puts an octet at a place.
-fn put_octet(octets: [u8; ROOM], at: usize, octet: u8) -> Filling
-    requires { ⌜ at < 104 ⌝ }
-    ensures { λ r. ⌜ (r .octets ≡ sets octets at (octet ∷ [])) × (r .at ≡ at + 1) ⌝ }
+// Puts an octet at a place, and gives the place after it.
+fn put_octet(octets: &mut [u8], at: usize, octet: u8) -> usize
+    requires { ⌜ (length (now octets) ≡ 104) × (at < 104) ⌝ }
+    ensures { λ r. ⌜ (now (octets .exit) ≡ sets (now (octets .entry)) at (octet ∷ [])) × (r ≡ at + 1) ⌝ }
 {
-    let mut filled = octets;
-    filled[at] = octet;
-    Filling {
-        octets: filled,
-        at: at + 1,
-    }
+    octets[at] = octet;
+    at + 1
 }
 
-// Puts a description at a place.
-fn put(octets: [u8; ROOM], at: usize, description: Description) -> Filling
-    requires { ⌜ at + length (octetsOf (toldAs description)) ≤ 104 ⌝ }
-    ensures { λ r. ⌜ (r .octets ≡ sets octets at (octetsOf (toldAs description))) × (r .at ≡ at + length (octetsOf (toldAs description))) ⌝ }
+// Puts a description at a place, and gives the place after it.
+fn put(octets: &mut [u8], at: usize, description: Description) -> usize
+    requires { ⌜ (length (now octets) ≡ 104) × (at + length (octetsOf (toldAs description)) ≤ 104) ⌝ }
+    ensures { λ r. ⌜ (now (octets .exit) ≡ sets (now (octets .entry)) at (octetsOf (toldAs description))) × (r ≡ at + length (octetsOf (toldAs description))) ⌝ }
 {
     match description {
         Description::First(low) => {
             let bits = low % 0x8000;
-            let mut filled = octets;
-            filled[at] = 0x80 + (bits / 256) as u8;
-            filled[at + 1] = (bits % 256) as u8;
-            Filling {
-                octets: filled,
-                at: at + 2,
-            }
+            octets[at] = 0x80 + (bits / 256) as u8;
+            octets[at + 1] = (bits % 256) as u8;
+            at + 2
         }
         Description::Repeat(slot) => put_octet(octets, at, slot),
         Description::Optional => put_octet(octets, at, 0x40),
@@ -110,39 +94,32 @@ fn put(octets: [u8; ROOM], at: usize, description: Description) -> Filling
     }
 }
 
-// Puts the descriptions of the slots whose new bit is as given at a place.
-fn put_group(
-    octets: [u8; ROOM],
-    at: usize,
-    slots: [Slot; SLOTS],
-    count: usize,
-    new: bool,
-) -> Filling
-    requires { ⌜ (count ≤ 48) × (at + length (octetsOfAll (shownIn slots) (group (shownIn slots) count new)) ≤ 104) ⌝ }
-    ensures { λ r. ⌜ (r .octets ≡ sets octets at (octetsOfAll (shownIn slots) (group (shownIn slots) count new))) × (r .at ≡ at + length (octetsOfAll (shownIn slots) (group (shownIn slots) count new))) ⌝ }
+// Puts the descriptions of the slots whose new bit is as given at a place, and gives the place after them.
+fn put_group(octets: &mut [u8], at: usize, slots: [Slot; SLOTS], count: usize, new: bool) -> usize
+    requires { ⌜ (length (now octets) ≡ 104) × (count ≤ 48) × (at + length (octetsOfAll (shownIn slots) (group (shownIn slots) count new)) ≤ 104) ⌝ }
+    ensures { λ r. ⌜ (now (octets .exit) ≡ sets (now (octets .entry)) at (octetsOfAll (shownIn slots) (group (shownIn slots) count new))) × (r ≡ at + length (octetsOfAll (shownIn slots) (group (shownIn slots) count new))) ⌝ }
 {
-    let mut filled = Filling { octets, at };
+    let mut next = at;
     let mut i = 0;
     while i < count {
         let slot = slots[i];
         if slot.new == new {
             let description = slot.description;
-            let so_far = filled.octets;
-            filled = put(so_far, filled.at, description);
+            next = put(octets, next, description);
         }
         i += 1;
     }
-    filled
+    next
 }
 
-// The message that tells some slots, however long, and the place behind its last description.
-fn compose(slots: [Slot; SLOTS], count: usize, begin: usize) -> Filling
-    requires { ⌜ (begin ≤ count) × (count ≤ 48) ⌝ }
-    ensures { λ r. ⌜ (r .octets ≡ sets (replicate 104 43) 0 (usedPart begin (shownIn slots) count)) × (r .at ≡ 8 + length (descriptions (shownIn slots) count)) ⌝ }
+// Puts the message that tells some slots, however long, and gives the place after its last description.
+fn compose(octets: &mut [u8], slots: [Slot; SLOTS], count: usize, begin: usize) -> usize
+    requires { ⌜ (length (now octets) ≡ 104) × (begin ≤ count) × (count ≤ 48) ⌝ }
+    ensures { λ r. ⌜ (now (octets .exit) ≡ sets (now (octets .entry)) 0 (usedPart begin (shownIn slots) count)) × (r ≡ 8 + length (descriptions (shownIn slots) count)) ⌝ }
 {
-    let front = header(slots, count, begin);
-    let Filling { octets, at } = put_group(front, HEADER, slots, count, true);
-    put_group(octets, at, slots, count, false)
+    put_header(octets, slots, count, begin);
+    let next = put_group(octets, HEADER, slots, count, true);
+    put_group(octets, next, slots, count, false)
 }
 
 // Writes the message that tells some slots, or refuses to and leaves the output as it is.
@@ -161,10 +138,11 @@ pub fn write_message(slots: [Slot; SLOTS], count: usize, begin: usize, out: &mut
     if count > SLOTS {
         return Writing::Refused(Refusal::BeginOrEnd);
     }
-    let Filling { octets, at } = compose(slots, count, begin);
-    if at > MESSAGE {
+    let mut octets = [FILLER; ROOM];
+    let used = compose(&mut octets[..], slots, count, begin);
+    if used > MESSAGE {
         return Writing::Refused(Refusal::DescriptionsTooLong);
     }
     bytes::copy(&octets[..MESSAGE], out);
-    Writing::Written(at)
+    Writing::Written(used)
 }

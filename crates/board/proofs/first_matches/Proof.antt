@@ -3,15 +3,15 @@ use Rattle.laws.proofs.Base.{sym, ap, _∙_, needs}
 use Rattle.schedule.specs.Coded.{toldOf}
 use Rattle.board.specs as defs
 use defs.Paper.{firstMatches}
-use defs.Coded.{wantedOf}
+use defs.Inner.{counted}
 use Rattle.board.proofs.first_matches as own
 use own.Statement.{statement}
 use own.Tie as tie
 
 returns : tie.Need-returns
 returns c =
-    let a = c .before .before .before .before .args in
-    c .is-wanted .ensures ∙ sym (ap (firstMatches (wantedOf (a .wanted))) (ap toldOf (c .before .before .description .given .1)))
+    let a = c .before .before .before .before .before .args in
+    c .any-matches .ensures ∙ sym (ap (firstMatches (counted (a .count) (a .ids .now))) (ap toldOf (c .before .before .description .given .1)))
 
 pub first-matches-spec : {M : Type 1} → statement M
 first-matches-spec =

@@ -9,57 +9,60 @@ use own.find_group.Statement.{statement}
 use own.find_group.Tie as tie
 
 abbrev Inv-loop : tie.InvT-loop
-Inv-loop message received end new from found₀ marked₀ at₀ i₀ found marked at i =
-    (i ≤ end) × (at ≤ received) × (length found ≡ 48) × (length marked ≡ 48) × Finds message new i found₀ marked₀ found marked at
+Inv-loop message received end bits new from places₀ firsts₀ at₀ i₀ places firsts at i =
+    (i ≤ end) × (at ≤ received) × (length places ≡ 48) × (length firsts ≡ 48) × Finds message new i places₀ firsts₀ places firsts at
 
 abbrev μ-loop : tie.MeasureT-loop
-μ-loop message received end new from found₀ marked₀ at₀ i₀ found marked at i = end - i
+μ-loop message received end bits new from places₀ firsts₀ at₀ i₀ places firsts at i = end - i
 
 loop-holds : tie.Need-loop-holds Inv-loop μ-loop
 loop-holds c =
-    (omega arith, search needs, search needs, search needs, finds-none _ _ _ _ _ (c .before .pre .1))
+    let p = c .before .before .before .pre in
+    (omega arith, p .3, p .4, p .5, finds-none _ _ _ _ _ (p .2))
 
 returns : tie.Need-returns Inv-loop μ-loop
 returns c =
-    let a = c .before .before .before .before .before .before .before .before .args in
-    let l = c .before .before .before .before .before .before .loop in
-    let bit = c .before .before .before in
-    let inside = grouped-told (a .message .now) (l .i) (a .new) _ _ (bit .before .is-new .ensures) (bit .if1 .taken) in
+    let s = c .before .before .before .before .before .before .before .before .before in
+    let l = c .before .before .before .before .before .loop in
+    let room : l .i < 48 = omega (arith, s .pre .0 .last) in
+    let inside = grouped-told (s .args .message .now) (l .i) (s .args .new) _ _ (s .pre .1 (l .i) room) (c .before .before .before .if1 .taken) in
     let passed = sym (ap steppedOf (c .enum-told .given .1)) ∙ c .before .before .step-at .ensures in
-    (refl, finds-short _ _ _ _ (l .i) (l .at) (l .found) (l .marked) (l .inv .4) inside (a .received) (omega arith) passed)
+    (refl, finds-short _ _ _ _ (l .i) (l .at) (l .places) (l .firsts) (l .inv .4) inside (s .args .received) (omega (arith, s .pre .0 .ends)) passed)
 
 loop-again : tie.Need-loop-again Inv-loop μ-loop
 loop-again c =
-    let a = c .before .before .before .before .before .args in
-    let l = c .before .before .before .loop in
-    let bit = c .before .is-new in
+    let s = c .before .before .before .before .before .before in
+    let a = s .args in
+    let l = c .before .before .loop in
     let m = a .message .now in
-    let room : l .i < 48 = omega arith in
+    let room : l .i < 48 = omega (arith, s .pre .0 .last) in
+    let bit = s .pre .1 (l .i) room in
     ⊎-elim
     (λ w.
-    let inside = grouped-told m (l .i) (a .new) _ _ (bit .ensures) (w .0 .taken) in
+    let inside = grouped-told m (l .i) (a .new) _ _ bit (w .0 .taken) in
     let taken = sym (ap steppedOf (w .3 .given .1)) ∙ w .1 .ensures in
     let k =
-    finds-take _ _ _ _ (l .i) (l .at) (l .found) (l .marked) (l .inv .4) inside (a .received) _ _ _ (l .inv .2) (l .inv .3) room taken
+    finds-take _ _ _ _ (l .i) (l .at) (l .places) (l .firsts) (l .inv .4) inside (a .received) _ _ _ (l .inv .2) (l .inv .3) room taken
     (w .5 .ensures) in
     rw (w .6, w .7, w .8) (omega arith, k .1, simp length-set (l .inv .2), simp length-set (l .inv .3), k .0))
     (λ w.
-    let outside = grouped-told m (l .i) (a .new) _ _ (bit .ensures) (w .0 .left) in
+    let outside = grouped-told m (l .i) (a .new) _ _ bit (w .0 .left) in
     rw (w .1, w .2, w .3)
-    (omega arith, l .inv .1, l .inv .2, l .inv .3, finds-skip _ _ _ _ (l .i) (l .at) (l .found) (l .marked) (l .inv .4) outside))
+    (omega arith, l .inv .1, l .inv .2, l .inv .3, finds-skip _ _ _ _ (l .i) (l .at) (l .places) (l .firsts) (l .inv .4) outside))
     (c .if1 .came)
 
 returns-2 : tie.Need-returns-2 Inv-loop μ-loop
 returns-2 c =
-    let a = c .before .before .before .args in
+    let s = c .before .before .before .before .before in
     let l = c .before .loop in
-    let e : l .i ≡ endOf (a .message .now) = omega arith in
-    (rw e at (l .inv .4), l .inv .1, l .inv .2)
+    let all : l .i ≡ endOf (s .args .message .now) = omega (arith, s .pre .0 .ends) in
+    (rw all at (l .inv .4), l .inv .1)
 
 pub find-group-spec : {M : Type 1} → statement M
 find-group-spec =
     tie.close
     (tie.spec
     Inv-loop μ-loop loop-holds (search needs) (search needs) (search needs)
-    (search needs) returns (search needs) (search needs) (search needs)
-    (search needs) (search needs) (search needs) loop-again returns-2)
+    (search needs) (search needs) (search needs) (search needs) returns
+    (search needs) (search needs) (search needs) (search needs) (search needs) (search needs)
+    loop-again (search needs) (search needs) returns-2)

@@ -1,5 +1,5 @@
 -- `sender_message::write_message` meets its contract: each return is the first test of the order that holds, and the last writes the message.
-use Rattle.laws.proofs.Base.{_≡_, sym, ap, _∙_, List, ℕ, _≤_, arith, now, length, take, length-take-le, needs}
+use Rattle.laws.proofs.Base.{_≡_, refl, sym, ap, _∙_, List, ℕ, _≤_, arith, now, length, take, length-take-le, needs}
 use Rattle.laws.proofs.Parts.{copy-whole}
 use Rattle.schedule.specs.Paper.{Shown}
 use Rattle.sender_message.specs as defs
@@ -41,10 +41,13 @@ returns-4 c =
     let a = s .args in
     sym (message-21 (a .begin) (told s) (a .count) (out s) (c .before .before .before .if1 .left) (unbounded-over (a .begin) (a .count) (c .if4 .taken)))
 
+compose-requires : tie.Need-compose-requires
+compose-requires c κs = let e = c .before in (refl, e .before .if3 .left, e .if4 .left)
+
 returns-5 : tie.Need-returns-5
 returns-5 c =
     let made = c .before .before in
-    let e = made .before in
+    let e = made .before .before in
     let s = e .before .before .before .before .before in
     let w = made .compose .ensures .1 in
     sym
@@ -52,21 +55,21 @@ returns-5 c =
     (omega arith) (e .before .if3 .left) (e .if4 .left) (omega arith))
 
 -- what is copied are the first 88 octets of 104
-long : (c : tie.After-compose) → length (c .compose .result .octets) ≡ 104
-long c = search needs
+long : (c : tie.After-compose) → length (c .compose .last .0) ≡ 104
+long c = c .compose .kept .0
 
-prefix-length : (c : tie.After-compose) → length (take 88 (c .compose .result .octets)) ≡ 88
-prefix-length c = length-take-le 88 (c .compose .result .octets) (omega (arith, long c))
+prefix-length : (c : tie.After-compose) → length (take 88 (c .compose .last .0)) ≡ 88
+prefix-length c = length-take-le 88 (c .compose .last .0) (omega (arith, long c))
 
 returns-6 : tie.Need-returns-6
 returns-6 c =
     let made = c .before .before .before .before .before .before .before in
-    let e = made .before in
+    let e = made .before .before in
     let s = e .before .before .before .before .before in
     let w = made .compose .ensures .1 in
     let few : length (descriptions (told s) (s .args .count)) ≤ 80 = omega arith in
     let copy = c .before .before .copy in
-    let whole = made .compose .result .octets in
+    let whole = made .compose .last .0 in
     let size = prefix-length made in
     let copied : copy .last .1 .0 ≡ take 88 whole = copy-whole (out s) (take 88 whole) (copy .last .1 .0) (omega arith) (copy .ensures .1) in
     (λ i. record {
@@ -85,6 +88,6 @@ pub write-message-spec : {M : Type 1} → statement M
 write-message-spec =
     tie.close
     (tie.spec
-    returns returns-2 returns-3 returns-4 (search needs) returns-5 prefix
+    returns returns-2 returns-3 returns-4 (search needs) compose-requires returns-5 prefix
     (λ c. sym (prefix-length (c .before .before .before)))
     (λ c κs. omega (arith, prefix-length (c .before .before .before .before))) (search needs) returns-6)
