@@ -8,32 +8,35 @@
  * and cb_enter with known false. Memory that a call is lent to write may not overlap anything else that it is given. A
  * length counts elements: octets, or numbers where these have 16 or 32 bits (text, wanted, slots); such numbers are
  * aligned, to 2 or 4 octets. Memory to write has exactly the length that its call tells: a longer one is refused too.
+ * Lengths have 64 bits on every target, because that is what was proved; a caller on 32 bits widens what it has.
  *
- * Archives. ./build writes them, for x86-64 only (ELF, System V calling convention, with SSE2 registers used):
+ * Archives. ./build writes them for x86-64 (ELF, System V calling convention, with SSE2 registers used):
  * target/libcsobvarit.a has every call, target/libfirmware.a cb_start and cb_intake alone. Of the C library the first
- * needs memcpy and memset, the second nothing, and neither needs anything else. No call keeps, allocates or prints
- * anything: what lasts is in the memory lent, so calls on different memory may run at once.
+ * needs memcpy and memset, the second nothing, and neither needs anything else. ./build TARGET writes the same two for a
+ * board, to target/boards/TARGET/; docs/BOARDS.md has the targets, and what each needs there. No call keeps, allocates or
+ * prints anything: what lasts is in the memory lent, so calls on different memory may run at once.
  *
  * Stack. No call takes more octets than told here, on x86-64, as built by ./build. Return addresses are counted, what
- * memcpy and memset take is not; tests/stack/run has the figures from the archive.
+ * memcpy and memset take is not; tests/stack/run has the figures from the archive, docs/BOARDS.md those of the boards.
  *
  *   cb_start             100    cb_intake            100    cb_write_text      1,200
  *   cb_read_text         600    cb_content           100    cb_read_header       100
- *   cb_write_blocks      100    cb_read_schedule     400    cb_slots             300
- *   cb_description       500    cb_read_plan       1,300    cb_write_schedule  4,800
- *   cb_check_schedule  3,900    cb_decide            500    cb_enter             400
+ *   cb_write_blocks      100    cb_read_schedule     300    cb_slots             200
+ *   cb_description       400    cb_read_plan       1,300    cb_write_schedule  4,400
+ *   cb_check_schedule  3,500    cb_decide            300    cb_enter             300
  *   cb_start_collector   100    cb_collect           300
  */
 #ifndef CSOBVARIT_H
 #define CSOBVARIT_H
 
 #include <stdbool.h>
-#include <stddef.h>
 #include <stdint.h>
 
 #ifdef __cplusplus
 extern "C" {
 #endif
+
+typedef uint64_t cb_length; /* lengths, and the numbers of octets and slots that calls are given */
 
 /* Sizes, in octets. */
 #define CB_STATE  90 /* kind (0 none, 1 page, 2 schedule), blocks taken (0 to 3), the 88 octets of a message */
@@ -71,7 +74,7 @@ extern "C" {
  *   CB_DONE             state: no message, 88 octets of 2B
  *   CB_STATE_IMPROPER   state_len isn't 90; state: untouched
  */
-uint32_t cb_start(uint8_t *state, size_t state_len);
+uint32_t cb_start(uint8_t *state, cb_length state_len);
 
 /*
  * Takes in one piece, of any length. A refused piece drops the message held, save where the state is
@@ -94,8 +97,8 @@ uint32_t cb_start(uint8_t *state, size_t state_len);
  * Give each call the state as the call before left it, if its piece is the channel's next; otherwise as cb_start leaves
  * it. Nothing is kept elsewhere, so two channels take two states.
  */
-uint32_t cb_intake(uint8_t *state, size_t state_len, const uint8_t *piece, size_t piece_len,
-                   uint8_t *output, size_t output_len);
+uint32_t cb_intake(uint8_t *state, cb_length state_len, const uint8_t *piece, cb_length piece_len,
+                   uint8_t *output, cb_length output_len);
 
 /*
  * Pages (GSM 03.41, 9.3.2): six octets of header, then 82 of content.
@@ -137,7 +140,7 @@ uint32_t cb_intake(uint8_t *state, size_t state_len, const uint8_t *piece, size_
  *                               isn't 88
  */
 uint32_t cb_write_text(uint16_t serial, uint16_t identifier, uint8_t scheme, uint8_t parameter,
-                       const uint16_t *text, size_t text_len, uint8_t *page, size_t page_len);
+                       const uint16_t *text, cb_length text_len, uint8_t *page, cb_length page_len);
 
 /*
  * Reads the text of what was received of a page. The CRs at its end are dropped. Septet 1B hex, the escape of GSM 03.38,
@@ -147,7 +150,7 @@ uint32_t cb_write_text(uint16_t serial, uint16_t identifier, uint8_t scheme, uin
  *   15, 16, 18, 13              text: untouched; the first of these that applies, in this order. 15 is a text_len that
  *                               isn't 93
  */
-uint32_t cb_read_text(const uint8_t *page, size_t page_len, size_t received, uint16_t *text, size_t text_len);
+uint32_t cb_read_text(const uint8_t *page, cb_length page_len, cb_length received, uint16_t *text, cb_length text_len);
 
 /*
  * Whether a page in another alphabet can be handed on: its content received is at page + CB_HEADER, received - CB_HEADER
@@ -156,7 +159,7 @@ uint32_t cb_read_text(const uint8_t *page, size_t page_len, size_t received, uin
  *   0                           it can
  *   16, 18                      it can't; the first of these that applies
  */
-uint32_t cb_content(const uint8_t *page, size_t page_len, size_t received);
+uint32_t cb_content(const uint8_t *page, cb_length page_len, cb_length received);
 
 /*
  * What cb_read_header returns is number + 2^8 * scheme + 2^16 * serial number + 2^32 * message identifier
@@ -178,7 +181,7 @@ uint32_t cb_content(const uint8_t *page, size_t page_len, size_t received);
  *   0                           scheme, serial number, identifier and parameter
  *   16                          the page isn't 88 octets long; the others are 0
  */
-uint64_t cb_read_header(const uint8_t *page, size_t page_len);
+uint64_t cb_read_header(const uint8_t *page, cb_length page_len);
 
 /*
  * Messages of several pages (GSM 03.41, 9.3.2): up to 15 pages that have serial number, message identifier and total in
@@ -212,7 +215,7 @@ uint64_t cb_read_header(const uint8_t *page, size_t page_len);
  *   CB_DONE             collector: total, serial number and identifier 0, and no page held
  *   CB_STATE_IMPROPER   collector_len isn't 1,340; collector: untouched
  */
-uint32_t cb_start_collector(uint8_t *collector, size_t collector_len);
+uint32_t cb_start_collector(uint8_t *collector, cb_length collector_len);
 
 /*
  * Takes a page with the octets received of it, as cb_intake gives them: number + 256 * pages handed out. A page that is
@@ -237,8 +240,8 @@ uint32_t cb_start_collector(uint8_t *collector, size_t collector_len);
  * message would be taken for a page. Which pages go to which collector is the caller's choice; with several channels or
  * messages at a time, a collector for each loses none to the others.
  */
-uint32_t cb_collect(uint8_t *collector, size_t collector_len, const uint8_t *page, size_t page_len, size_t received,
-                    uint8_t *output, size_t output_len);
+uint32_t cb_collect(uint8_t *collector, cb_length collector_len, const uint8_t *page, cb_length page_len,
+                    cb_length received, uint8_t *output, cb_length output_len);
 
 #define CB_BLOCKS 92 /* octets of four blocks */
 
@@ -250,8 +253,8 @@ uint32_t cb_collect(uint8_t *collector, size_t collector_len, const uint8_t *pag
  *   15, 16, 17                  out: untouched; the first of these that applies, in this order. 15 is an out_len that
  *                               isn't 92
  */
-uint32_t cb_write_blocks(const uint8_t *message, size_t message_len, bool schedule, size_t used,
-                         uint8_t *out, size_t out_len);
+uint32_t cb_write_blocks(const uint8_t *message, cb_length message_len, bool schedule, cb_length used,
+                         uint8_t *out, cb_length out_len);
 
 /*
  * Schedule messages (GSM 04.12, 3.5): the octets of a complete one and the octets received, as cb_intake gives them.
@@ -275,7 +278,7 @@ uint32_t cb_write_blocks(const uint8_t *message, size_t message_len, bool schedu
  *   0                           Begin and End, 1 to 48
  *   16, 18, 20, 21, 22, 23, 24  the first of these that applies, in this order; Begin and End are 0
  */
-uint32_t cb_read_schedule(const uint8_t *message, size_t message_len, size_t received);
+uint32_t cb_read_schedule(const uint8_t *message, cb_length message_len, cb_length received);
 
 /* Codes: 8000 hex + the identifier's low 15 bits for a first transmission, 1 to 47 for a repeat of that slot, or: */
 #define CB_FIRST    0x8000u /* from this code on */
@@ -294,7 +297,8 @@ uint32_t cb_read_schedule(const uint8_t *message, size_t message_len, size_t rec
  *                               slots: untouched; the first of these that applies, in this order; Begin and End are 0.
  *                               15 is a slots_len, in numbers, that isn't 48
  */
-uint32_t cb_slots(const uint8_t *message, size_t message_len, size_t received, uint32_t *slots, size_t slots_len);
+uint32_t cb_slots(const uint8_t *message, cb_length message_len, cb_length received,
+                  uint32_t *slots, cb_length slots_len);
 
 /* What cb_description returns is number + 2^8 * slot + 2^16 * new bit + 2^32 * code. */
 #define CB_SLOT(returned) ((uint32_t)((uint64_t)(returned) >> 8) & 0xFFu)
@@ -310,7 +314,7 @@ uint32_t cb_slots(const uint8_t *message, size_t message_len, size_t received, u
  *   0, slot 0                   no more: place is End or above; new bit and code are 0
  *   16, 18, 20, 21, 22, 23, 24  as cb_read_schedule, at every place; slot, new bit and code are 0
  */
-uint64_t cb_description(const uint8_t *message, size_t message_len, size_t received, size_t place);
+uint64_t cb_description(const uint8_t *message, cb_length message_len, cb_length received, cb_length place);
 
 /*
  * Plan files: six octets, then six for each slot. Numbers of two octets have the high octet first.
@@ -342,7 +346,7 @@ uint64_t cb_description(const uint8_t *message, size_t message_len, size_t recei
  *                               entry, 1 to 48, and 36 or 37 what is wrong with that one. Its six octets begin at
  *                               file[6 * count], the kind first
  */
-uint32_t cb_read_plan(const uint8_t *file, size_t file_len);
+uint32_t cb_read_plan(const uint8_t *file, cb_length file_len);
 
 /*
  * Schedules beside plans. A plan goes in as its file, the current one and the one before it; where there is none before,
@@ -364,8 +368,8 @@ uint32_t cb_read_plan(const uint8_t *file, size_t file_len);
  *                               entry, and with the others it is 0; 21 is a Begin that isn't 1 to the current plan's
  *                               count. Which of the files is refused isn't told: cb_read_plan of each tells it
  */
-uint32_t cb_write_schedule(const uint8_t *current, size_t current_len, const uint8_t *previous, size_t previous_len,
-                           size_t begin, uint8_t *out, size_t out_len);
+uint32_t cb_write_schedule(const uint8_t *current, cb_length current_len, const uint8_t *previous, cb_length previous_len,
+                           cb_length begin, uint8_t *out, cb_length out_len);
 
 /*
  * Checks a schedule message beside the plans: number + 256 * slot, or the entry with 36 and 37. Nothing is written.
@@ -377,8 +381,8 @@ uint32_t cb_write_schedule(const uint8_t *current, size_t current_len, const uin
  *   40                          it reads well but isn't true; the count is the lowest slot that is untrue, 1 to 48, or
  *                               0 where End differs from the current plan's count
  */
-uint32_t cb_check_schedule(const uint8_t *current, size_t current_len, const uint8_t *previous, size_t previous_len,
-                           const uint8_t *message, size_t message_len, size_t received);
+uint32_t cb_check_schedule(const uint8_t *current, cb_length current_len, const uint8_t *previous, cb_length previous_len,
+                           const uint8_t *message, cb_length message_len, cb_length received);
 
 /*
  * The board's decision. With known false there is no schedule, and the message isn't looked at, but its pointer may not
@@ -401,15 +405,16 @@ uint32_t cb_check_schedule(const uint8_t *current, size_t current_len, const uin
  *   0, count 0                  skip
  *   41, 42                      the first of these that applies; the count is 0
  */
-uint32_t cb_decide(bool known, const uint8_t *message, size_t message_len, size_t received, size_t slot,
-                   const uint16_t *wanted, size_t wanted_len, uint64_t held);
+uint32_t cb_decide(bool known, const uint8_t *message, cb_length message_len, cb_length received, cb_length slot,
+                   const uint16_t *wanted, cb_length wanted_len, uint64_t held);
 
 /*
  * Gives the held set with the page got in a slot entered: where the schedule tells the slot as a repeat, under the slot
  * that the repeat names; otherwise under its own, also where there is no schedule, it is refused or it doesn't reach the
  * slot. A slot that isn't 1 to 48 enters nothing. Bits that were set stay set. Nothing is refused, and nothing written.
  */
-uint64_t cb_enter(bool known, const uint8_t *message, size_t message_len, size_t received, size_t slot, uint64_t held);
+uint64_t cb_enter(bool known, const uint8_t *message, cb_length message_len, cb_length received, cb_length slot,
+                  uint64_t held);
 
 #ifdef __cplusplus
 }

@@ -1,17 +1,19 @@
 /*
- * Holds include/csobvarit.h to the archive it is linked with: results FILE...
+ * Holds include/csobvarit.h to the archive it is linked with, by files of stored results.
  *
  * First every number of the header to the paper's. Then each line of the files, which tells a call and what it gives
  * (tests/second/README.md, "Stored results"): the call is made by its prototype, on blocks of memory of exactly the
  * lengths told, and what it returns, taken apart by the header's macros, and all memory that it may write must be as the
- * rest of the line has it. Lines of a kind that no call makes are passed over.
+ * rest of the line has it, and the octets around each block as they were. Lines of a kind that no call makes are passed
+ * over. Last, that calls look at all bits of a length (lengths.c).
+ *
+ * It runs with the C library and on boards without one, so it needs nothing but host.h.
  */
-#include <inttypes.h>
-#include <stdio.h>
-#include <stdlib.h>
-#include <string.h>
-
 #include "csobvarit.h"
+#include "host.h"
+#include "bare.h"
+
+typedef char length_has_64_bits[sizeof(cb_length) == 8 ? 1 : -1];
 
 /* Each number of the header beside that of documents 01 and 02. */
 #define NUMBER(name, paper) {#name, name, paper}
@@ -72,14 +74,23 @@ static const struct {
     NUMBER(CB_ADVISED, 0x41),
 };
 
+/* Writes a line of some texts. */
+static void write_line(void (*host)(const char *), const char *const *texts)
+{
+    for (; *texts != NULL; texts++)
+        host(*texts);
+}
+#define SAY(...) write_line(host_say, (const char *const[]){host_test, ": ", __VA_ARGS__, "\n", NULL})
+#define TELL(...) write_line(host_tell, (const char *const[]){host_test, ": ", __VA_ARGS__, "\n", NULL})
+
 static int numbers_wrong(void)
 {
     int wrong = 0;
 
     for (size_t i = 0; i < sizeof numbers / sizeof numbers[0]; i++)
         if (numbers[i].header != numbers[i].paper) {
-            fprintf(stderr, "tests/header: %s is %" PRIu32 " in the header and %" PRIu32 " in the documents\n",
-                    numbers[i].name, numbers[i].header, numbers[i].paper);
+            SAY(numbers[i].name, " is ", DECIMAL(numbers[i].header), " in the header and ", DECIMAL(numbers[i].paper),
+                " in the documents");
             wrong = 1;
         }
     return wrong;
@@ -87,18 +98,19 @@ static int numbers_wrong(void)
 
 /* The line that is being run. */
 static const char *file;
-static unsigned long line_number;
+static uint32_t line_number;
 static char line[1 << 16];
 static char *rest; /* what of the line isn't taken yet; NULL at its end */
 static bool differs;
 
 enum { SHOWN = 5 }; /* differences that are printed */
-static unsigned long results, calls, passed_over, different;
+static uint32_t results, calls, passed_over, different;
 
+static void stop(const char *what) __attribute__((noreturn));
 static void stop(const char *what)
 {
-    fprintf(stderr, "tests/header: %s:%lu: %s\n", file, line_number, what);
-    exit(1);
+    SAY(file, ":", DECIMAL(line_number), ": ", what);
+    host_end(1);
 }
 
 static char *take(void)
@@ -107,7 +119,7 @@ static char *take(void)
 
     if (field == NULL)
         stop("the line ends early");
-    rest = strchr(field, ' ');
+    rest = find(field, ' ');
     if (rest != NULL)
         *rest++ = '\0';
     return field;
@@ -115,63 +127,106 @@ static char *take(void)
 
 static uint64_t take_number(void)
 {
-    char *field = take(), *end;
-    uint64_t number = strtoull(field, &end, 16);
+    const char *field = take();
+    uint64_t number = 0;
 
-    if (*field == '\0' || *end != '\0')
+    if (*field == '\0' || length(field) > 16)
         stop("no number");
+    for (; *field != '\0'; field++) {
+        if (digit(*field) > 15)
+            stop("no number");
+        number = number << 4 | digit(*field);
+    }
     return number;
 }
 
-static size_t take_size(void)
-{
-    return (size_t)take_number();
-}
-
-/* Blocks of memory, of one length each and no more, for the time of a line. */
+/*
+ * Blocks of memory, of one length each and no more, for the time of a line. Each begins where numbers of its kind may and
+ * wider ones may not, octets at odd places; and between blocks are octets that no call may change.
+ */
 struct octets { uint8_t *at; size_t len; };
 struct points { uint16_t *at; size_t len; };
 struct longs { uint32_t *at; size_t len; };
 
-enum { FILLING = 0xA5 };
-static void *blocks[1024];
+enum { FILLING = 0xA5, GUARD = 32, ROOM = 1 << 20 };
+static uint8_t room[ROOM];
+static size_t room_used;
+static struct octets blocks[1024];
 static size_t blocks_held;
 
-static void *block(size_t count, size_t size)
+/* What stands at a place of the room that isn't lent. */
+static uint8_t guard(const uint8_t *at)
 {
-    void *made = malloc(count > 0 ? count * size : 1); /* no pointer may be null */
-
-    if (made == NULL || blocks_held == sizeof blocks / sizeof blocks[0])
-        stop("no memory");
-    memset(made, FILLING, count * size);
-    return blocks[blocks_held++] = made;
+    return (uint8_t)((at - room) * 37 + 11);
 }
 
-static struct octets lent(size_t len) { return (struct octets){block(len, sizeof(uint8_t)), len}; }
-static struct points lent_points(size_t len) { return (struct points){block(len, sizeof(uint16_t)), len}; }
-static struct longs lent_longs(size_t len) { return (struct longs){block(len, sizeof(uint32_t)), len}; }
+static void *block(uint64_t count, size_t size)
+{
+    uint8_t *at = room + room_used + GUARD;
+    size_t len;
+
+    while ((uintptr_t)at % (2 * size) != size)
+        at++;
+    if (count > ROOM || (size_t)count * size + GUARD > (size_t)(room + ROOM - at) ||
+        blocks_held == sizeof blocks / sizeof blocks[0])
+        stop("no memory");
+    len = (size_t)count * size;
+    for (uint8_t *before = room + room_used; before < at; before++)
+        *before = guard(before);
+    for (size_t i = 0; i < len; i++)
+        at[i] = FILLING;
+    for (uint8_t *behind = at + len; behind < at + len + GUARD; behind++)
+        *behind = guard(behind);
+    room_used = (size_t)(at + len - room);
+    blocks[blocks_held++] = (struct octets){at, len};
+    return at;
+}
+
+/* Holds what stands around the blocks to what stood there, and takes the blocks back. */
+static void end_blocks(void)
+{
+    const uint8_t *at = room;
+
+    for (size_t i = 0; i < blocks_held; i++) {
+        for (; at < blocks[i].at; at++)
+            if (*at != guard(at))
+                stop("memory is changed that wasn't lent");
+        at += blocks[i].len;
+    }
+    for (size_t i = 0; blocks_held > 0 && i < GUARD; i++)
+        if (at[i] != guard(at + i))
+            stop("memory is changed that wasn't lent");
+    blocks_held = room_used = 0;
+}
+
+static struct octets lent(uint64_t len) { return (struct octets){block(len, sizeof(uint8_t)), (size_t)len}; }
+static struct points lent_points(uint64_t len) { return (struct points){block(len, sizeof(uint16_t)), (size_t)len}; }
+static struct longs lent_longs(uint64_t len) { return (struct longs){block(len, sizeof(uint32_t)), (size_t)len}; }
 
 /* The number in some digits of a list. */
 static unsigned digits(const char *at, size_t count)
 {
-    char copy[9] = "", *end;
-    unsigned number;
+    unsigned number = 0;
 
-    memcpy(copy, at, count);
-    number = (unsigned)strtoul(copy, &end, 16);
-    if (*end != '\0')
-        stop("no list");
+    for (size_t i = 0; i < count; i++) {
+        if (digit(at[i]) > 15)
+            stop("no list");
+        number = number << 4 | digit(at[i]);
+    }
     return number;
 }
 
 /* How many elements of so many digits a list has. */
 static size_t elements(const char *list, size_t wide)
 {
-    if (strcmp(list, "-") == 0)
+    size_t count = 0;
+
+    if (equal(list, "-"))
         return 0;
-    if (strlen(list) % wide != 0)
-        stop("no list");
-    return strlen(list) / wide;
+    for (size_t len = length(list); len > 0; len -= wide, count++)
+        if (len < wide)
+            stop("no list");
+    return count;
 }
 
 static struct octets take_octets(void)
@@ -187,15 +242,16 @@ static struct octets take_octets(void)
 /* The next run of a list: how many equal octets it has, and where the digits of the octet are. */
 static size_t run_of(const char **list)
 {
-    char *end;
-    size_t count;
+    const char *at = *list + 1;
+    size_t count = 0;
 
     if (**list != '(')
         return 1;
-    count = strtoul(*list + 1, &end, 16);
-    if (end == *list + 1 || *end != ')')
+    for (; digit(*at) < 16; at++)
+        count = count << 4 | digit(*at);
+    if (at == *list + 1 || *at != ')' || count > ROOM)
         stop("no run");
-    *list = end + 1;
+    *list = at + 1;
     return count;
 }
 
@@ -206,19 +262,19 @@ static struct octets take_runs(void)
     struct octets taken;
     size_t len = 0;
 
-    if (strcmp(list, "-") == 0)
+    if (equal(list, "-"))
         return lent(0);
     for (const char *at = list; *at != '\0'; at += 2) {
         len += run_of(&at);
-        if (strlen(at) < 2)
+        if (length(at) < 2)
             stop("no list");
     }
     taken = lent(len);
     len = 0;
     for (const char *at = list; *at != '\0'; at += 2) {
         size_t count = run_of(&at);
-        memset(taken.at + len, (int)digits(at, 2), count);
-        len += count;
+        while (count-- > 0)
+            taken.at[len++] = (uint8_t)digits(at, 2);
     }
     return taken;
 }
@@ -238,18 +294,18 @@ static void hold(const char *got)
 {
     const char *stored = take();
 
-    if (strcmp(got, stored) == 0 || differs)
+    if (equal(got, stored) || differs)
         return;
     differs = true;
     if (different < SHOWN)
-        fprintf(stderr, "tests/header: %s:%lu: %c: %s, stored %s\n", file, line_number, line[0], got, stored);
+        SAY(file, ":", DECIMAL(line_number), ": ", (const char[]){line[0], '\0'}, ": ", got, ", stored ", stored);
 }
 
 static void hold_number(uint64_t got)
 {
     char text[17];
 
-    snprintf(text, sizeof text, "%" PRIx64, got);
+    put_hex(text, got, 1);
     hold(text);
 }
 
@@ -257,7 +313,7 @@ static void hold_number(uint64_t got)
 static void hold_list(const void *list, size_t len, size_t size)
 {
     static char shown[1 << 12];
-    int wide = (int)(2 * size);
+    char *to = shown;
 
     if (len * 2 * size >= sizeof shown)
         stop("too long a list");
@@ -265,7 +321,7 @@ static void hold_list(const void *list, size_t len, size_t size)
         uint32_t element = size == 1   ? ((const uint8_t *)list)[i]
                            : size == 2 ? ((const uint16_t *)list)[i]
                                        : ((const uint32_t *)list)[i];
-        sprintf(shown + 2 * size * i, "%0*" PRIx32, wide, element);
+        to = put_hex(to, element, (unsigned)(2 * size));
     }
     hold(len > 0 ? shown : "-");
 }
@@ -273,7 +329,7 @@ static void hold_list(const void *list, size_t len, size_t size)
 /* Memory after a call: = where it is as it was. */
 static void hold_after(const uint8_t *before, struct octets after)
 {
-    if (memcmp(before, after.at, after.len) == 0)
+    if (same(before, after.at, after.len))
         hold("=");
     else
         hold_list(after.at, after.len, 1);
@@ -283,11 +339,11 @@ static void hold_after(const uint8_t *before, struct octets after)
 static void hold_left(const void *memory, size_t len, size_t size)
 {
     const uint8_t *octets = memory;
-    size_t same = 0;
+    size_t left = 0;
 
-    while (same < len * size && octets[same] == FILLING)
-        same++;
-    if (same == len * size)
+    while (left < len * size && octets[left] == FILLING)
+        left++;
+    if (left == len * size)
         hold("=");
     else
         hold_list(memory, len, size);
@@ -311,9 +367,12 @@ static void hold_runs(struct octets list)
             count++;
         if (count < RUN)
             count = 1;
-        else
-            to += sprintf(to, "(%zx)", count);
-        to += sprintf(to, "%02x", (unsigned)list.at[i]);
+        else {
+            *to++ = '(';
+            to = put_hex(to, count, 1);
+            *to++ = ')';
+        }
+        to = put_hex(to, list.at[i], 2);
     }
     hold(list.len > 0 ? shown : "-");
 }
@@ -321,30 +380,31 @@ static void hold_runs(struct octets list)
 /* Memory after a call, with its runs: = where it is as it was. */
 static void hold_runs_after(const uint8_t *before, struct octets after)
 {
-    if (memcmp(before, after.at, after.len) == 0)
+    if (same(before, after.at, after.len))
         hold("=");
     else
         hold_runs(after);
 }
 
-/* Counts a call that returned something. */
-#define CALLED(call) (calls++, (call))
+/* Makes a call, counts it, and gives what it returned. */
+static uint64_t last_returned;
+#define CALL(call, ...) (calls++, host_before(), last_returned = call(__VA_ARGS__), host_after(#call), last_returned)
 
 static void start(void)
 {
     struct octets state = take_octets(), before = lent(state.len);
 
-    memcpy(before.at, state.at, state.len);
-    hold_number(CB_ANSWER(CALLED(cb_start(state.at, state.len))));
+    copy(before.at, state.at, state.len);
+    hold_number(CB_ANSWER(CALL(cb_start, state.at, state.len)));
     hold_after(before.at, state);
 }
 
 static void intake(void)
 {
-    struct octets state = take_octets(), piece = take_octets(), output = lent(take_size()), before = lent(state.len);
+    struct octets state = take_octets(), piece = take_octets(), output = lent(take_number()), before = lent(state.len);
 
-    memcpy(before.at, state.at, state.len);
-    uint32_t returned = CALLED(cb_intake(state.at, state.len, piece.at, piece.len, output.at, output.len));
+    copy(before.at, state.at, state.len);
+    uint64_t returned = CALL(cb_intake, state.at, state.len, piece.at, piece.len, output.at, output.len);
     hold_number(CB_ANSWER(returned));
     hold_number(CB_RECEIVED(returned));
     hold_after(before.at, state);
@@ -355,7 +415,7 @@ static struct octets started(void)
 {
     struct octets state = lent(CB_STATE);
 
-    if (CALLED(cb_start(state.at, state.len)) != CB_DONE)
+    if (CALL(cb_start, state.at, state.len) != CB_DONE)
         stop("cb_start refuses a state of CB_STATE octets");
     return state;
 }
@@ -364,9 +424,9 @@ static void sequence(void)
 {
     struct octets state = started();
 
-    while (rest != NULL && strchr(rest, ' ') != NULL) {
+    while (rest != NULL && find(rest, ' ') != NULL) {
         struct octets piece = take_octets(), output = lent(CB_OUTPUT);
-        uint32_t returned = CALLED(cb_intake(state.at, state.len, piece.at, piece.len, output.at, output.len));
+        uint64_t returned = CALL(cb_intake, state.at, state.len, piece.at, piece.len, output.at, output.len);
         hold_number(CB_ANSWER(returned));
         hold_number(CB_RECEIVED(returned));
         HOLD_LEFT(output);
@@ -382,14 +442,14 @@ static void texts(void)
     while (rest != NULL) {
         struct octets piece = take_octets(), output = lent(CB_OUTPUT);
         struct points text = lent_points(CB_TEXT);
-        uint32_t returned = CALLED(cb_intake(state.at, state.len, piece.at, piece.len, output.at, output.len));
+        uint64_t returned = CALL(cb_intake, state.at, state.len, piece.at, piece.len, output.at, output.len);
         hold_number(CB_ANSWER(returned));
         hold_number(CB_RECEIVED(returned));
         if (CB_ANSWER(returned) != CB_PAGE) {
             hold("-");
             continue;
         }
-        uint32_t read = CALLED(cb_read_text(output.at, output.len, CB_RECEIVED(returned), text.at, text.len));
+        uint64_t read = CALL(cb_read_text, output.at, output.len, CB_RECEIVED(returned), text.at, text.len);
         hold_list(text.at, CB_COUNT(read), sizeof *text.at);
     }
 }
@@ -397,10 +457,10 @@ static void texts(void)
 static void write_blocks(void)
 {
     bool schedule = take_number() != 0;
-    size_t used = take_size();
-    struct octets message = take_octets(), out = lent(take_size());
+    cb_length used = take_number();
+    struct octets message = take_octets(), out = lent(take_number());
 
-    hold_number(CB_NUMBER(CALLED(cb_write_blocks(message.at, message.len, schedule, used, out.at, out.len))));
+    hold_number(CB_NUMBER(CALL(cb_write_blocks, message.at, message.len, schedule, used, out.at, out.len)));
     HOLD_LEFT(out);
 }
 
@@ -416,16 +476,16 @@ static void write_text(void)
     uint16_t serial = (uint16_t)take_number(), identifier = (uint16_t)take_number();
     uint8_t scheme = (uint8_t)take_number(), parameter = (uint8_t)take_number();
     struct points text = take_points();
-    struct octets page = lent(take_size());
-    uint32_t returned =
-        CALLED(cb_write_text(serial, identifier, scheme, parameter, text.at, text.len, page.at, page.len));
+    struct octets page = lent(take_number());
+    uint64_t returned =
+        CALL(cb_write_text, serial, identifier, scheme, parameter, text.at, text.len, page.at, page.len);
 
     hold_number(CB_NUMBER(returned));
     hold_number(CB_COUNT(returned));
     HOLD_LEFT(page);
     if (CB_NUMBER(returned) != 0)
         return;
-    uint64_t header = CALLED(cb_read_header(page.at, page.len));
+    uint64_t header = CALL(cb_read_header, page.at, page.len);
     if (CB_NUMBER(header) != 0 || CB_HEADER_SERIAL(header) != serial || CB_HEADER_IDENTIFIER(header) != identifier ||
         CB_HEADER_SCHEME(header) != scheme || CB_HEADER_PARAMETER(header) != parameter)
         stop("the page's header isn't what was written");
@@ -435,9 +495,9 @@ static void write_text(void)
 static void read_text(void)
 {
     struct octets page = take_octets();
-    size_t received = take_size();
-    struct points text = lent_points(take_size());
-    uint32_t returned = CALLED(cb_read_text(page.at, page.len, received, text.at, text.len));
+    cb_length received = take_number();
+    struct points text = lent_points(take_number());
+    uint64_t returned = CALL(cb_read_text, page.at, page.len, received, text.at, text.len);
 
     hold_number(CB_NUMBER(returned));
     hold_number(CB_COUNT(returned));
@@ -447,12 +507,12 @@ static void read_text(void)
 static void content(void)
 {
     struct octets page = take_octets();
-    size_t received = take_size();
-    uint32_t returned = CALLED(cb_content(page.at, page.len, received));
+    cb_length received = take_number();
+    uint64_t returned = CALL(cb_content, page.at, page.len, received);
 
     hold_number(CB_NUMBER(returned));
     if (CB_NUMBER(returned) == 0)
-        hold_list(page.at + CB_HEADER, received - CB_HEADER, 1);
+        hold_list(page.at + CB_HEADER, (size_t)(received - CB_HEADER), 1);
     else
         hold("-");
 }
@@ -460,7 +520,7 @@ static void content(void)
 static void read_header(void)
 {
     struct octets page = take_octets();
-    uint64_t returned = CALLED(cb_read_header(page.at, page.len));
+    uint64_t returned = CALL(cb_read_header, page.at, page.len);
 
     hold_number(CB_NUMBER(returned));
     hold_number(CB_HEADER_SCHEME(returned));
@@ -474,15 +534,15 @@ static void start_collector(void)
 {
     struct octets collector = take_runs(), before = lent(collector.len);
 
-    memcpy(before.at, collector.at, collector.len);
-    hold_number(CB_ANSWER(CALLED(cb_start_collector(collector.at, collector.len))));
+    copy(before.at, collector.at, collector.len);
+    hold_number(CB_ANSWER(CALL(cb_start_collector, collector.at, collector.len)));
     hold_runs_after(before.at, collector);
 }
 
 /* The number of a page and its total, where neither half of the parameter is 0; otherwise both are 1. */
 static void number_and_total(struct octets page, uint32_t *number, uint32_t *total)
 {
-    uint8_t parameter = CB_HEADER_PARAMETER(CALLED(cb_read_header(page.at, page.len)));
+    uint8_t parameter = CB_HEADER_PARAMETER(CALL(cb_read_header, page.at, page.len));
 
     try_halves(parameter);
     *number = CB_PAGE_OF(parameter);
@@ -501,7 +561,7 @@ static uint8_t *place(struct octets message, uint32_t number)
 
 /* The page that completed a message stands in its place, and every page of it has octets received. What else a lent
  * collector held goes out as it stood, so the headers of the other pages can be any. */
-static void try_place(struct octets message, uint32_t count, struct octets page, size_t received)
+static void try_place(struct octets message, uint32_t count, struct octets page, cb_length received)
 {
     uint32_t number, total;
 
@@ -512,7 +572,7 @@ static void try_place(struct octets message, uint32_t count, struct octets page,
     }
     number_and_total(page, &number, &total);
     if (total != count || *place(message, number) != received ||
-        memcmp(place(message, number) + 1, page.at, page.len) != 0)
+        !same(place(message, number) + 1, page.at, page.len))
         stop("the page that came last isn't in its place");
 }
 
@@ -529,10 +589,10 @@ static void try_places(struct octets message, uint32_t count)
 }
 
 /* Takes a page, and holds what came of it, but for the collector. */
-static uint32_t collect_page(struct octets collector, struct octets page, size_t received, struct octets output)
+static uint64_t collect_page(struct octets collector, struct octets page, cb_length received, struct octets output)
 {
-    uint32_t returned = CALLED(cb_collect(collector.at, collector.len, page.at, page.len, received,
-                                          output.at, output.len));
+    uint64_t returned = CALL(cb_collect, collector.at, collector.len, page.at, page.len, received,
+                                          output.at, output.len);
 
     hold_number(CB_NUMBER(returned));
     hold_number(CB_COUNT(returned));
@@ -544,10 +604,10 @@ static uint32_t collect_page(struct octets collector, struct octets page, size_t
 static void collect(void)
 {
     struct octets collector = take_runs(), page = take_octets();
-    size_t received = take_size();
-    struct octets output = lent(take_size()), before = lent(collector.len), as_lent = lent(output.len);
+    cb_length received = take_number();
+    struct octets output = lent(take_number()), before = lent(collector.len), as_lent = lent(output.len);
 
-    memcpy(before.at, collector.at, collector.len);
+    copy(before.at, collector.at, collector.len);
     collect_page(collector, page, received, output);
     hold_runs_after(before.at, collector);
     hold_runs_after(as_lent.at, output);
@@ -557,12 +617,12 @@ static void pages_in_a_row(void)
 {
     struct octets collector = lent(CB_COLLECTOR), as_lent = lent(CB_COLLECTOR);
 
-    if (CALLED(cb_start_collector(collector.at, collector.len)) != CB_DONE)
+    if (CALL(cb_start_collector, collector.at, collector.len) != CB_DONE)
         stop("cb_start_collector refuses a collector of CB_COLLECTOR octets");
-    while (rest != NULL && strchr(rest, ' ') != NULL) {
+    while (rest != NULL && find(rest, ' ') != NULL) {
         struct octets page = take_octets(), output = lent(CB_COLLECTOR);
-        size_t received = take_size();
-        uint32_t returned = collect_page(collector, page, received, output);
+        cb_length received = take_number();
+        uint64_t returned = collect_page(collector, page, received, output);
         hold_runs_after(as_lent.at, output);
         if (CB_NUMBER(returned) == CB_DONE && !differs)
             try_places(output, CB_COUNT(returned));
@@ -574,17 +634,17 @@ static void pages_in_a_row(void)
 static void read_schedule(void)
 {
     struct octets message = take_octets();
-    size_t received = take_size();
+    cb_length received = take_number();
     struct longs slots = lent_longs(CB_SLOTS);
-    uint32_t returned = CALLED(cb_read_schedule(message.at, message.len, received));
+    uint64_t returned = CALL(cb_read_schedule, message.at, message.len, received);
 
-    if (CALLED(cb_slots(message.at, message.len, received, slots.at, slots.len)) != returned)
+    if (CALL(cb_slots, message.at, message.len, received, slots.at, slots.len) != returned)
         stop("cb_slots returns something else than cb_read_schedule");
     hold_number(CB_NUMBER(returned));
     hold_number(CB_BEGIN(returned));
     hold_number(CB_END(returned));
-    for (size_t place = 0;; place++) {
-        uint64_t given = CALLED(cb_description(message.at, message.len, received, place));
+    for (cb_length place = 0;; place++) {
+        uint64_t given = CALL(cb_description, message.at, message.len, received, place);
         if (CB_NUMBER(given) != CB_NUMBER(returned))
             stop("cb_description gives another number than cb_read_schedule");
         if (CB_SLOT(given) == 0)
@@ -601,8 +661,8 @@ static void read_schedule(void)
 static void description(void)
 {
     struct octets message = take_octets();
-    size_t received = take_size(), place = take_size();
-    uint64_t returned = CALLED(cb_description(message.at, message.len, received, place));
+    cb_length received = take_number(), place = take_number();
+    uint64_t returned = CALL(cb_description, message.at, message.len, received, place);
 
     hold_number(CB_NUMBER(returned));
     hold_number(CB_SLOT(returned));
@@ -613,9 +673,9 @@ static void description(void)
 static void all_slots(void)
 {
     struct octets message = take_octets();
-    size_t received = take_size();
-    struct longs slots = lent_longs(take_size());
-    uint32_t returned = CALLED(cb_slots(message.at, message.len, received, slots.at, slots.len));
+    cb_length received = take_number();
+    struct longs slots = lent_longs(take_number());
+    uint64_t returned = CALL(cb_slots, message.at, message.len, received, slots.at, slots.len);
 
     hold_number(CB_NUMBER(returned));
     hold_number(CB_BEGIN(returned));
@@ -626,7 +686,7 @@ static void all_slots(void)
 static void read_plan(void)
 {
     struct octets plan = take_octets();
-    uint32_t returned = CALLED(cb_read_plan(plan.at, plan.len));
+    uint64_t returned = CALL(cb_read_plan, plan.at, plan.len);
 
     hold_number(CB_NUMBER(returned));
     hold_number(CB_COUNT(returned));
@@ -635,10 +695,10 @@ static void read_plan(void)
 static void write_schedule(void)
 {
     struct octets current = take_octets(), previous = take_octets();
-    size_t begin = take_size();
-    struct octets out = lent(take_size());
-    uint32_t returned =
-        CALLED(cb_write_schedule(current.at, current.len, previous.at, previous.len, begin, out.at, out.len));
+    cb_length begin = take_number();
+    struct octets out = lent(take_number());
+    uint64_t returned =
+        CALL(cb_write_schedule, current.at, current.len, previous.at, previous.len, begin, out.at, out.len);
 
     hold_number(CB_NUMBER(returned));
     hold_number(CB_COUNT(returned));
@@ -648,9 +708,9 @@ static void write_schedule(void)
 static void check_schedule(void)
 {
     struct octets current = take_octets(), previous = take_octets(), message = take_octets();
-    size_t received = take_size();
-    uint32_t returned = CALLED(cb_check_schedule(current.at, current.len, previous.at, previous.len,
-                                                 message.at, message.len, received));
+    cb_length received = take_number();
+    uint64_t returned = CALL(cb_check_schedule, current.at, current.len, previous.at, previous.len,
+                                                 message.at, message.len, received);
 
     hold_number(CB_NUMBER(returned));
     hold_number(CB_COUNT(returned));
@@ -660,11 +720,11 @@ static void decide(void)
 {
     bool known = take_number() != 0;
     struct octets message = take_octets();
-    size_t received = take_size(), slot = take_size();
+    cb_length received = take_number(), slot = take_number();
     struct points wanted = take_points();
     uint64_t held = take_number();
-    uint32_t returned =
-        CALLED(cb_decide(known, message.at, message.len, received, slot, wanted.at, wanted.len, held));
+    uint64_t returned =
+        CALL(cb_decide, known, message.at, message.len, received, slot, wanted.at, wanted.len, held);
 
     hold_number(CB_NUMBER(returned));
     hold_number(CB_COUNT(returned));
@@ -674,10 +734,10 @@ static void enter(void)
 {
     bool known = take_number() != 0;
     struct octets message = take_octets();
-    size_t received = take_size(), slot = take_size();
+    cb_length received = take_number(), slot = take_number();
     uint64_t held = take_number();
 
-    hold_number(CALLED(cb_enter(known, message.at, message.len, received, slot, held)));
+    hold_number(CALL(cb_enter, known, message.at, message.len, received, slot, held));
 }
 
 static const struct {
@@ -694,7 +754,6 @@ static void run_line(void)
 {
     size_t kind = 0;
 
-    line[strcspn(line, "\n")] = '\0';
     if (line[0] == '#')
         return;
     if (line[0] == 'X' || line[0] == 'A') { /* packing and the alphabet alone, which no call gives */
@@ -712,27 +771,54 @@ static void run_line(void)
         stop("the line goes on");
     results++;
     different += differs;
-    while (blocks_held > 0)
-        free(blocks[--blocks_held]);
+    end_blocks();
 }
 
-int main(int count, char **names)
+/* The next octet of the file, or -1 at its end. */
+static int next_octet(void)
+{
+    static char read[1 << 12];
+    static long at, count;
+
+    if (at == count) {
+        at = 0;
+        count = host_read(read, sizeof read);
+        if (count < 0)
+            stop("can't be read");
+        if (count == 0)
+            return -1;
+    }
+    return (unsigned char)read[at++];
+}
+
+/* Reads the next line, without its line feed: whether there is one. */
+static bool next_line(void)
+{
+    size_t len = 0;
+    int octet;
+
+    line_number++;
+    while ((octet = next_octet()) >= 0 && octet != '\n') {
+        if (len == sizeof line - 1)
+            stop("too long a line");
+        line[len++] = (char)octet;
+    }
+    line[len] = '\0';
+    return octet >= 0 || len > 0;
+}
+
+int run_results(void)
 {
     if (numbers_wrong())
         return 1;
-    for (int i = 1; i < count; i++) {
-        FILE *from = fopen(names[i], "r");
-        file = names[i];
+    while ((file = host_open()) != NULL) {
         line_number = 0;
-        if (from == NULL)
-            stop("can't be read");
-        while (line_number++, fgets(line, sizeof line, from) != NULL)
+        while (next_line())
             run_line();
-        if (ferror(from))
-            stop("can't be read on");
-        fclose(from);
     }
-    printf("tests/header: %lu results by %lu calls, %lu differ; %lu of what is no call passed over\n",
-           results, calls, different, passed_over);
+    if (lengths_wrong())
+        return 1;
+    TELL(DECIMAL(results), " results by ", DECIMAL(calls), " calls, ", DECIMAL(different), " differ; ", DECIMAL(passed_over),
+         " of what is no call passed over");
     return different != 0 || results == 0;
 }
