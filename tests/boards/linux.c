@@ -7,41 +7,38 @@
 
 const char host_test[] = "tests/boards";
 
-/* A system call of four words, and where a program begins: with a pointer to the number of words and the words. */
+/* The numbers of system calls, the registers that have the number and four words, and where a program begins: with a pointer to
+   the number of its words and the words. */
 #if defined __arm__
 enum { READ = 3, WRITE = 4, OPEN = 322, EXIT = 1 };
-static long ask(long call, long a, long b, long c, long d)
-{
-    register long r7 __asm__("r7") = call;
-    register long r0 __asm__("r0") = a, r1 __asm__("r1") = b, r2 __asm__("r2") = c, r3 __asm__("r3") = d;
-
-    __asm__ volatile("svc 0" : "+r"(r0) : "r"(r7), "r"(r1), "r"(r2), "r"(r3) : "memory");
-    return r0;
-}
-__asm__(".globl _start\n_start: mov r0, sp\n bl begin\n");
-#elif defined __aarch64__
+#define NUMBER "r7"
+#define WORD(n) "r" #n
+#define ASK "svc 0"
+#define START "mov r0, sp\n bl begin\n"
+#else
 enum { READ = 63, WRITE = 64, OPEN = 56, EXIT = 93 };
-static long ask(long call, long a, long b, long c, long d)
-{
-    register long x8 __asm__("x8") = call;
-    register long x0 __asm__("x0") = a, x1 __asm__("x1") = b, x2 __asm__("x2") = c, x3 __asm__("x3") = d;
-
-    __asm__ volatile("svc 0" : "+r"(x0) : "r"(x8), "r"(x1), "r"(x2), "r"(x3) : "memory");
-    return x0;
-}
-__asm__(".globl _start\n_start: mov x0, sp\n bl begin\n");
+#if defined __aarch64__
+#define NUMBER "x8"
+#define WORD(n) "x" #n
+#define ASK "svc 0"
+#define START "mov x0, sp\n bl begin\n"
 #elif defined __riscv
-enum { READ = 63, WRITE = 64, OPEN = 56, EXIT = 93 };
+#define NUMBER "a7"
+#define WORD(n) "a" #n
+#define ASK "ecall"
+#define START "mv a0, sp\n call begin\n"
+#endif
+#endif
+__asm__(".globl _start\n_start: " START);
+
 static long ask(long call, long a, long b, long c, long d)
 {
-    register long a7 __asm__("a7") = call;
-    register long a0 __asm__("a0") = a, a1 __asm__("a1") = b, a2 __asm__("a2") = c, a3 __asm__("a3") = d;
+    register long number __asm__(NUMBER) = call;
+    register long first __asm__(WORD(0)) = a, second __asm__(WORD(1)) = b, third __asm__(WORD(2)) = c, fourth __asm__(WORD(3)) = d;
 
-    __asm__ volatile("ecall" : "+r"(a0) : "r"(a7), "r"(a1), "r"(a2), "r"(a3) : "memory");
-    return a0;
+    __asm__ volatile(ASK : "+r"(first) : "r"(number), "r"(second), "r"(third), "r"(fourth) : "memory");
+    return first;
 }
-__asm__(".globl _start\n_start: mv a0, sp\n call begin\n");
-#endif
 
 enum { HERE = -100, ONLY_READ = 0 };
 

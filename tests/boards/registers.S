@@ -4,6 +4,13 @@
  * where the call looks for it, and what is painted below stays the call's alone.
  * `watched CALL` is written behind this for each call; the linker is told to --wrap it.
  */
+        .macro wrapped call
+        .section .text.__wrap_\call, "ax"
+        .globl __wrap_\call
+        .type __wrap_\call, %function
+__wrap_\call:
+        .endm
+
 #if defined __arm__
         .syntax unified
 #ifdef __thumb__
@@ -11,10 +18,7 @@
         .thumb
 #endif
         .macro watched call
-        .section .text.__wrap_\call, "ax"
-        .globl __wrap_\call
-        .type __wrap_\call, %function
-__wrap_\call:
+        wrapped \call
         ldr     ip, =kept
         stmia   ip, {r4-r11, lr}
         str     sp, [ip, #36]
@@ -50,10 +54,7 @@ marks:  .irp    n, 4, 5, 6, 7, 8, 9, 10, 11
 
 #elif defined __riscv
         .macro watched call
-        .section .text.__wrap_\call, "ax"
-        .globl __wrap_\call
-        .type __wrap_\call, @function
-__wrap_\call:
+        wrapped \call
         la      t0, kept
         sw      ra, 0(t0)
         sw      sp, 4(t0)
@@ -81,10 +82,7 @@ spoilt: call    tell_spoilt
 
 #elif defined __aarch64__
         .macro watched call
-        .section .text.__wrap_\call, "ax"
-        .globl __wrap_\call
-        .type __wrap_\call, @function
-__wrap_\call:
+        wrapped \call
         adrp    x9, kept
         add     x9, x9, :lo12:kept
         mov     x10, sp

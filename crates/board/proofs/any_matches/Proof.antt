@@ -24,7 +24,7 @@ returns c =
     let s = c .before .before .before .before .before in
     let i = c .before .before .before .before .loop .i in
     let room : i < length (s .args .ids .now) = omega (arith, s .pre) in
-    sym (matches-found (s .args .id) (s .args .ids .now) i room (s .args .count) (c .before .before .before .loop-test .taken) (omega (arith, c .if1 .taken)))
+    sym (matches-found (s .args .id) (s .args .ids .now) i room (s .args .count) (omega (arith, c .before .before .before .loop-test .taken)) (omega (arith, c .if1 .taken)))
 
 loop-again : tie.Need-loop-again Inv-loop μ-loop
 loop-again c =

@@ -58,6 +58,6 @@ decide-by-spec =
     tie.close
     (tie.spec
     (λ c. sym (decide-low _ _ _ _ (c .if1 .taken))) (λ c. sym (decide-high _ _ _ _ (c .if2 .taken)))
-    (λ c. sym (decide-many _ _ _ _ (record { some = search needs; low = search needs }) (c .if3 .taken)))
+    (λ c. sym (decide-many _ _ _ _ (record { some = search needs; low = search needs }) (omega (arith, c .if3 .taken))))
     returns-4 (search needs) (search needs) returns-5 all-places reads-for-requires
     (λ c. answered (c .before) true (c .if6 .taken)) (λ c. answered (c .before) false (c .if6 .left)))
