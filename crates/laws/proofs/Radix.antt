@@ -38,7 +38,7 @@ below-replicate b zero x h = below-nil b (omega arith)
 below-replicate b (suc n) x h = below-cons b x (replicate n x) h (below-replicate b n x h)
 
 -- a number is below the base's power that its digits fill
-value-lt : (b : ℕ) (xs : List ℕ) → Below b xs → value b xs < b ^ length xs
+pub value-lt : (b : ℕ) (xs : List ℕ) → Below b xs → value b xs < b ^ length xs
 unfolding value
 value-lt b [] h = rw pow-zero (le-refl 1)
 value-lt b (x ∷ xs) h =
@@ -47,7 +47,7 @@ value-lt b (x ∷ xs) h =
     rw pow-succ' (omega (arith, h 0, mul-suc b (value b xs)))
 
 -- joined lists: the second one's number counts by the power that the first one fills
-value-append : (b : ℕ) (xs ys : List ℕ) → value b (xs ++ ys) ≡ value b xs + b ^ length xs * value b ys
+pub value-append : (b : ℕ) (xs ys : List ℕ) → value b (xs ++ ys) ≡ value b xs + b ^ length xs * value b ys
 unfolding value
 value-append b [] ys = rw (pow-zero, zero-add, one-mul)
 value-append b (x ∷ xs) ys = rw (value-append b xs ys, mul-add, pow-succ', mul-assoc, add-assoc)
@@ -71,12 +71,12 @@ digits-split b zero m v = rw (zero-add, pow-zero, div-one)
 digits-split b (suc n) m v = rw (suc-add, digits-split b n m (v / b), pow-succ', div-div-eq-div-mul)
 
 -- one digit more
-digits-more : (b n v : ℕ) → digits b (n + 1) v ≡ digits b n v ++ (v / b ^ n % b ∷ [])
+pub digits-more : (b n v : ℕ) → digits b (n + 1) v ≡ digits b n v ++ (v / b ^ n % b ∷ [])
 unfolding digits
 digits-more b n v = digits-split b n 1 v
 
 -- n digits see nothing of what counts by the n-th power
-digits-low : (b : ℕ) → 0 < b → (n v q : ℕ) → digits b n (v + b ^ n * q) ≡ digits b n v
+pub digits-low : (b : ℕ) → 0 < b → (n v q : ℕ) → digits b n (v + b ^ n * q) ≡ digits b n v
 unfolding digits
 digits-low b h zero v q = refl
 digits-low b h (suc n) v q =

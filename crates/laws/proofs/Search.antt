@@ -1,8 +1,8 @@
 -- Laws of lists that are searched: turns and ends of the loops that do it, and what is found.
-use Rattle.laws.proofs.Base.{_≡_, refl, sym, Bool, true, false, not, _||_, or-true, or-assoc, List, [], _∷_, _++_, ⊎-elim, ℕ, zero, suc, _+_, _≤_, _<_}
+use Rattle.laws.proofs.Base.{_≡_, refl, sym, _∙_, Bool, true, false, not, _||_, or-true, or-false, or-assoc, List, [], _∷_, _++_, ⊎-elim, ℕ, zero, suc, _+_, _≤_, _<_}
 use Rattle.laws.proofs.Base.{le-of-suc-le-suc, not-suc-le-zero, add-one, arith, length, getD, take, drop, drop-of-length-le, eqb, eqb·suc-zero, take-suc, drop-cons}
 use Rattle.laws.specs.Search.{some, firstFrom}
-use Rattle.laws.proofs.Tests.{true-or-false, either}
+use Rattle.laws.proofs.Tests.{true-or-false, either, neither}
 
 module _ {A : Type 0} (f : A → Bool) where
   pub some-append : (xs ys : List A) → some f (xs ++ ys) ≡ (some f xs || some f ys)
@@ -10,10 +10,20 @@ module _ {A : Type 0} (f : A → Bool) where
   some-append [] ys = refl
   some-append (x ∷ xs) ys = rw (some-append xs ys) (sym (or-assoc (f x) (some f xs) (some f ys)))
 
-  -- a turn of the loop that looks for an entry that passes
-  pub some-turn : (d : A) (l : List A) (i : ℕ) → i < length l → some f (take i l) ≡ false → f (getD l i d) ≡ false → some f (take (i + 1) l) ≡ false
+  -- a turn of a loop at an entry that doesn't pass: of one that goes on to the end, and of one that ends at the first that passes
+  pub some-passed : (d : A) (l : List A) (i : ℕ) → i < length l → f (getD l i d) ≡ false → some f (take (i + 1) l) ≡ some f (take i l)
   unfolding some
-  some-turn d l i h none e = rw (add-one i, take-suc l i d h, some-append (take i l) (getD l i d ∷ []), none, e)
+  some-passed d l i h e = rw (add-one i, take-suc l i d h, some-append (take i l) (getD l i d ∷ []), e) (or-false (some f (take i l)))
+
+  pub some-turn : (d : A) (l : List A) (i : ℕ) → i < length l → some f (take i l) ≡ false → f (getD l i d) ≡ false → some f (take (i + 1) l) ≡ false
+  some-turn d l i h none e = some-passed d l i h e ∙ none
+
+  -- where none passes, no entry does
+  pub some-false : (d : A) (l : List A) (i : ℕ) → i < length l → some f l ≡ false → f (getD l i d) ≡ false
+  unfolding some
+  some-false d [] i h e = absurd (not-suc-le-zero h)
+  some-false d (x ∷ l) zero h e = neither (f x) (some f l) e .0
+  some-false d (x ∷ l) (suc i) h e = some-false d l i (le-of-suc-le-suc h) (neither (f x) (some f l) e .1)
 
   -- the loop's end before the list's: an entry that passes is among the first n
   pub some-found : (d : A) (n : ℕ) (l : List A) (i : ℕ) → i < n → i < length l → f (getD l i d) ≡ true → some f (take n l) ≡ true
