@@ -11,6 +11,3 @@ determined-septet code r s p q = p ∙ sym q
 
 pub determined-code-points : (septets out r s : List ℕ) → r ≡ onto codePoint septets out → s ≡ onto codePoint septets out → r ≡ s
 determined-code-points septets out r s p q = p ∙ sym q
-
-pub determined-septets : (codes out r s : List ℕ) → r ≡ onto septetOf codes out → s ≡ onto septetOf codes out → r ≡ s
-determined-septets codes out r s p q = p ∙ sym q

@@ -1,2 +1,3 @@
 -- What `alphabet` defines.
+pub mod Inner
 pub mod Paper

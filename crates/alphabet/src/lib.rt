@@ -1,10 +1,11 @@
 // The default alphabet of GSM 03.38: code points of septets and septets of code points, each by a table.
-mod tables;
+pub mod tables;
 
 ghost use mathlib.Core.Path.{_≡_};
 ghost use Prim.Native.Nat.{min};
-ghost use Rattle.laws.specs.Table.{listed, onto};
+ghost use Rattle.laws.specs.Table.{onto};
 ghost use Rattle.alphabet.specs.Paper.{alphabet, codePoint, septetOf};
+ghost use Rattle.alphabet.specs.Inner.{inverse};
 use tables::CODE_POINTS;
 use tables::SEPTETS;
 
@@ -32,14 +33,7 @@ pub fn code_points(septets: &[u8], out: &mut [u16])
     code_points_by(&CODE_POINTS, septets, out)
 }
 
-// Writes the septet, or `NONE`, of each code point, as far as there is room.
-pub fn septets(codes: &[u16], out: &mut [u8])
-    ensures { λ r. ⌜ now (out .exit) ≡ onto septetOf (now (codes .entry)) (now (out .entry)) ⌝ }
-{
-    septets_by(&SEPTETS, codes, out)
-}
-
-// The tables are lent to what looks things up, so that a whole text costs one table.
+// The tables are lent to what looks things up: a constant is laid out wherever it is named.
 
 fn code_point_by(table: &[u16; 128], septet: u8) -> u16
     requires { ⌜ now table ≡ alphabet ⌝ }
@@ -49,7 +43,7 @@ fn code_point_by(table: &[u16; 128], septet: u8) -> u16
 }
 
 fn septet_by(table: &[u8; 938], code: u16) -> u8
-    requires { ⌜ now table ≡ listed septetOf 0 938 ⌝ }
+    requires { ⌜ now table ≡ inverse ⌝ }
     ensures { λ r. ⌜ r ≡ septetOf code ⌝ }
 {
     if code < 938 {
@@ -67,18 +61,6 @@ fn code_points_by(table: &[u16; 128], septets: &[u8], out: &mut [u16])
     let mut i = 0;
     while i < n {
         out[i] = code_point_by(table, septets[i]);
-        i += 1;
-    }
-}
-
-fn septets_by(table: &[u8; 938], codes: &[u16], out: &mut [u8])
-    requires { ⌜ now table ≡ listed septetOf 0 938 ⌝ }
-    ensures { λ r. ⌜ now (out .exit) ≡ onto septetOf (now (codes .entry)) (now (out .entry)) ⌝ }
-{
-    let n = least(codes.len(), out.len());
-    let mut i = 0;
-    while i < n {
-        out[i] = septet_by(table, codes[i]);
         i += 1;
     }
 }

@@ -1,9 +1,9 @@
-// Septets packed into octets and back: the same number, its digits to base 128 and to base 256.
+// Octets unpacked into septets: the same number, its digits to base 256 and to base 128.
 ghost use mathlib.Core.Path.{_≡_};
 ghost use Prim.Native.Nat.{_+_, _/_, _<_, _≤_};
 ghost use lib.ListN.{length, getD};
 ghost use Rattle.laws.specs.Radix.{value, digits};
-ghost use Rattle.packing.specs.Inner.{Word, others, Packable, packedInto, unpackedInto};
+ghost use Rattle.packing.specs.Inner.{Word, unpackedInto};
 
 // The number of some digits, lowest first.
 fn number(base: u64, list: &[u8]) -> u64
@@ -45,52 +45,6 @@ fn put(word: u64, base: u64, out: &mut [u8])
         rest = rest / base;
         i += 1;
     }
-}
-
-// Whether some entry is no septet. The loop has no early way out, so that the compiler can take many at once.
-pub fn has_other(list: &[u8]) -> bool
-    ensures { λ r. ⌜ r ≡ others (now (list .entry)) ⌝ }
-{
-    let mut found = false;
-    let mut i = 0;
-    while i < list.len() {
-        if list[i] >= 128 {
-            found = true;
-        }
-        i += 1;
-    }
-    found
-}
-
-// Packs 93 septets into 82 octets. Where there are others, or other room, nothing is written.
-pub fn pack(septets: &[u8], octets: &mut [u8])
-    ensures { λ r. ⌜ now (octets .exit) ≡ packedInto (now (septets .entry)) (now (octets .entry)) ⌝ }
-{
-    if septets.len() != 93 {
-        return;
-    }
-    if octets.len() != 82 {
-        return;
-    }
-    if has_other(septets) {
-        return;
-    }
-    pack_all(septets, octets);
-}
-
-// Eight septets are seven octets; the last five take five, with five zero bits.
-fn pack_all(septets: &[u8], octets: &mut [u8])
-    requires { ⌜ Packable (now septets) (now octets) ⌝ }
-    ensures { λ r. ⌜ now (octets .exit) ≡ digits 256 82 (value 128 (now (septets .entry))) ⌝ }
-{
-    let mut g = 0;
-    while g < 11 {
-        let word = number(128, &septets[8 * g..8 * g + 8]);
-        put(word, 256, &mut octets[7 * g..7 * g + 7]);
-        g += 1;
-    }
-    let word = number(128, &septets[88..]);
-    put(word, 256, &mut octets[77..]);
 }
 
 // Unpacks octets into one septet for each, and one more for each seven. Where there is other room, nothing is written.

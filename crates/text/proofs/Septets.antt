@@ -1,20 +1,11 @@
--- Laws of a text's septets: how many they are, that they are septets, and how the writer's array comes to hold them.
-use Rattle.laws.proofs.Base.{_≡_, _∙_, false, List, [], _∷_, map, ⊎-elim, ℕ, _-_, _≤_, arith, eqb, lit<, length, replicate, length-append, length-map, length-replicate, eqb-false}
+-- Laws of a text's septets: how many they are, and that they are septets.
+use Rattle.laws.proofs.Base.{_≡_, false, List, [], _∷_, map, ⊎-elim, ℕ, _-_, _≤_, arith, eqb, lit<, length, replicate, length-append, length-map, length-replicate, eqb-false}
 use Rattle.laws.specs.Radix.{Below}
-use Rattle.laws.specs.Table.{onto}
-use Rattle.laws.proofs.Parts.{drop-replicate}
 use Rattle.laws.proofs.Radix.{below-nil, below-cons, below-append, below-replicate}
-use Rattle.laws.proofs.Table.{onto-room}
 use Rattle.laws.proofs.Tests.{neither}
 use Rattle.alphabet.specs.Paper.{septetOf, noSeptet}
 use Rattle.alphabet.proofs.Laws.{Writes, found}
 use Rattle.text.specs.Paper.{cr, septets, foreign}
-
--- an array of CRs with a text's septets written over its beginning
-pub septets-made : (t : List ℕ) → length t ≤ 93 → onto septetOf t (replicate 93 cr) ≡ septets t
-unfolding septets
-septets-made t h =
-    onto-room septetOf t (replicate 93 cr) (rw (length-replicate 93 cr) h) ∙ rw (drop-replicate (length t) 93 cr)
 
 pub septets-count : (t : List ℕ) → length t ≤ 93 → length (septets t) ≡ 93
 unfolding septets

@@ -1,11 +1,14 @@
-// Text of the default alphabet written into a page.
+// Text of the default alphabet written into a page: looked through first, and then packed character by character.
+mod filling;
+
 ghost use mathlib.Core.Path.{_≡_};
-ghost use mathlib.Core.List.{_++_};
-ghost use Rattle.page.specs.Paper.{headerOctets};
+ghost use mathlib.Core.Bool.{false};
 ghost use Rattle.page.specs.Coded.{headingOf};
-ghost use Rattle.text.specs.Paper.{badParameter, endsInCr, packed, writtenPage};
+ghost use Rattle.alphabet.specs.Inner.{inverse};
+ghost use Rattle.text.specs.Paper.{badParameter, endsInCr, foreign, pageOctets, writtenPage};
 ghost use Rattle.text_writer.specs.Coded.{headingWith, writingOf};
-ghost use Rattle.text_writer.specs.Inner.{Paged};
+ghost use Rattle.text_writer.specs.Inner.{Asked, Paged, past};
+use alphabet::tables::SEPTETS;
 use page::Header;
 use page::MessageId;
 use page::Serial;
@@ -38,14 +41,71 @@ fn ends_in_cr(text: &[u16]) -> bool
     text[text.len() - 1] == 0x0D
 }
 
-// Makes a page of a header and its 93 septets.
-fn put_page(heading: Header, septets: &[u8], page: &mut [u8])
-    requires { ⌜ Paged (now septets) (now page) ⌝ }
-    ensures { λ _. ⌜ now (page .exit) ≡ headerOctets (headingOf heading) ++ packed (now (septets .entry)) ⌝ }
+// Whether some character has no septet. Where none is past the table, each has an entry.
+fn has_foreign(table: &[u8; 938], text: &[u16]) -> bool
+    requires { ⌜ now table ≡ inverse ⌝ }
+    ensures { λ r. ⌜ r ≡ foreign (now (text .entry)) ⌝ }
+{
+    if has_past(text) {
+        return true;
+    }
+    has_none(table, text)
+}
+
+// Whether some character is past the table. The loop has no early way out, so that the compiler can take many at once.
+fn has_past(text: &[u16]) -> bool
+    ensures { λ r. ⌜ r ≡ past (now (text .entry)) ⌝ }
+{
+    let mut found = false;
+    let mut i = 0;
+    while i < text.len() {
+        if text[i] >= 938 {
+            found = true;
+        }
+        i += 1;
+    }
+    found
+}
+
+// Whether some character's entry is the mark for none, which is no septet.
+fn has_none(table: &[u8; 938], text: &[u16]) -> bool
+    requires { ⌜ (now table ≡ inverse) × (past (now text) ≡ false) ⌝ }
+    ensures { λ r. ⌜ r ≡ foreign (now (text .entry)) ⌝ }
+{
+    let mut found = false;
+    let mut i = 0;
+    while i < text.len() {
+        if table[text[i] as usize] >= 128 {
+            found = true;
+        }
+        i += 1;
+    }
+    found
+}
+
+// Makes a page of a header and a text.
+fn put_page(table: &[u8; 938], heading: Header, text: &[u16], page: &mut [u8])
+    requires { ⌜ Paged (now table) (now text) (now page) ⌝ }
+    ensures { λ _. ⌜ now (page .exit) ≡ pageOctets (headingOf heading) (now (text .entry)) ⌝ }
 {
     let head = page::header_octets(heading);
     bytes::copy(&head, page);
-    packing::pack(septets, &mut page[6..]);
+    filling::pack(table, text, &mut page[6..]);
+}
+
+// What the characters decide goes by the table, which is lent: a constant is laid out wherever it is named.
+fn write_by(table: &[u8; 938], heading: Header, text: &[u16], page: &mut [u8]) -> Written
+    requires { ⌜ Asked (now table) (headingOf heading) (now text) (now page) ⌝ }
+    ensures { λ r. ⌜ writingOf r (now (page .exit)) ≡ writtenPage (headingOf heading) (now (text .entry)) (now (page .entry)) ⌝ }
+{
+    if has_foreign(table, text) {
+        return Written::Refused(Refusal::NotInAlphabet);
+    }
+    if ends_in_cr(text) {
+        return Written::Refused(Refusal::EndsInCr);
+    }
+    put_page(table, heading, text, page);
+    Written::Used(6 + (7 * text.len() + 7) / 8)
 }
 
 // Writes a page of text, or refuses it and leaves the page as it is.
@@ -71,21 +131,11 @@ pub fn write_text(
     if text.len() > CHARACTERS {
         return Written::Refused(Refusal::TextLength);
     }
-    let mut septets = [0x0D; CHARACTERS];
-    alphabet::septets(text, &mut septets);
-    // a character without a septet left the mark for none, which is no septet
-    if packing::has_other(&septets) {
-        return Written::Refused(Refusal::NotInAlphabet);
-    }
-    if ends_in_cr(text) {
-        return Written::Refused(Refusal::EndsInCr);
-    }
     let heading = Header {
         serial,
         id,
         scheme,
         parameter,
     };
-    put_page(heading, &septets, page);
-    Written::Used(6 + (7 * text.len() + 7) / 8)
+    write_by(&SEPTETS, heading, text, page)
 }

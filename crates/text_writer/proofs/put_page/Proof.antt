@@ -2,8 +2,7 @@
 use Rattle.laws.proofs.Base.{_≡_, ap, _∙_, List, [], _++_, append-nil, _-_, le-refl, ℕ, now, needs, length, take, drop, length-drop, drop-of-length-le, take-at, take-length}
 use Rattle.page.specs.Coded.{headingOf}
 use Rattle.page.proofs.HeaderBack.{header-length}
-use Rattle.text.specs.Paper.{packed}
-use Rattle.packing.proofs.Others.{packed-into}
+use Rattle.text.specs.Paper.{pageOctets}
 use Rattle.text_writer.proofs.put_page as own
 use own.Statement.{statement}
 use own.Tie as tie
@@ -16,20 +15,18 @@ made head p d y h e =
     rw (none, append-nil y, f, take-at head (drop (length head) p) 6 h)
 
 returns : tie.Need-returns
-unfolding packed
+unfolding pageOctets
 returns c =
     let d = c .before .before .before .before .before .before in
     let h = d .before .before .before .header-octets in
     let a = d .before .before .before .before .before .before .args in
-    let q = d .before .before .before .before .before .before .pre in
     let d′ = d .copy .last .1 .0 in
-    let fits = c .before .before .pack .ensures ∙ packed-into _ _ (q .below) (q .count) (search needs) in
-    made (h .result) (a .page .now) d′ (c .before .before .pack .last .1 .0) (ap length (h .ensures) ∙ header-length (headingOf (a .heading))) (d .copy .ensures .1)
-    ∙ rw (h .ensures, fits)
+    made (h .result) (a .page .now) d′ (c .before .before .pack .last .1 .1 .0) (ap length (h .ensures) ∙ header-length (headingOf (a .heading))) (d .copy .ensures .1)
+    ∙ rw (h .ensures, c .before .before .pack .ensures)
 
 pub put-page-spec : {M : Type 1} → statement M
 put-page-spec =
     tie.close
     (tie.spec
     (search needs) (search needs) (search needs) (search needs)
-    (search needs) (search needs) (search needs) (search needs) returns)
+    (search needs) (search needs) (λ c κs. search needs) (search needs) returns)

@@ -1,0 +1,148 @@
+-- Laws of septets that are packed one after another.
+use Rattle.laws.proofs.Base.{_≡_, refl, sym, ap, subst, _∙_, List, [], _∷_, _++_, ℕ, zero, suc, _+_, _*_, _/_, _%_, _^_, _-_, _<_, _≤_, add-zero, mul-comm, mul-assoc, mul-zero}
+use Rattle.laws.proofs.Base.{add-mul-div-left, div-lt-iff-lt-mul, div-add-mod, lt-of-lt-of-le, one-le-pow, pos-of-ne-zero, pow-suc, pow-le-pow-right}
+use Rattle.laws.proofs.Base.{add-one, arith, lit<, length, take, set, length-append, length-set, take-length, take-suc-set, eqb, eqb-true, eqb-false}
+use lib.Pow.{pow-add}
+use Rattle.laws.specs.Radix.{Below, value, digits}
+use Rattle.laws.proofs.Radix.{below-append, below-cons, below-nil, value-lt, value-append, digits-low, digits-more, div-more, power-bits}
+use Rattle.laws.proofs.Tests.{true-or-false}
+use Rattle.text_writer.specs as defs
+use defs.Inner.{Added, Addable, Filled, added, word}
+use defs.declared.filling.Filling.{Filling}
+
+-- n septets have the bits of 7n/8 octets and 7n%8 more
+septets-fill : (n : ℕ) → 128 ^ n ≡ 256 ^ (7 * n / 8) * 2 ^ (7 * n % 8)
+septets-fill n =
+    power-bits 7 n
+    ∙ ap (λ (k : ℕ). 2 ^ k) (sym (div-add-mod (7 * n) 8))
+    ∙ pow-add 2 (8 * (7 * n / 8)) (7 * n % 8)
+    ∙ ap (λ (k : ℕ). k * 2 ^ (7 * n % 8)) (sym (power-bits 8 (7 * n / 8)))
+
+-- what waits for a full octet is below what the next septet counts in it
+held-below : (xs : List ℕ) → Below 128 xs → value 128 xs / 256 ^ (7 * length xs / 8) < 2 ^ (7 * length xs % 8)
+held-below xs low =
+    let a : ℕ = 7 * length xs / 8 in
+    div-lt-iff-lt-mul (one-le-pow a 256 (lit< tt)) .1
+    (rw (mul-comm (2 ^ (7 * length xs % 8)) (256 ^ a), ← septets-fill (length xs)) (value-lt 128 xs low))
+
+weight-most : (n : ℕ) → 2 ^ (7 * n % 8) ≤ 128
+weight-most n = pow-le-pow-right {n = 2} (lit< tt) {j = 7} (omega arith)
+
+pub filled-addable : (xs : List ℕ) (f : Filling) (o : List ℕ) (s : ℕ) → Filled xs f o → length xs ≤ 93 → s < 128 → Addable f s o
+filled-addable xs f o s g h k =
+    record {
+      septet = k;
+      held = rw (g .held) (lt-of-lt-of-le (held-below xs (g .below)) (weight-most (length xs)));
+      weight = rw (g .weight) (weight-most (length xs));
+      place = omega (arith, g .place, g .room);
+    }
+
+-- one septet more: its number counts by the octets that are written and by its weight in the next one
+module _ (xs : List ℕ) (s : ℕ) where
+  abbrev a : ℕ
+  a = 7 * length xs / 8
+
+  abbrev e : ℕ
+  e = 7 * length xs % 8
+
+  more : value 128 (xs ++ (s ∷ [])) ≡ value 128 xs + 256 ^ a * (2 ^ e * s)
+  unfolding value
+  more =
+      value-append 128 xs (s ∷ [])
+      ∙ ap (λ (n : ℕ). value 128 xs + n * (s + 0)) (septets-fill (length xs))
+      ∙ rw (mul-assoc (256 ^ a) (2 ^ e) (s + 0), add-zero s)
+
+  -- the octets written before stay
+  before : digits 256 a (value 128 (xs ++ (s ∷ []))) ≡ digits 256 a (value 128 xs)
+  before = rw more (digits-low 256 (lit< tt) a (value 128 xs) (2 ^ e * s))
+
+  -- what the next octet has then
+  next : value 128 (xs ++ (s ∷ [])) / 256 ^ a ≡ value 128 xs / 256 ^ a + 2 ^ e * s
+  next = rw more (add-mul-div-left (value 128 xs) (2 ^ e * s) (one-le-pow a 256 (lit< tt)))
+
+-- septets ys that are a octets and e bits
+settled : (ys : List ℕ) (f : Filling) (o : List ℕ) (a e : ℕ) → 7 * length ys / 8 ≡ a → 7 * length ys % 8 ≡ e → Below 128 ys
+    → f .at ≡ a → f .weight ≡ 2 ^ e → f .held ≡ value 128 ys / 256 ^ a → take a o ≡ digits 256 a (value 128 ys) → length o ≡ 82
+    → Filled ys f o
+settled ys f o a e p q low place weight held written room =
+    record {
+      below = low;
+      place = place ∙ sym p;
+      weight = weight ∙ ap (λ (k : ℕ). 2 ^ k) (sym q);
+      held = held ∙ ap (λ (k : ℕ). value 128 ys / 256 ^ k) (sym p);
+      written = rw p written;
+      room = room;
+    }
+
+-- a weight of 1 is that of an empty octet
+weight-one : (e : ℕ) → 2 ^ e ≡ 1 → e ≡ 0
+weight-one zero h = refl
+weight-one (suc e) h = absurd (omega (arith, pow-suc 2 e, one-le-pow e 2 (lit< tt)))
+
+module _ (xs : List ℕ) (f : Filling) (o : List ℕ) (s : ℕ) (g : Filled xs f o) (h : length xs ≤ 93) (k : s < 128) where
+  abbrev ys : List ℕ
+  ys = xs ++ (s ∷ [])
+
+  longer : length ys ≡ length xs + 1
+  longer = length-append xs (s ∷ [])
+
+  low : Below 128 ys
+  low = below-append 128 xs (s ∷ []) (g .below) (below-cons 128 s [] k (below-nil 128 (lit< tt)))
+
+  -- an empty octet takes the septet in
+  added-first : f .weight ≡ 1 → Filled ys (record { held = s; weight = 128; at = f .at }) o
+  added-first w =
+      let z : 7 * length xs % 8 ≡ 0 = weight-one (7 * length xs % 8) (sym (g .weight) ∙ w) in
+      let none : value 128 xs / 256 ^ (7 * length xs / 8) < 1 = rw z at (held-below xs (g .below)) in
+      let q : value 128 ys / 256 ^ (7 * length xs / 8) ≡ value 128 xs / 256 ^ (7 * length xs / 8) + 1 * s = rw z at (next xs s) in
+      let same : 7 * length ys / 8 ≡ 7 * length xs / 8 = omega (arith, longer, z) in
+      settled ys (record { held = s; weight = 128; at = f .at }) o (7 * length xs / 8) 7
+      same (omega (arith, longer, z, same)) low (g .place) refl
+      (omega (arith, none, q))
+      (g .written ∙ sym (before xs s)) (g .room)
+
+  -- any other one is full then
+  word-next : word f s ≡ value 128 ys / 256 ^ (7 * length xs / 8)
+  word-next = rw (g .held, g .weight, mul-comm s (2 ^ (7 * length xs % 8))) (sym (next xs s))
+
+  added-later : (f .weight ≡ 1 → ⊥)
+      → Filled ys (record { held = word f s / 256; weight = f .weight / 2; at = f .at + 1 }) (set o (f .at) (word f s % 256))
+  added-later ne =
+      let n : ℕ = length xs in
+      let some : 0 < 7 * n % 8 = pos-of-ne-zero (λ z. ne (g .weight ∙ ap (λ (k : ℕ). 2 ^ k) z)) in
+      let back : suc (7 * n % 8 - 1) ≡ 7 * n % 8 = omega arith in
+      let half : 2 ^ (7 * n % 8) ≡ 2 ^ (7 * n % 8 - 1) * 2 = ap (λ (k : ℕ). 2 ^ k) (sym back) ∙ pow-suc 2 (7 * n % 8 - 1) in
+      let full : 7 * length ys / 8 ≡ 7 * n / 8 + 1 = omega (arith, longer) in
+      settled ys _ (set o (f .at) (word f s % 256)) (7 * n / 8 + 1) (7 * n % 8 - 1)
+      full (omega (arith, longer, full)) low (ap (λ (k : ℕ). k + 1) (g .place))
+      (omega (arith, g .weight, half))
+      (ap (λ (v : ℕ). v / 256) word-next ∙ div-more 256 (7 * n / 8) (value 128 ys))
+      (rw (g .place, word-next, add-one (7 * n / 8), take-suc-set o (7 * n / 8) _ (omega (arith, g .room)), g .written, ← before xs s)
+      (sym (rw (add-one (7 * n / 8)) at (digits-more 256 (7 * n / 8) (value 128 ys)))))
+      (length-set o (f .at) _ ∙ g .room)
+
+  filled-added : Filled ys (added f s o .filling) (added f s o .octets)
+  unfolding added
+  filled-added =
+      true-or-false (eqb (f .weight) 1)
+      (λ t. rw t (added-first (eqb-true (f .weight) 1 t)))
+      (λ t. rw t (added-later (eqb-false (f .weight) 1 t)))
+
+  -- a turn of a loop that adds septets
+  pub filled-turn : (r : Filling) (p : List ℕ) → record { filling = r; octets = p } ≡ added f s o → Filled ys r p
+  filled-turn r p q = subst (λ (x : Added). Filled ys (x .filling) (x .octets)) (sym q) filled-added
+
+-- before the first septet
+pub filled-none : (o : List ℕ) → length o ≡ 82 → Filled [] (record { held = 0; weight = 1; at = 0 }) o
+unfolding value digits
+filled-none o h =
+    record { below = below-nil 128 (lit< tt); place = refl; weight = refl; held = refl; written = refl; room = h }
+
+-- after 93 septets and the zero bits behind them every octet is written
+pub filled-whole : (xs : List ℕ) (f : Filling) (o : List ℕ) → length xs ≡ 93 → Filled (xs ++ (0 ∷ [])) f o → o ≡ digits 256 82 (value 128 xs)
+unfolding value
+filled-whole xs f o h g =
+    let n : length (xs ++ (0 ∷ [])) ≡ 94 = length-append xs (0 ∷ []) ∙ ap (λ (k : ℕ). k + 1) h in
+    let all : take 82 o ≡ o = ap (λ (k : ℕ). take k o) (sym (g .room)) ∙ take-length o in
+    let same : value 128 (xs ++ (0 ∷ [])) ≡ value 128 xs = value-append 128 xs (0 ∷ []) ∙ rw (mul-zero, add-zero) in
+    sym all ∙ rw n at (g .written) ∙ ap (digits 256 82) same

@@ -1,0 +1,42 @@
+-- `text_writer::has_past` meets its contract: the flag says whether one stands among the characters passed.
+use Rattle.laws.proofs.Base.{_≡_, refl, sym, _∙_, ⊎-elim, _+_, _≤_, _<_, _-_, arith, needs, now, getD, leb, le-leb, lt-leb, length, take, take-length}
+use Rattle.laws.specs.Search.{some}
+use Rattle.laws.proofs.Search.{some-passed, some-found}
+use Rattle.text_writer.specs.Inner.{past}
+use Rattle.text_writer.proofs.has_past as own
+use own.Statement.{statement}
+use own.Tie as tie
+
+abbrev Inv-loop : tie.InvT-loop
+Inv-loop text found₀ i₀ found i = (i ≤ length text) × (found ≡ past (take i text))
+
+abbrev μ-loop : tie.MeasureT-loop
+μ-loop text found₀ i₀ found i = length text - i
+
+loop-holds : tie.Need-loop-holds Inv-loop μ-loop
+unfolding some
+loop-holds c = (search needs, refl)
+
+loop-again : tie.Need-loop-again Inv-loop μ-loop
+loop-again c =
+    let l = c .before .before .before .loop in
+    let t = now (c .before .before .before .before .args .text) in
+    let h : l .i < length t = omega arith in (
+      search needs,
+      ⊎-elim
+          (λ w. w .1 ∙ sym (some-found (leb 938) 0 (l .i + 1) t (l .i) (omega arith) h (le-leb 938 (getD t (l .i) 0) (omega (arith, w .0 .taken)))))
+          (λ w. w .1 ∙ (l .inv .1 ∙ sym (some-passed (leb 938) 0 t (l .i) h (lt-leb 938 (getD t (l .i) 0) (omega (arith, w .0 .left))))))
+          (c .if1 .came),
+    )
+
+returns : tie.Need-returns Inv-loop μ-loop
+returns c =
+    let l = c .before .loop in
+    let t = now (c .before .before .args .text) in
+    let e : l .i ≡ length t = omega arith in
+    l .inv .1 ∙ rw (e, take-length t)
+
+pub has-past-spec : {M : Type 1} → statement M
+has-past-spec =
+    tie.close
+    (tie.spec Inv-loop μ-loop loop-holds (search needs) (search needs) (search needs) (search needs) loop-again returns)
