@@ -19,7 +19,7 @@
  * Stack. No call takes more octets than told here, on x86-64, as built by ./build. Return addresses are counted, what
  * memcpy and memset take is not; tests/stack/run has the figures from the archive, docs/BOARDS.md those of the boards.
  *
- *   cb_start             100    cb_intake            100    cb_write_text      1,200
+ *   cb_start             100    cb_intake            100    cb_write_text      1,100
  *   cb_read_text         600    cb_content           100    cb_read_header       100
  *   cb_write_blocks      100    cb_read_schedule     300    cb_slots             200
  *   cb_description       400    cb_read_plan       1,300    cb_write_schedule  4,400

@@ -79,14 +79,14 @@ class Source:
     def read_code(self, crate, text):
         # A definition with the name of a function is imported under another; documents call it by its own.
         aliases = re.findall(r"([\w']+) as ([\w']+)[,}]", ' '.join(re.findall(r'^ghost use .*', text, re.M)))
-        for found in re.finditer(r'^( *)(pub )?(?:extern "C" )?fn (\w+)(.*?)\{\n', text, re.M | re.S):
+        for found in re.finditer(r'^( *)(pub |pub\(crate\) )?(?:extern "C" )?fn (\w+)(.*?)\{\n', text, re.M | re.S):
             name, contract = found[3], re.search(r'ensures \{ λ (\w+)\. ⌜ (.*?) ⌝ \}', found[4], re.S)
             if found[1]:
                 name = re.findall(r'^impl (\w+)', text[:found.start()], re.M)[-1] + '::' + name
             said = plain(contract[2]) if contract else ''
             for own, alias in aliases + [('r', contract[1] if contract else 'r')]:
                 said = re.sub(r"(?<![\w'-])%s(?![\w'-])" % alias, own, said)
-            self.functions[crate + '::' + name] = bool(found[2]), said
+            self.functions[crate + '::' + name] = found[2] == 'pub ', said
             self.names |= {name, found[3], crate + '::' + name}
         for name in re.findall(r'\b(?:struct|enum|const) (\w+)', text):
             self.names |= {name, crate + '::' + name}

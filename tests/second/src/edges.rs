@@ -5,6 +5,7 @@ use crate::blocks::{BLOCK, FILL, MESSAGE};
 use crate::case::{Case, Entry};
 use crate::intake::STATE;
 use crate::invent::CARRIED;
+use crate::late_faults;
 use crate::plan::{self, Page, Plan};
 use crate::schedule::{Description, Told, SLOTS};
 use crate::sender::lay;
@@ -19,7 +20,7 @@ pub fn cases(entry: Entry) -> Vec<Case> {
         Entry::Start => vec![Case::new(entry, &[], &[&[0; STATE]], &[]), Case::new(entry, &[], &[&[]], &[])],
         Entry::Intake => intake(),
         Entry::WriteBlocks => blocks(),
-        Entry::WriteText => [writing(), zero_parameter::texts()].concat(),
+        Entry::WriteText => [writing(), zero_parameter::texts(), late_faults::texts()].concat(),
         Entry::ReadText => [reading(), zero_parameter::readings()].concat(),
         Entry::Content => contents(),
         Entry::ReadSchedule => schedules(),

@@ -11,6 +11,7 @@ pub mod decision;
 pub mod edges;
 pub mod intake;
 pub mod invent;
+pub mod late_faults;
 pub mod plan;
 pub mod random;
 pub mod refusal;

@@ -40,7 +40,8 @@ pub fn files() -> Vec<(&'static str, Vec<String>)> {
     vec![
         ("blocks.txt", lines(Entry::WriteBlocks, 40)),
         ("intake.txt", [lines(Entry::Start, 6), lines(Entry::Intake, 60), sequences(80)].concat()),
-        ("text.txt", [lines(Entry::WriteText, 100), lines(Entry::ReadText, 100)].concat()),
+        ("text.txt", lines(Entry::WriteText, 100)),
+        ("text_read.txt", lines(Entry::ReadText, 100)),
         ("content.txt", lines(Entry::Content, 30)),
         ("schedule.txt", [lines(Entry::ReadSchedule, 200), lines(Entry::Description, 60)].concat()),
         ("plan.txt", lines(Entry::ReadPlan, 120)),
