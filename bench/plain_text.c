@@ -1,7 +1,9 @@
 /*
  * Text as it is written and read in C without proofs: what cb_write_text and cb_read_text are measured beside.
  *
- * Septets are packed and unpacked one by one, with PLAIN_WORDS eight in a word.
+ * The writer looks through the text first. Then it packs each character as it comes, and writes an octet when it is full; there
+ * is no array of septets. The reader unpacks the septets into an array, one by one, with PLAIN_WORDS eight in a word, and then
+ * takes their code points. Only the reader differs with PLAIN_WORDS.
  */
 #define _DEFAULT_SOURCE
 
@@ -44,15 +46,7 @@ void plain_text_init(void)
 
 #ifdef PLAIN_WORDS
 
-/* Packs eight septets, each in an octet of its own, into the low 56 bits: by twos, by fours, all. */
-static uint64_t packed(uint64_t word)
-{
-    word = (word & 0x007F007F007F007F) | (word & 0x7F007F007F007F00) >> 1;
-    word = (word & 0x00003FFF00003FFF) | (word & 0x3FFF00003FFF0000) >> 2;
-    return (word & 0x000000000FFFFFFF) | (word & 0x0FFFFFFF00000000) >> 4;
-}
-
-/* The way back. */
+/* Spreads eight septets, packed in the low 56 bits, each into an octet of its own: by fours, by twos, all. */
 static uint64_t spread(uint64_t word)
 {
     word = (word & 0x000000000FFFFFFF) | (word & 0x00FFFFFFF0000000) << 4;
@@ -61,20 +55,6 @@ static uint64_t spread(uint64_t word)
 }
 
 /* The last word has three septets more than the text, and its eighth octet is past the octets of all. */
-static void pack(uint8_t *septets, uint8_t *octets)
-{
-    uint8_t all[7 * WORDS + 1];
-
-    memset(septets + TEXT, 0, 8 * WORDS - TEXT);
-    for (size_t i = 0; i < WORDS; i++) {
-        uint64_t word;
-        memcpy(&word, septets + 8 * i, sizeof word);
-        word = htole64(packed(le64toh(word)));
-        memcpy(all + 7 * i, &word, sizeof word);
-    }
-    memcpy(octets, all, CONTENT);
-}
-
 static void unpack(const uint8_t *octets, uint8_t *septets, size_t count)
 {
     uint8_t all[7 * WORDS + 1] = {0};
@@ -89,23 +69,6 @@ static void unpack(const uint8_t *octets, uint8_t *septets, size_t count)
 }
 
 #else
-
-static void pack(const uint8_t *septets, uint8_t *octets)
-{
-    unsigned bits = 0;
-    unsigned held = 0;
-
-    for (size_t i = 0; i < TEXT; i++) {
-        bits |= (unsigned)septets[i] << held;
-        held += 7;
-        if (held >= 8) {
-            *octets++ = (uint8_t)bits;
-            bits >>= 8;
-            held -= 8;
-        }
-    }
-    *octets = (uint8_t)bits;
-}
 
 static void unpack(const uint8_t *octets, uint8_t *septets, size_t count)
 {
@@ -125,11 +88,28 @@ static void unpack(const uint8_t *octets, uint8_t *septets, size_t count)
 
 #endif
 
+/* Octets being written: where the next one goes, and the bits for it that are held, fewer than eight. */
+struct run {
+    uint8_t *octets;
+    unsigned bits;
+    unsigned held;
+};
+
+/* An octet is written as soon as it is full, so that what is held never needs more than 14 bits. */
+static inline void push(struct run *run, unsigned septet)
+{
+    run->bits |= septet << run->held;
+    run->held += 7;
+    if (run->held >= 8) {
+        *run->octets++ = (uint8_t)run->bits;
+        run->bits >>= 8;
+        run->held -= 8;
+    }
+}
+
 uint32_t plain_write_text(uint16_t serial, uint16_t identifier, uint8_t scheme, uint8_t parameter,
                           const uint16_t *text, size_t text_len, uint8_t *page, size_t page_len)
 {
-    uint8_t septets[8 * WORDS];
-
     if (page_len != PAGE)
         return 15;
     if (scheme > 0x0F)
@@ -138,21 +118,24 @@ uint32_t plain_write_text(uint16_t serial, uint16_t identifier, uint8_t scheme, 
         return 14;
     if (text_len > TEXT)
         return 10;
-    for (size_t i = 0; i < text_len; i++) {
+    /* All of the text before the page, which a refusal leaves as it was. */
+    for (size_t i = 0; i < text_len; i++)
         if (text[i] >= CODES || septets_of[text[i]] == NONE)
             return 11;
-        septets[i] = septets_of[text[i]];
-    }
     if (text_len > 0 && text[text_len - 1] == CR)
         return 12;
-    memset(septets + text_len, CR, TEXT - text_len);
     page[0] = (uint8_t)(serial >> 8);
     page[1] = (uint8_t)serial;
     page[2] = (uint8_t)(identifier >> 8);
     page[3] = (uint8_t)identifier;
     page[4] = scheme;
     page[5] = parameter;
-    pack(septets, page + HEADER);
+    struct run run = {page + HEADER, 0, 0};
+    for (const uint16_t *end = text + text_len; text != end; text++)
+        push(&run, septets_of[*text]);
+    for (size_t i = text_len; i < TEXT; i++)
+        push(&run, CR);
+    *run.octets = (uint8_t)run.bits;
     return 256 * (HEADER + (uint32_t)(7 * text_len + 7) / 8);
 }
 
