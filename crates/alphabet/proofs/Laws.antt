@@ -2,9 +2,10 @@
 use Rattle.laws.proofs.Base.{_≡_, refl, sym, _∙_, Bool, true, false, not, _&&_, _||_, List, [], _∷_, _⊎_, inl, inr, ⊎-elim, ℕ, suc, _+_, _<_, _≤_, mod-eq-of-lt}
 use Rattle.laws.proofs.Base.{zero-add, add-zero, add-suc, suc-add, zero-lt-suc, arith, eqb, ltb, length, getD, eqb-true, eqb-false, ltb-true, ne-eqb, not-true}
 use Rattle.laws.specs.Table.{every}
-use Rattle.laws.proofs.Table.{at}
+use Rattle.laws.proofs.Table.{at, listed-at}
 use Rattle.laws.proofs.Tests.{both}
 use Rattle.alphabet.specs.Paper.{alphabet, codePoint, septetOf, sought, noSeptet}
+use Rattle.alphabet.specs.Inner.{inverse}
 
 -- the test of a septet s with its code point x: s is found again, unless it is 1B
 undone : ℕ → ℕ → Bool
@@ -75,6 +76,10 @@ found c = go (sought-ends c 0 alphabet)
         let e : septetOf c ≡ k = q ∙ zero-add k in
         let h : k < 128 = rw length-alphabet at l in
         inr (record { septet = rw e h; reads = rw e (codePoint-at k h ∙ g); spares = ne })
+
+-- an entry of the table is what its place is found as
+pub entry : (table : List ℕ) (c : ℕ) → table ≡ inverse → c < 938 → getD table c 0 ≡ septetOf c
+entry table c e h = rw e (listed-at septetOf 938 c h)
 
 -- past the table there is none
 pub past-table : (c : ℕ) → 938 ≤ c → septetOf c ≡ noSeptet

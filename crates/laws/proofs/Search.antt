@@ -1,5 +1,5 @@
 -- Laws of lists that are searched: turns and ends of the loops that do it, and what is found.
-use Rattle.laws.proofs.Base.{_≡_, refl, sym, _∙_, Bool, true, false, not, _||_, or-true, or-false, or-assoc, List, [], _∷_, _++_, ⊎-elim, ℕ, zero, suc, _+_, _≤_, _<_}
+use Rattle.laws.proofs.Base.{_≡_, refl, sym, _∙_, Bool, true, false, not, _||_, or-true, or-false, or-assoc, List, [], _∷_, _++_, _⊎_, ⊎-elim, ℕ, zero, suc, _+_, _≤_, _<_}
 use Rattle.laws.proofs.Base.{le-of-suc-le-suc, not-suc-le-zero, add-one, arith, length, getD, take, drop, drop-of-length-le, eqb, eqb·suc-zero, take-suc, drop-cons}
 use Rattle.laws.specs.Search.{some, firstFrom}
 use Rattle.laws.proofs.Tests.{true-or-false, either, neither}
@@ -10,11 +10,12 @@ module _ {A : Type 0} (f : A → Bool) where
   some-append [] ys = refl
   some-append (x ∷ xs) ys = rw (some-append xs ys) (sym (or-assoc (f x) (some f xs) (some f ys)))
 
-  -- a turn of a loop at an entry that doesn't pass: of one that goes on to the end, and of one that ends at the first that passes
-  pub some-passed : (d : A) (l : List A) (i : ℕ) → i < length l → f (getD l i d) ≡ false → some f (take (i + 1) l) ≡ some f (take i l)
+  -- one entry more, which doesn't pass
+  some-passed : (d : A) (l : List A) (i : ℕ) → i < length l → f (getD l i d) ≡ false → some f (take (i + 1) l) ≡ some f (take i l)
   unfolding some
   some-passed d l i h e = rw (add-one i, take-suc l i d h, some-append (take i l) (getD l i d ∷ []), e) (or-false (some f (take i l)))
 
+  -- a turn of a loop that ends at the first entry that passes
   pub some-turn : (d : A) (l : List A) (i : ℕ) → i < length l → some f (take i l) ≡ false → f (getD l i d) ≡ false → some f (take (i + 1) l) ≡ false
   some-turn d l i h none e = some-passed d l i h e ∙ none
 
@@ -32,6 +33,14 @@ module _ {A : Type 0} (f : A → Bool) where
   some-found d zero (x ∷ l) i h k e = absurd (not-suc-le-zero h)
   some-found d (suc n) (x ∷ l) zero h k e = rw e
   some-found d (suc n) (x ∷ l) (suc i) h k e = rw (some-found d n l i (le-of-suc-le-suc h) (le-of-suc-le-suc k) e) (or-true (f x))
+
+  -- a turn of a loop that goes on to the end: an entry that passes sets the flag, and any other one leaves it
+  pub some-marked : (d : A) (l : List A) (i : ℕ) (a b : Bool) → i < length l → a ≡ some f (take i l)
+      → ((f (getD l i d) ≡ true) × (b ≡ true)) ⊎ ((f (getD l i d) ≡ false) × (b ≡ a)) → b ≡ some f (take (i + 1) l)
+  some-marked d l i a b h e =
+      ⊎-elim
+      (λ w. w .1 ∙ sym (some-found d (i + 1) l i (omega arith) h (w .0)))
+      (λ w. w .1 ∙ e ∙ sym (some-passed d l i h (w .0)))
 
   -- a turn and both ends of the loop that looks for the first entry that passes
   pub first-next : (d : A) (s : ℕ) (l : List A) (i : ℕ) → i < length l → f (getD l i d) ≡ false → firstFrom f s (drop i l) ≡ firstFrom f (s + 1) (drop (i + 1) l)

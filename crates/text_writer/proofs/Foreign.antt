@@ -1,11 +1,9 @@
--- Characters that have no septet: which entries of the table tell them, and what is known where there are none.
+-- Characters that have no septet: what tells them, and what is known where there are none.
 use Rattle.laws.proofs.Base.{_≡_, refl, sym, _∙_, Bool, true, false, ⊎-elim, List, [], _∷_, ℕ, _<_, arith, eqb, leb, length, getD, lt-leb, leb-true, leb-false, ne-eqb}
 use Rattle.laws.specs.Search.{some}
 use Rattle.laws.proofs.Search.{some-implies, some-false}
-use Rattle.laws.proofs.Table.{listed-at}
 use Rattle.laws.proofs.Tests.{le-or-lt}
 use Rattle.alphabet.specs.Paper.{septetOf, noSeptet}
-use Rattle.alphabet.specs.Inner.{inverse}
 use Rattle.alphabet.proofs.Laws.{found, past-table}
 use Rattle.text.specs.Paper.{foreign}
 use Rattle.text_writer.specs.Inner.{past}
@@ -29,10 +27,6 @@ pub past-foreign : (t : List ℕ) → past t ≡ true → foreign t ≡ true
 past-foreign t e =
     foreign-some t
     ∙ some-implies (leb 938) none (λ c h. rw (past-table c (leb-true 938 c h))) t e
-
--- an entry of the table is what its place is found as
-pub entry : (table : List ℕ) (c : ℕ) → table ≡ inverse → c < 938 → getD table c 0 ≡ septetOf c
-entry table c e h = rw e (listed-at septetOf 938 c h)
 
 -- where no character is past the table, each has an entry
 pub none-past : (t : List ℕ) (i : ℕ) → i < length t → past t ≡ false → getD t i 0 < 938

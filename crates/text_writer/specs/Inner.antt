@@ -31,12 +31,12 @@ pub record Writable (table text : List ℕ) : Type 0 where
   pub short : length text ≤ 93
   pub known : foreign text ≡ false
 
--- both, and room for a page
+-- the table, a text that can be written, and room for a page
 pub record Paged (table text page : List ℕ) : Type 0 where
   pub writable : Writable table text
   pub room : length page ≡ 88
 
--- both, and room for a page's content
+-- the table, a text that can be written, and room for a page's content
 pub record Packable (table text octets : List ℕ) : Type 0 where
   pub writable : Writable table text
   pub room : length octets ≡ 82
@@ -46,7 +46,7 @@ pub record Added : Type 0 where
   pub filling : Filling
   pub octets : List ℕ
 
--- the octet f with the bits of a septet s
+-- what f holds, with a septet s above it
 abbrev pub word : Filling → ℕ → ℕ
 word f s = f .held + s * f .weight
 
@@ -67,7 +67,7 @@ pub record Addable (f : Filling) (s : ℕ) (o : List ℕ) : Type 0 where
   pub weight : f .weight ≤ 128
   pub place : f .at < length o
 
--- 01 Page and text: septets xs packed low bits first into the first of 82 octets o, and what is left of their number waits in f
+-- 01 Page and text: septets xs packed low bits first into the first octets of o, which are 82; what is left of their number waits in f
 pub record Filled (xs : List ℕ) (f : Filling) (o : List ℕ) : Type 0 where
   pub below : Below 128 xs
   pub place : f .at ≡ 7 * length xs / 8

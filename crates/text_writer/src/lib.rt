@@ -93,7 +93,7 @@ fn put_page(table: &[u8; 938], heading: Header, text: &[u16], page: &mut [u8])
     filling::pack(table, text, &mut page[6..]);
 }
 
-// What the characters decide goes by the table, which is lent: a constant is laid out wherever it is named.
+// Writes a page that nothing but its characters can refuse, by the table of septets.
 fn write_by(table: &[u8; 938], heading: Header, text: &[u16], page: &mut [u8]) -> Written
     requires { ⌜ Asked (now table) (headingOf heading) (now text) (now page) ⌝ }
     ensures { λ r. ⌜ writingOf r (now (page .exit)) ≡ writtenPage (headingOf heading) (now (text .entry)) (now (page .entry)) ⌝ }

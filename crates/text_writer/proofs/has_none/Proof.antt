@@ -1,10 +1,11 @@
 -- `text_writer::has_none` meets its contract: the flag says whether one stands among the characters passed.
-use Rattle.laws.proofs.Base.{_≡_, refl, sym, _∙_, ⊎-elim, _+_, _≤_, _<_, _-_, lt-of-lt-of-le, arith, needs, now, getD, lit≤, le-leb, lt-leb, length, take, take-length}
+use Rattle.laws.proofs.Base.{_≡_, refl, sym, _∙_, inl, inr, ⊎-elim, _≤_, _<_, _-_, lt-of-lt-of-le, arith, needs, now, getD, lit≤, le-leb, lt-leb, length, take, take-length}
 use Rattle.laws.specs.Search.{some}
-use Rattle.laws.proofs.Search.{some-passed, some-found}
+use Rattle.laws.proofs.Search.{some-marked}
 use Rattle.alphabet.specs.Paper.{septetOf}
+use Rattle.alphabet.proofs.Laws.{entry}
 use Rattle.text_writer.proofs as own
-use own.Foreign.{none, foreign-some, entry, none-past}
+use own.Foreign.{none, foreign-some, none-past}
 use own.has_none.Statement.{statement}
 use own.has_none.Tie as tie
 
@@ -30,10 +31,11 @@ loop-again c =
     let h : l .i < length t = c .before .before .before .loop-test .taken in
     let e = entry (now (s .args .table)) (getD t (l .i) 0) (s .pre .0) (none-past t (l .i) h (s .pre .1)) in (
       search needs,
-      ⊎-elim
-          (λ w. w .1 ∙ sym (some-found none 0 (l .i + 1) t (l .i) (omega arith) h (le-leb 128 (septetOf (getD t (l .i) 0)) (omega (arith, e, w .0 .taken)))))
-          (λ w. w .1 ∙ (l .inv .1 ∙ sym (some-passed none 0 t (l .i) h (lt-leb 128 (septetOf (getD t (l .i) 0)) (omega (arith, e, w .0 .left))))))
-          (c .if1 .came),
+      some-marked none 0 t (l .i) _ _ h (l .inv .1)
+          (⊎-elim
+          (λ w. inl (le-leb 128 (septetOf (getD t (l .i) 0)) (omega (arith, e, w .0 .taken)), w .1))
+          (λ w. inr (lt-leb 128 (septetOf (getD t (l .i) 0)) (omega (arith, e, w .0 .left)), w .1))
+          (c .if1 .came)),
     )
 
 returns : tie.Need-returns Inv-loop μ-loop

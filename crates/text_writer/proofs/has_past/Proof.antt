@@ -1,7 +1,7 @@
 -- `text_writer::has_past` meets its contract: the flag says whether one stands among the characters passed.
-use Rattle.laws.proofs.Base.{_≡_, refl, sym, _∙_, ⊎-elim, _+_, _≤_, _<_, _-_, arith, needs, now, getD, leb, le-leb, lt-leb, length, take, take-length}
+use Rattle.laws.proofs.Base.{_≡_, refl, _∙_, inl, inr, ⊎-elim, _≤_, _<_, _-_, arith, needs, now, getD, leb, le-leb, lt-leb, length, take, take-length}
 use Rattle.laws.specs.Search.{some}
-use Rattle.laws.proofs.Search.{some-passed, some-found}
+use Rattle.laws.proofs.Search.{some-marked}
 use Rattle.text_writer.specs.Inner.{past}
 use Rattle.text_writer.proofs.has_past as own
 use own.Statement.{statement}
@@ -23,10 +23,11 @@ loop-again c =
     let t = now (c .before .before .before .before .args .text) in
     let h : l .i < length t = omega arith in (
       search needs,
-      ⊎-elim
-          (λ w. w .1 ∙ sym (some-found (leb 938) 0 (l .i + 1) t (l .i) (omega arith) h (le-leb 938 (getD t (l .i) 0) (omega (arith, w .0 .taken)))))
-          (λ w. w .1 ∙ (l .inv .1 ∙ sym (some-passed (leb 938) 0 t (l .i) h (lt-leb 938 (getD t (l .i) 0) (omega (arith, w .0 .left))))))
-          (c .if1 .came),
+      some-marked (leb 938) 0 t (l .i) _ _ h (l .inv .1)
+          (⊎-elim
+          (λ w. inl (le-leb 938 (getD t (l .i) 0) (omega (arith, w .0 .taken)), w .1))
+          (λ w. inr (lt-leb 938 (getD t (l .i) 0) (omega (arith, w .0 .left)), w .1))
+          (c .if1 .came)),
     )
 
 returns : tie.Need-returns Inv-loop μ-loop

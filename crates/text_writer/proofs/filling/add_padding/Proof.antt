@@ -1,5 +1,6 @@
--- `text_writer::filling::add_padding` meets its contract: after i turns i CRs are packed behind the text.
-use Rattle.laws.proofs.Base.{_≡_, sym, ap, _∙_, List, [], _∷_, _++_, append-assoc, map, ℕ, _+_, _-_, _≤_, _<_, arith, lit<, needs, now, length, replicate, replicate-append-replicate, length-append, length-map, length-replicate, append-nil}
+-- `text_writer::filling::add_padding` meets its contract: at place i the text and the CRs behind it are i septets, all of them packed.
+use Rattle.laws.proofs.Base.{_≡_, sym, ap, _∙_, List, [], _∷_, _++_, append-assoc, append-nil, map, ℕ, _+_, _-_, _≤_, arith, lit<, needs, now}
+use Rattle.laws.proofs.Base.{length, replicate, replicate-append-replicate, length-append, length-map, length-replicate}
 use Rattle.alphabet.specs.Paper.{septetOf}
 use Rattle.text.specs.Paper.{cr, septets}
 use Rattle.text_writer.specs.Inner.{Filled}
@@ -18,8 +19,8 @@ Inv-loop text octets₀ filling₀ i₀ octets filling i = (length text ≤ i) �
 abbrev μ-loop : tie.MeasureT-loop
 μ-loop text octets₀ filling₀ i₀ octets filling i = 93 - i
 
-padded-count : (i : ℕ) (t : List ℕ) → length t ≤ i → length (padded i t) ≡ i
-padded-count i t h = simp (length-append, length-map, length-replicate) (omega arith)
+padded-short : (i : ℕ) (t : List ℕ) → length t ≤ i → i ≤ 93 → length (padded i t) ≤ 93
+padded-short i t h k = simp (length-append, length-map, length-replicate) (omega arith)
 
 padded-more : (i : ℕ) (t : List ℕ) → length t ≤ i → padded i t ++ (cr ∷ []) ≡ padded (i + 1) t
 padded-more i t h =
@@ -38,8 +39,7 @@ add-requires : tie.Need-add-requires Inv-loop μ-loop
 add-requires c κs =
     let l = c .before .before .loop in
     let t = now (c .before .before .before .before .before .args .text) in
-    filled-addable (padded (l .i) t) (l .filling) (l .octets) _ (l .inv .2)
-    (rw (padded-count (l .i) t (l .inv .0)) (l .inv .1)) (lit< tt)
+    filled-addable (padded (l .i) t) (l .filling) (l .octets) _ (l .inv .2) (padded-short (l .i) t (l .inv .0) (l .inv .1)) (lit< tt)
 
 loop-again : tie.Need-loop-again Inv-loop μ-loop
 loop-again c =
@@ -48,8 +48,7 @@ loop-again c =
       search needs,
       search needs,
       rw (← padded-more (l .i) t (l .inv .0))
-          (filled-turn (padded (l .i) t) (l .filling) (l .octets) _ (l .inv .2)
-          (rw (padded-count (l .i) t (l .inv .0)) (l .inv .1)) (lit< tt)
+          (filled-turn (padded (l .i) t) (l .filling) (l .octets) _ (l .inv .2) (padded-short (l .i) t (l .inv .0) (l .inv .1)) (lit< tt)
           _ _ (c .before .before .add .ensures)),
     )
 

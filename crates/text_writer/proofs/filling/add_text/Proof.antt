@@ -1,10 +1,12 @@
 -- `text_writer::filling::add_text` meets its contract: after i turns the septets of the first i characters are packed.
-use Rattle.laws.proofs.Base.{_≡_, sym, _∙_, List, [], _∷_, _++_, map, map-append, ℕ, _+_, _-_, _≤_, _<_, lt-of-lt-of-le, add-one, arith, lit≤, needs, now, length, getD, take, take-suc, take-length, length-map, length-take-le}
+use Rattle.laws.proofs.Base.{_≡_, sym, _∙_, List, [], _∷_, _++_, map, map-append, ℕ, _+_, _-_, _≤_, _<_, lt-of-lt-of-le, add-one, arith, lit≤, needs, now}
+use Rattle.laws.proofs.Base.{length, getD, take, take-suc, take-length, length-map, length-take-le}
 use Rattle.alphabet.specs.Paper.{septetOf}
+use Rattle.alphabet.proofs.Laws.{entry}
 use Rattle.text_writer.specs.Inner.{Filled}
 use Rattle.text_writer.proofs as own
 use own.Adding.{filled-none, filled-addable, filled-turn}
-use own.Foreign.{entry, known-entry, known-septet}
+use own.Foreign.{known-entry, known-septet}
 use own.filling.add_text.Statement.{statement}
 use own.filling.add_text.Tie as tie
 
@@ -18,8 +20,8 @@ Inv-loop table text octets₀ filling₀ i₀ octets filling i = (i ≤ length t
 abbrev μ-loop : tie.MeasureT-loop
 μ-loop table text octets₀ filling₀ i₀ octets filling i = length text - i
 
-first-count : (i : ℕ) (t : List ℕ) → i ≤ length t → length (first i t) ≡ i
-first-count i t h = simp length-map (length-take-le i t h)
+first-short : (i : ℕ) (t : List ℕ) → i ≤ length t → length t ≤ 93 → length (first i t) ≤ 93
+first-short i t h k = simp length-map (omega (arith, length-take-le i t h))
 
 first-more : (i : ℕ) (t : List ℕ) → i < length t → first i t ++ (septetOf (getD t i 0) ∷ []) ≡ first (i + 1) t
 first-more i t h = rw (add-one i, take-suc t i 0 h, map-append)
@@ -44,7 +46,7 @@ add-requires c κs =
     let t = now (s .args .text) in
     rw (septet k)
     (filled-addable (first (l .i) t) (l .filling) (l .octets) (septetOf (getD t (l .i) 0)) (l .inv .1)
-    (omega (arith, first-count (l .i) t (l .inv .0), l .inv .0, s .pre .writable .short))
+    (first-short (l .i) t (l .inv .0) (s .pre .writable .short))
     (known-septet t (l .i) (k .before .loop-test .taken) (s .pre .writable .known)))
 
 loop-again : tie.Need-loop-again Inv-loop μ-loop
@@ -57,7 +59,7 @@ loop-again c =
       search needs,
       rw (← first-more (l .i) t h)
           (filled-turn (first (l .i) t) (l .filling) (l .octets) (septetOf (getD t (l .i) 0)) (l .inv .1)
-          (omega (arith, first-count (l .i) t (l .inv .0), l .inv .0, s .pre .writable .short))
+          (first-short (l .i) t (l .inv .0) (s .pre .writable .short))
           (known-septet t (l .i) h (s .pre .writable .known))
           _ _ (rw (septet k) at (c .before .before .add .ensures))),
     )
