@@ -1,9 +1,9 @@
 /*
  * Text as it is written and read in C without proofs: what cb_write_text and cb_read_text are measured beside.
  *
- * The writer looks through the text first. Then it packs each character as it comes, and writes an octet when it is full; there
- * is no array of septets. The reader unpacks the septets into an array, one by one, with PLAIN_WORDS eight in a word, and then
- * takes their code points. Only the reader differs with PLAIN_WORDS.
+ * The writer looks through the text first. Then it packs each character as it comes, and writes an octet when it is full; with
+ * PLAIN_EIGHTS it packs eight characters at a time. There is no array of septets. The reader unpacks the septets into an array,
+ * one by one, with PLAIN_WORDS eight in a word, and then takes their code points.
  */
 #define _DEFAULT_SOURCE
 
@@ -46,7 +46,7 @@ void plain_text_init(void)
 
 #ifdef PLAIN_WORDS
 
-/* Spreads eight septets, packed in the low 56 bits, each into an octet of its own: by fours, by twos, all. */
+/* Spreads eight septets, packed in the low 56 bits, each into an octet of its own: by fours, by twos, one by one. */
 static uint64_t spread(uint64_t word)
 {
     word = (word & 0x000000000FFFFFFF) | (word & 0x00FFFFFFF0000000) << 4;
@@ -54,7 +54,7 @@ static uint64_t spread(uint64_t word)
     return (word & 0x007F007F007F007F) | (word & 0x3F803F803F803F80) << 1;
 }
 
-/* The last word has three septets more than the text, and its eighth octet is past the octets of all. */
+/* The last word may have septets that are not asked for. Its eighth octet is behind the content, where `all` has one more. */
 static void unpack(const uint8_t *octets, uint8_t *septets, size_t count)
 {
     uint8_t all[7 * WORDS + 1] = {0};
@@ -88,6 +88,34 @@ static void unpack(const uint8_t *octets, uint8_t *septets, size_t count)
 
 #endif
 
+#ifdef PLAIN_EIGHTS
+
+/* The septet at a place of a text or of its padding. */
+static uint64_t septet_at(const uint16_t *text, size_t text_len, size_t at)
+{
+    return at < text_len ? septets_of[text[at]] : CR;
+}
+
+/* Eight septets are seven octets of a word. The last five are 35 bits, and so five octets. */
+static void pack(const uint16_t *text, size_t text_len, uint8_t *octets)
+{
+    for (size_t at = 0; at < TEXT; at += 8) {
+        size_t count = TEXT - at < 8 ? TEXT - at : 8;
+        uint64_t word = 0;
+
+        if (at + 8 <= text_len)
+            for (size_t i = 0; i < 8; i++)
+                word |= (uint64_t)septets_of[text[at + i]] << 7 * i;
+        else
+            for (size_t i = 0; i < count; i++)
+                word |= septet_at(text, text_len, at + i) << 7 * i;
+        word = htole64(word);
+        memcpy(octets + at / 8 * 7, &word, count == 8 ? 7 : 5);
+    }
+}
+
+#else
+
 /* Octets being written: where the next one goes, and the bits for it that are held, fewer than eight. */
 struct run {
     uint8_t *octets;
@@ -106,6 +134,19 @@ static inline void push(struct run *run, unsigned septet)
         run->held -= 8;
     }
 }
+
+static void pack(const uint16_t *text, size_t text_len, uint8_t *octets)
+{
+    struct run run = {octets, 0, 0};
+
+    for (const uint16_t *end = text + text_len; text != end; text++)
+        push(&run, septets_of[*text]);
+    for (size_t i = text_len; i < TEXT; i++)
+        push(&run, CR);
+    *run.octets = (uint8_t)run.bits;
+}
+
+#endif
 
 uint32_t plain_write_text(uint16_t serial, uint16_t identifier, uint8_t scheme, uint8_t parameter,
                           const uint16_t *text, size_t text_len, uint8_t *page, size_t page_len)
@@ -130,12 +171,7 @@ uint32_t plain_write_text(uint16_t serial, uint16_t identifier, uint8_t scheme, 
     page[3] = (uint8_t)identifier;
     page[4] = scheme;
     page[5] = parameter;
-    struct run run = {page + HEADER, 0, 0};
-    for (const uint16_t *end = text + text_len; text != end; text++)
-        push(&run, septets_of[*text]);
-    for (size_t i = text_len; i < TEXT; i++)
-        push(&run, CR);
-    *run.octets = (uint8_t)run.bits;
+    pack(text, text_len, page + HEADER);
     return 256 * (HEADER + (uint32_t)(7 * text_len + 7) / 8);
 }
 
