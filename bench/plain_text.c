@@ -90,28 +90,39 @@ static void unpack(const uint8_t *octets, uint8_t *septets, size_t count)
 
 #ifdef PLAIN_EIGHTS
 
-/* The septet at a place of a text or of its padding. */
-static uint64_t septet_at(const uint16_t *text, size_t text_len, size_t at)
+/* The septets of eight characters, in seven octets of a word; the eighth is 0. */
+static uint64_t eight(const uint16_t *text)
 {
-    return at < text_len ? septets_of[text[at]] : CR;
+    uint64_t word = 0;
+
+    for (unsigned i = 8; i-- > 0;)
+        word = word << 7 | septets_of[text[i]];
+    return htole64(word);
 }
 
-/* Eight septets are seven octets of a word. The last five are 35 bits, and so five octets. */
+/* What is left of a text is packed with its padding. The next word is written over a word's eighth octet; the last has five. */
 static void pack(const uint16_t *text, size_t text_len, uint8_t *octets)
 {
-    for (size_t at = 0; at < TEXT; at += 8) {
-        size_t count = TEXT - at < 8 ? TEXT - at : 8;
-        uint64_t word = 0;
+    uint16_t rest[8];
+    uint64_t word;
+    size_t at = 0;
 
-        if (at + 8 <= text_len)
-            for (size_t i = 0; i < 8; i++)
-                word |= (uint64_t)septets_of[text[at + i]] << 7 * i;
-        else
-            for (size_t i = 0; i < count; i++)
-                word |= septet_at(text, text_len, at + i) << 7 * i;
-        word = htole64(word);
-        memcpy(octets + at / 8 * 7, &word, count == 8 ? 7 : 5);
+    for (; at + 8 <= text_len; at += 8, octets += 7) {
+        word = eight(text + at);
+        memcpy(octets, &word, sizeof word);
     }
+    for (size_t i = 0; i < 8; i++)
+        rest[i] = at + i < text_len ? text[at + i] : CR;
+    for (; at + 8 <= TEXT; at += 8, octets += 7) {
+        word = eight(rest);
+        memcpy(octets, &word, sizeof word);
+        for (size_t i = 0; i < 8; i++)
+            rest[i] = CR;
+    }
+    for (size_t i = TEXT - at; i < 8; i++)
+        rest[i] = 0x40; /* whose septet is 0 */
+    word = eight(rest);
+    memcpy(octets, &word, 5);
 }
 
 #else
