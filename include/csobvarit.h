@@ -111,13 +111,15 @@ uint32_t cb_intake(uint8_t *state, cb_length state_len, const uint8_t *piece, cb
  * Two pages are the same page if serial number, message identifier and page parameter are equal, where a parameter with
  * 0 in either half counts as 11 hex, page 1 of 1. Wherever a parameter is handed on, it is the octet that was sent.
  *
- * The default alphabet is GSM 03.38's, and a code point is 16 bits.
+ * The default alphabet and its extension table are GSM 03.38's, and a code point is 16 bits. A character of the alphabet
+ * takes one septet. One of the extension table takes two, 1B hex and its own; they are form feed, the euro sign and
+ * ^ { } \ [ ~ ] | .
  */
 #define CB_HEADER  6 /* octets of a page's header; the content starts after it */
-#define CB_TEXT   93 /* characters of a page, and code points that cb_read_text writes */
+#define CB_TEXT   93 /* septets of a page, and code points that cb_read_text writes */
 
-#define CB_TEXT_LENGTH      10 /* refused: over 93 characters */
-#define CB_NOT_IN_ALPHABET  11 /* refused: a character that the default alphabet doesn't have */
+#define CB_TEXT_LENGTH      10 /* refused: over 93 septets */
+#define CB_NOT_IN_ALPHABET  11 /* refused: a character that neither the default alphabet nor its extension table has */
 #define CB_ENDS_IN_CR       12 /* refused: the text ends in CR */
 #define CB_SCHEME           13 /* refused: coding scheme above 0F */
 #define CB_PAGE_PARAMETER   14 /* refused: a zero half, or a page over the total; GSM 03.41, 9.3.2 */
@@ -133,18 +135,20 @@ uint32_t cb_intake(uint8_t *state, cb_length state_len, const uint8_t *piece, cb
 #define CB_COUNT(returned)  ((uint32_t)(returned) >> 8) /* 0 with a refusal other than 36, 37 and 40, and with CB_KEPT */
 
 /*
- * Writes a page of 88 octets: header, and the text packed, with CR after it up to 93 characters.
+ * Writes a page of 88 octets: header, and the text's septets packed, with CR after them up to 93.
  *
- *   0                           page: the page; the count is its used octets, 6 to 88
- *   15, 13, 14, 10, 11, 12      page: untouched; the first of these that applies, in this order. 15 is a page_len that
- *                               isn't 88
+ *   0                           page: the page; the count is its used octets, 6 to 88, which follow from the septets
+ *   15, 13, 14, 11, 10, 12      page: untouched; the first of these that applies, in this order. 15 is a page_len that
+ *                               isn't 88; 11 looks through the whole text, however long it is
  */
 uint32_t cb_write_text(uint16_t serial, uint16_t identifier, uint8_t scheme, uint8_t parameter,
                        const uint16_t *text, cb_length text_len, uint8_t *page, cb_length page_len);
 
 /*
- * Reads the text of what was received of a page. The CRs at its end are dropped. Septet 1B hex, the escape of GSM 03.38,
- * is read as a space.
+ * Reads the text of what was received of a page. Septet 1B hex, the escape of GSM 03.38, and the septet after it are one
+ * character: that of the extension table or, where the table doesn't list the septet, the septet's own in the default
+ * alphabet. 1B twice is one space, and the second of them doesn't escape; 1B as the last whole septet received is a space
+ * too. Then the CRs at the end are dropped, save one that was escaped and those before it.
  *
  *   0                           text: the count's characters, then 0 up to 93
  *   15, 16, 18, 13              text: untouched; the first of these that applies, in this order. 15 is a text_len that

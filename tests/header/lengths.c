@@ -1,7 +1,8 @@
 /*
  * Holds the calls to all 64 bits of the lengths that they are given: with 2^32 more, each has to answer as to a wrong length and
  * to leave what it was lent as it was. On 32 bits a length takes two words, and no memory there is so long that a stored result
- * could tell whether the upper one is looked at.
+ * could tell whether the upper one is looked at. The length of a text to write is not among them: each of its characters is
+ * looked at before the text is refused, so it has to be true.
  */
 #include "host.h"
 
@@ -58,7 +59,6 @@ static void hold_pages(void)
     HOLD(cb_intake(state, CB_STATE + HIGH, piece, CB_PIECE, output, CB_OUTPUT), CB_STATE_IMPROPER);
     HOLD(cb_intake(state, CB_STATE, piece, CB_PIECE + HIGH, output, CB_OUTPUT), CB_PIECE_LENGTH);
     HOLD(cb_intake(state, CB_STATE, piece, CB_PIECE, output, CB_OUTPUT + HIGH), CB_OUTPUT_LENGTH);
-    HOLD(cb_write_text(0, 0, 0, 0x11, letter, 1 + HIGH, page, CB_OUTPUT), CB_TEXT_LENGTH);
     HOLD(cb_write_text(0, 0, 0, 0x11, letter, 1, page, CB_OUTPUT + HIGH), CB_OUTPUT_LENGTH);
     HOLD(cb_read_text(given, CB_OUTPUT + HIGH, 88, text, CB_TEXT), CB_MESSAGE_LENGTH);
     HOLD(cb_read_text(given, CB_OUTPUT, 88, text, CB_TEXT + HIGH), CB_OUTPUT_LENGTH);

@@ -1,9 +1,9 @@
 #!/usr/bin/env python3
-"""Makes the plan files and logs that tests/programs runs on, from document 01 and by no code of the crates: make.py FOLDER."""
+"""Makes the plan files and logs that tests/programs runs on, from documents 01 and 02 and by no code of the crates: make.py FOLDER."""
 import os
 import sys
 
-from printed import ALPHABET, listed, shown, taken_in
+from printed import ALPHABET, ESCAPE, EXTENSION, listed, shown, taken_in
 
 OPTIONAL, ADVISED = (0, 0, 0, 0), (1, 0, 0, 0)
 
@@ -99,12 +99,26 @@ def log():
     return b"".join(parts)
 
 
-def packed(text):
-    """A page's content: 93 septets, the text and then CRs."""
+PAIRS = {character: septet for septet, character in EXTENSION.items()}
+
+
+def septets_of(text):
+    """The septets of a text: one for each character, or 1B and one more."""
+    septets = []
+    for character in text:
+        if character in PAIRS:
+            septets += [ESCAPE, PAIRS[character]]
+        else:
+            # a space is 20, not 1B
+            septets.append(ALPHABET.index(character, 0x20 if character == " " else 0))
+    return septets
+
+
+def packed(septets):
+    """A page's content: 93 septets, those of the text and then CRs."""
     bits = 0
-    for i, character in enumerate(text.ljust(93, "\r")):
-        # a space is 20, not 1B
-        bits |= ALPHABET.index(character, 0x20 if character == " " else 0) << 7 * i
+    for i, septet in enumerate(septets + [0x0D] * (93 - len(septets))):
+        bits |= septet << 7 * i
     return bits.to_bytes(82, "little")
 
 
@@ -118,13 +132,16 @@ SENTENCES = [
     "Ça va? ¡Mañana!\nΩ-gate {}\r\nover there, ΔΦ ß",
     "Kapu {}: " + "ÄÖÜ " * 20,
     "",
+    "Bay [{}] \\ yard ~3|4^: 12€ {{net}}\fover]",
 ]
+# septets that no writer of ours sends: 1B twice, before a septet that is not listed, before CR, and as the last one
+ODD = [0x1B, 0x1B, 0x3C, 0x1B, 0x41, 0x0D, 0x1B, 0x0D]
 
 
-def sent(i, text, used):
+def sent(i, septets, used):
     """The four blocks of page i."""
     scheme = 0x11 if i % 7 == 1 else i % 16
-    octets = (0x4000 + i).to_bytes(2, "big") + (0xF000 ^ 31 * i).to_bytes(2, "big") + bytes([scheme, 0x11 + i % 3]) + packed(text)
+    octets = (0x4000 + i).to_bytes(2, "big") + (0xF000 ^ 31 * i).to_bytes(2, "big") + bytes([scheme, 0x11 + i % 3]) + packed(septets)
     return blocks(octets, used, first=0)
 
 
@@ -132,17 +149,20 @@ def pages_log():
     """Pages in fours of blocks behind two pieces, so that one lies across each border of a chunk of 1,024; then a tail."""
     parts = [NULL, RESERVED]
     for i in range(537):
-        text = SENTENCES[i % 5].format(i)
+        septets = septets_of(SENTENCES[i % len(SENTENCES)].format(i))
+        # now and then septets as no writer of ours sends them
+        if i % 11 == 10:
+            septets = septets[:9] + ODD[i // 11 % 4:] + [0x1B] * (i % 2)
         # the two pages that lie across a border use all four blocks
-        used = 88 if i in (255, 511) else 6 + (7 * len(text) + 7) // 8
-        parts.append(OTHERS if i % 20 == 19 and i not in (255, 511) else sent(i, text, used))
+        used = 88 if i in (255, 511) else 6 + (7 * len(septets) + 7) // 8
+        parts.append(OTHERS if i % 20 == 19 and i not in (255, 511) else sent(i, septets, used))
     parts.append(b"\x20" + b"\x00" * 8)
     return b"".join(parts)
 
 
 def zero_log():
     """A page with parameter 00, in one block."""
-    return blocks(bytes([0x00, 0x10, 0x80, 0x01, 0x00, 0x00]) + packed("Gate 3"), 12, first=0)
+    return blocks(bytes([0x00, 0x10, 0x80, 0x01, 0x00, 0x00]) + packed(septets_of("Gate 3")), 12, first=0)
 
 
 def chunk_log():
@@ -152,7 +172,7 @@ def chunk_log():
 
 def chunks_log():
     """Two whole chunks and nothing behind them: a page starts at the border, and the last piece ends another."""
-    return chunk_log() + sent(3, "Gate 1025", 88) + OTHERS * 254 + sent(4, "Gate 2048", 88)
+    return chunk_log() + sent(3, septets_of("Gate 1025"), 88) + OTHERS * 254 + sent(4, septets_of("Gate 2048"), 88)
 
 
 def true_in(log):

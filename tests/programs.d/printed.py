@@ -1,4 +1,4 @@
-"""What cblist and cbtext print for a log, from document 01 and by no code of the crates."""
+"""What cblist and cbtext print for a log, from documents 01 and 02 and by no code of the crates."""
 
 START = (0, 0, b"")
 
@@ -12,6 +12,14 @@ ALPHABET = (
     "PQRSTUVWXYZÄÖÑÜ§"
     "¿abcdefghijklmno"
     "pqrstuvwxyzäöñüà")
+
+# 02 No. 5: the septets after 1B that the extension table lists
+ESCAPE = 0x1B
+EXTENSION = {
+    0x0A: "\f", 0x14: "^", 0x28: "{", 0x29: "}", 0x2F: "\\", 0x3C: "[", 0x3D: "~", 0x3E: "]", 0x40: "|", 0x65: "€"}
+
+# how a character that would break a line, or be taken for such a mark, stands in one
+MARKS = {"\n": "\\n", "\f": "\\f", "\r": "\\r", "\\": "\\\\"}
 
 
 def step(state, piece):
@@ -59,6 +67,23 @@ def septets(octets):
     return [bits >> 7 * i & 0x7F for i in range(8 * len(octets) // 7)]
 
 
+def text_of(received):
+    """The text of some septets: 1B and the septet after it are one character, and unescaped CRs at the end are dropped."""
+    characters, rest = [], list(received)
+    while rest:
+        septet = rest.pop(0)
+        if septet != ESCAPE:
+            characters.append((ALPHABET[septet], False))
+        elif rest:
+            after = rest.pop(0)
+            characters.append((EXTENSION.get(after, ALPHABET[after]), True))
+        else:
+            characters.append((" ", False))
+    while characters and characters[-1] == ("\r", False):
+        characters.pop()
+    return "".join(character for character, _ in characters)
+
+
 def shown(log):
     """What cbtext prints."""
     lines = []
@@ -66,7 +91,6 @@ def shown(log):
         if answer == 0:
             body = "hex " + page[6:].hex().upper()
             if page[4] <= 0x0F:
-                text = "".join(ALPHABET[s] for s in septets(page[6:])).rstrip("\r")
-                body = "text " + text.replace("\n", "\\n").replace("\r", "\\r")
+                body = "text " + "".join(MARKS.get(character, character) for character in text_of(septets(page[6:])))
             lines.append(f"{number} {page[:2].hex().upper()} {page[2:4].hex().upper()} {page[5] >> 4}/{page[5] & 15} {body}\n")
     return "".join(lines).encode()

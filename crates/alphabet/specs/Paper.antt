@@ -1,9 +1,10 @@
--- The default alphabet: what document 01 says of septets and code points.
+-- The default alphabet and its extension table: what documents 01 and 02 say of septets and code points.
 use Prim.Native.Nat.{ℕ, suc, _%_}
 use mathlib.Core.Bool.{cond, not, _&&_}
 use mathlib.Core.List.{List, [], _∷_}
 use lib.Dec.{eqb}
 use lib.ListN.{getD}
+use Rattle.laws.specs.Search.{lookup}
 
 -- 01 Page and text: the default alphabet of 03.38, the code point of each septet from 00 to 7F, sixteen to a line; 09 is C7, and 1B reads as a space
 unfoldable pub alphabet : List ℕ
@@ -26,7 +27,7 @@ codePoint s = getD alphabet (s % 128) 0
 abbrev pub noSeptet : ℕ
 noSeptet = 0xff
 
--- 01 Page and text: the first septet, counted from s, whose code point is c; 1B is never written
+-- 01 Page and text: the first septet, counted from s, whose code point is c; 1B is never written for one
 abbrev pub sought : ℕ → ℕ → List ℕ → ℕ
 sought c s [] = noSeptet
 sought c s (x ∷ xs) = cond (eqb x c && not (eqb s 0x1b)) s (sought c (suc s) xs)
@@ -34,3 +35,22 @@ sought c s (x ∷ xs) = cond (eqb x c && not (eqb s 0x1b)) s (sought c (suc s) x
 -- 01 Page and text: the septet that is written for a code point, or the mark
 unfoldable pub septetOf : ℕ → ℕ
 septetOf c = sought c 0 alphabet
+
+-- 02 No. 5: the septet after which the next one is looked up in the extension table
+abbrev pub escape : ℕ
+escape = 0x1b
+
+-- 02 No. 5: the default extension table of 03.38: ten septets that follow 1B, each with the code point of the pair
+unfoldable pub extension : List (ℕ × ℕ)
+extension =
+    (0x0a, 0x000c) ∷ (0x14, 0x005e) ∷ (0x28, 0x007b) ∷ (0x29, 0x007d) ∷ (0x2f, 0x005c)
+    ∷ (0x3c, 0x005b) ∷ (0x3d, 0x007e) ∷ (0x3e, 0x005d) ∷ (0x40, 0x007c) ∷ (0x65, 0x20ac)
+    ∷ []
+
+-- 02 No. 5: the code point that 1B and septet s read as: that of the table, or, where s is not listed, that of s itself
+unfoldable pub pairPoint : ℕ → ℕ
+pairPoint s = lookup (λ (p : ℕ × ℕ). p .0) (λ (p : ℕ × ℕ). p .1) extension s (codePoint s)
+
+-- 02 No. 5: the septet that is written after 1B for a code point, or the mark
+unfoldable pub pairSeptet : ℕ → ℕ
+pairSeptet c = lookup (λ (p : ℕ × ℕ). p .1) (λ (p : ℕ × ℕ). p .0) extension c noSeptet

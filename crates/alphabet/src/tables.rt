@@ -1,4 +1,4 @@
-// The two constant tables of the default alphabet.
+// The constant tables of the default alphabet and of its extension.
 
 // The code point of each septet; 1B reads as a space.
 pub const CODE_POINTS: [u16; 128] = [
@@ -193,3 +193,18 @@ pub const SEPTETS: [u8; 938] = *b"\
     \xFF\xFF\xFF\xFF\xFF\xFF\xFF\xFF\xFF\xFF\xFF\xFF\xFF\xFF\xFF\xFF\
     \xFF\xFF\xFF\x13\x10\xFF\xFF\xFF\x19\xFF\xFF\x14\xFF\xFF\x1A\xFF\
     \x16\xFF\xFF\x18\xFF\xFF\x12\xFF\x17\x15";
+
+// The extension table: a septet that follows 1B, and the code point of the two. They are form feed, ^, {, }, \, [, ~, ], |
+// and the euro sign.
+pub const EXTENSION: [[u16; 2]; 10] = [
+    [0x0A, 0x000C],
+    [0x14, 0x005E],
+    [0x28, 0x007B],
+    [0x29, 0x007D],
+    [0x2F, 0x005C],
+    [0x3C, 0x005B],
+    [0x3D, 0x007E],
+    [0x3E, 0x005D],
+    [0x40, 0x007C],
+    [0x65, 0x20AC],
+];

@@ -15,7 +15,7 @@ use Rattle.plan.proofs.Answers.{fault-low}
 use Rattle.plan_read.specs.Paper.{PlanRead as PlanRead, listed, faults as planFaults, refusal as planRefusal, goodFile, readPlan}
 use Rattle.plan.proofs.GoodPlan.{plan-low}
 use Rattle.schedule.specs.Paper.{end, faults, Read, unread, good, read, GivenSlot, next, noMore, refusal, givenAt, given}
-use Rattle.text.specs.Paper.{PageLeft, writtenPage, writerTests, usedOctets, pageOctets, Reading, reading, readerTests, shownText, trimmed, septetsReceived}
+use Rattle.text.specs.Paper.{PageLeft, writtenPage, writerTests, usedOctets, pageOctets, Reading, reading, readerTests, shownText, shown, septetsReceived}
 use Rattle.sender_message.specs.Paper as told
 use Rattle.sender.specs.Paper as sender
 use Rattle.checker.specs.Paper as checker
@@ -60,7 +60,7 @@ unfolding reading shownText
 unpacked-read-text p n t =
     apart (reading p n t .number) (reading p n t .characters)
     (ruled-fitting (λ (w : Reading). w .number) (λ (m : ℕ). record { number = m; characters = 0; text = t }) (readerTests p n t)
-    (shownText (trimmed (septetsReceived p n))) (λ n l. l) refl (lit< tt))
+    (shownText (shown (septetsReceived p n))) (λ n l. l) refl (lit< tt))
 
 plan-fits : (f : List ℕ) → readPlan f .number < 256
 unfolding readPlan

@@ -3,7 +3,7 @@ use Rattle.laws.proofs.Base.{_≡_, refl, ap, _∙_, List, [], _∷_, _++_, app
 use Rattle.laws.proofs.Base.{mul-zero, add-one, arith, length, getD, take, set, length-set, take-suc, take-all, eq-eqb, ne-eqb, lt-ltb, le-ltb}
 use Rattle.lines.specs.Inner.{Puts}
 use Rattle.lines.proofs.Behind.{puts-none, puts-octet, puts-wider, puts-then}
-use Rattle.cbtext.specs.Paper.{utf8, character, joined}
+use Rattle.cbtext.specs.Paper.{utf8, letter, character, joined}
 
 module _ (n : ℕ) (t : List ℕ) (h : n + 3 ≤ length t) where
   -- one, two and three octets
@@ -40,17 +40,13 @@ module _ (c : ℕ) where
       let h : 0x80 ≤ c = omega arith in
       rw (le-ltb c 0x80 h, le-ltb c 0x800 l)
 
-  pub character-lf : c ≡ 0x0a → character c ≡ 92 ∷ 110 ∷ []
+  pub character-plain : letter c ≡ 0 → character c ≡ utf8 c
   unfolding character
-  character-lf e = rw (eq-eqb c 0x0a e)
+  character-plain e = rw (eq-eqb (letter c) 0 e)
 
-  pub character-cr : (c ≡ 0x0a → ⊥) → c ≡ 0x0d → character c ≡ 92 ∷ 114 ∷ []
+  pub character-marked : (letter c ≡ 0 → ⊥) → character c ≡ 92 ∷ letter c ∷ []
   unfolding character
-  character-cr ne e = rw (ne-eqb c 0x0a ne, eq-eqb c 0x0d e)
-
-  pub character-other : (c ≡ 0x0a → ⊥) → (c ≡ 0x0d → ⊥) → character c ≡ utf8 c
-  unfolding character
-  character-other ne nd = rw (ne-eqb c 0x0a ne, ne-eqb c 0x0d nd)
+  character-marked ne = rw (ne-eqb (letter c) 0 ne)
 
 joined-append : (f : ℕ → List ℕ) (xs ys : List ℕ) → joined f (xs ++ ys) ≡ joined f xs ++ joined f ys
 unfolding joined

@@ -1,4 +1,5 @@
 -- What `cbtext` proves.
+pub mod Apart
 pub mod Body
 pub mod Characters
 pub mod Chunks

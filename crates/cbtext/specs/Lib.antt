@@ -1,3 +1,4 @@
 -- What `cbtext` defines.
+pub mod Claims
 pub mod Inner
 pub mod Paper

@@ -11,7 +11,7 @@ ghost use Rattle.lines.specs.Paper.{hexadecimal, allBehind};
 ghost use Rattle.lines.specs.Inner.{Puts};
 ghost use Rattle.logs.specs.Paper.{cut};
 ghost use Rattle.logs.specs.Inner.{Continues};
-ghost use Rattle.cbtext.specs.Paper.{utf8, character, joined, textPart, hexPart, names, parts, heading, body, pageLine, lineOf, pageLines};
+ghost use Rattle.cbtext.specs.Paper.{utf8, letter, character, joined, textPart, hexPart, names, parts, heading, body, pageLine, lineOf, pageLines};
 ghost use Rattle.cbtext.specs.Inner.{Handed, lineFor};
 use arguments::Asked;
 use files::Opened;
@@ -199,22 +199,38 @@ fn put_characters(points: &[u16], out: &mut [u8], at: usize) -> usize
     end
 }
 
-// Line ends in a text are told by letters, so that each page keeps to its line.
+// Line ends, form feeds and backslashes in a text are told by letters behind a backslash, so that each page keeps to its line
+// and no two texts look alike.
 fn put_character(point: u16, out: &mut [u8], at: usize) -> usize
     requires { ⌜ at + 3 ≤ length (now out) ⌝ }
     ensures { λ r. ⌜ Puts (character point) 3 at (now (out .entry)) (now (out .exit)) r ⌝ }
 {
+    let behind = letter_of(point);
+    if behind == 0 {
+        return put_utf8(point, out, at);
+    }
+    out[at] = b'\\';
+    out[at + 1] = behind;
+    at + 2
+}
+
+// The letter that stands for a character behind a backslash, 0 for one that is written as it is.
+fn letter_of(point: u16) -> u8
+    ensures { λ r. ⌜ r ≡ letter point ⌝ }
+{
     if point == 0x0A {
-        out[at] = b'\\';
-        out[at + 1] = b'n';
-        return at + 2;
+        return b'n';
+    }
+    if point == 0x0C {
+        return b'f';
     }
     if point == 0x0D {
-        out[at] = b'\\';
-        out[at + 1] = b'r';
-        return at + 2;
+        return b'r';
     }
-    put_utf8(point, out, at)
+    if point == 0x5C {
+        return b'\\';
+    }
+    0
 }
 
 fn put_utf8(point: u16, out: &mut [u8], at: usize) -> usize

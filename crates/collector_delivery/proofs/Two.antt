@@ -35,7 +35,7 @@ unfolding heard block.step
 null-quiet h good = rw good
 
 written-two : (p : List ℕ) → length p ≡ 88 → (i : ℕ) → i < 2 → pageWritten twoPages p i .number ≡ 0
-unfolding text.writtenPage text.foreign text.endsInCr text.badParameter alphabet septetOf
+unfolding text.writtenPage text.foreign text.septetsOf text.unpadded text.endsInCr text.badParameter alphabet septetOf
 written-two p page zero l = rw (eq-eqb (length p) 88 page)
 written-two p page (suc zero) l = rw (eq-eqb (length p) 88 page)
 written-two p page (suc (suc i)) l = absurd (omega arith)

@@ -1,11 +1,11 @@
--- The cases that document 01 marks P: for each, what the definitions give and what the document says, as lists of numbers.
+-- The cases that document 01 marks P, and those of document 02's No. 5: for each, what the definitions give and what the document says, as lists of numbers.
 use mathlib.Core.Path.{_≡_}
 use mathlib.Core.Bool.{true, cond}
 use mathlib.Core.List.{List, [], _∷_, _++_, map}
 use Prim.Native.Nat.{ℕ, _+_, _*_, _-_, _%_}
-use lib.ListN.{getD, take, drop, replicate}
+use lib.ListN.{length, getD, take, drop, replicate}
 use Rattle.laws.specs.Upto.{each}
-use Rattle.page.specs.Paper.{Heading}
+use Rattle.page.specs.Paper.{Heading, headerOctets}
 use Rattle.text.specs.Paper as text
 use Rattle.block.specs.Paper as block
 use Rattle.block_writer.specs.Paper as writer
@@ -111,3 +111,63 @@ cases =
 -- 01 Where the edges are: every case is as the document says
 abbrev pub Edges : Type 0
 Edges = map (λ (x : List ℕ × List ℕ). x .0) cases ≡ map (λ (x : List ℕ × List ℕ). x .1) cases
+
+-- 02 No. 5: the number given for a text, and how many content octets it uses
+abbrev pub textUsed : List ℕ → List ℕ
+textUsed t = textWritten t .number ∷ (textWritten t .used - 6) ∷ []
+
+-- 02 No. 5: a page of 93 septets
+abbrev pub pageOf : List ℕ → List ℕ
+pageOf s = headerOctets pageHeading ++ text.packed s
+
+-- 02 No. 5: what reading n octets of it gives: number, characters, and the code points from place k on
+abbrev pub readFrom : ℕ → ℕ → List ℕ → List ℕ
+readFrom k n p =
+    let r : text.Reading = text.reading p n (replicate 93 0) in
+    r .number ∷ r .characters ∷ take (r .characters - k) (drop k (r .text))
+
+-- 02 No. 5: letters A but for 1B and 3C, which is [ as a pair, in places k and k + 1
+abbrev pub bracketAt : ℕ → List ℕ
+bracketAt k = pageOf (take 93 (replicate (k - 1) 0x41 ++ (0x1b ∷ 0x3c ∷ replicate (92 - k) 0x41)))
+
+-- 02 No. 5: some septets, and CRs up to 93
+abbrev pub withCrs : List ℕ → List ℕ
+withCrs s = pageOf (s ++ replicate (93 - length s) 0x0d)
+
+-- 02 No. 5: what its sentences on writing say, case by case
+abbrev pub pairsWritten : List (List ℕ × List ℕ)
+pairsWritten =
+    -- 46 pairs and one plain character fill a page; 47 pairs are too many septets, as 94 plain characters are
+    (textUsed (replicate 46 0x5b ++ (0x41 ∷ [])), 0 ∷ 82 ∷ [])
+    ∷ (textUsed (replicate 46 0x20ac ++ (0x41 ∷ [])), 0 ∷ 82 ∷ [])
+    ∷ (textWritten (replicate 47 0x5b) .number ∷ [], 10 ∷ [])
+    ∷ (textWritten (replicate 94 0x41) .number ∷ [], 10 ∷ [])
+    -- 11 comes before 10: one of 94 characters is in neither table
+    ∷ (textWritten (replicate 93 0x41 ++ (0x60 ∷ [])) .number ∷ [], 11 ∷ [])
+    -- a text that ends in ] is written
+    ∷ (textUsed (0x5b ∷ 0x37 ∷ 0x5d ∷ []), 0 ∷ 5 ∷ [])
+    ∷ []
+
+-- 02 No. 5: what its sentences on reading say, case by case
+abbrev pub pairsRead : List (List ℕ × List ℕ)
+pairsRead =
+    -- it is read
+    (readFrom 0 22 (textWritten (0x5b ∷ 0x37 ∷ 0x5d ∷ []) .page), 0 ∷ 3 ∷ 0x5b ∷ 0x37 ∷ 0x5d ∷ [])
+    -- 1B as the last whole septet received is a space, though the next block has the rest
+    ∷ (readFrom 17 22 (bracketAt 18), 0 ∷ 18 ∷ 0x20 ∷ [])
+    ∷ (readFrom 42 44 (bracketAt 43), 0 ∷ 43 ∷ 0x20 ∷ [])
+    ∷ (readFrom 67 66 (bracketAt 68), 0 ∷ 68 ∷ 0x20 ∷ [])
+    ∷ (readFrom 92 88 (bracketAt 93), 0 ∷ 93 ∷ 0x20 ∷ [])
+    -- with the rest received it is one character with the septet after it
+    ∷ (take 3 (readFrom 17 44 (bracketAt 18)), 0 ∷ 42 ∷ 0x5b ∷ [])
+    -- 1B with an unlisted septet is that septet's character; 1B twice is one space, and the second doesn't escape
+    ∷ (readFrom 0 22 (withCrs (0x1b ∷ 0x41 ∷ [])), 0 ∷ 1 ∷ 0x41 ∷ [])
+    ∷ (readFrom 0 22 (withCrs (0x1b ∷ 0x1b ∷ 0x3c ∷ [])), 0 ∷ 2 ∷ 0x20 ∷ 0x3c ∷ [])
+    -- CRs at the end are dropped, but an escaped one stays, and one before it
+    ∷ (readFrom 0 22 (withCrs (0x41 ∷ 0x0d ∷ 0x1b ∷ 0x0d ∷ [])), 0 ∷ 3 ∷ 0x41 ∷ 0x0d ∷ 0x0d ∷ [])
+    ∷ (readFrom 0 22 (withCrs (0x41 ∷ 0x0d ∷ [])), 0 ∷ 1 ∷ 0x41 ∷ [])
+    ∷ []
+
+-- 02 No. 5: every case is as the document says
+abbrev pub PairEdges : List (List ℕ × List ℕ) → Type 0
+PairEdges cs = map (λ (x : List ℕ × List ℕ). x .0) cs ≡ map (λ (x : List ℕ × List ℕ). x .1) cs

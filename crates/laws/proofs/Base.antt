@@ -7,7 +7,7 @@ pub use Prim.Native.Nat.{_%_, _*_, _+_, _-_, _/_, _<_, _^_, _≤_, min, suc, zer
 pub use native.Mathlib.Omega.{arith, by-contra}
 pub use native.Mathlib.Nat.{add-assoc, add-comm, add-div-right, add-mul-div-left, add-mul-mod-self-left, add-sub-cancel-left, add-sub-of-le, add-suc, add-zero, div-add-mod}
 pub use native.Mathlib.Nat.{div-add-mod', div-div-eq-div-mul, div-eq-of-lt, div-lt-iff-lt-mul, div-one, eq-or-lt-of-le, le-div-iff-mul-le, le-of-lt, le-of-suc-le-suc}
-pub use native.Mathlib.Nat.{le-refl, le-trans, lt-mul-div-succ, lt-of-lt-of-le, min-le-left, min-le-right, min-zero, mod-add-div, mod-eq-of-lt, mod-lt, mod-mod, mul-add}
+pub use native.Mathlib.Nat.{le-refl, le-trans, lt-mul-div-succ, lt-of-lt-of-le, min-le-left, min-zero, mod-add-div, mod-eq-of-lt, mod-lt, mod-mod, mul-add}
 pub use native.Mathlib.Nat.{mul-assoc, mul-comm, mul-le-mul-left, mul-one, mul-suc, mul-zero, not-suc-le-zero, one-le-pow, one-mul, pos-of-ne-zero, pow-le-pow-right}
 pub use native.Mathlib.Nat.{pow-suc, pow-succ', pow-zero, sub-le, sub-zero, suc-add, suc-min-suc, suc-sub-suc, zero-add, zero-div, zero-lt-suc, zero-min, zero-mod, zero-sub}
 pub use native.Mathlib.Numerals.{add-one}

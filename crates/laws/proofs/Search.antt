@@ -1,7 +1,7 @@
 -- Laws of lists that are searched: turns and ends of the loops that do it, and what is found.
-use Rattle.laws.proofs.Base.{_≡_, refl, sym, _∙_, Bool, true, false, not, _||_, or-true, or-false, or-assoc, List, [], _∷_, _++_, _⊎_, ⊎-elim, ℕ, zero, suc, _+_, _≤_, _<_}
-use Rattle.laws.proofs.Base.{le-of-suc-le-suc, not-suc-le-zero, add-one, arith, length, getD, take, drop, drop-of-length-le, eqb, eqb·suc-zero, take-suc, drop-cons}
-use Rattle.laws.specs.Search.{some, firstFrom}
+use Rattle.laws.proofs.Base.{_≡_, refl, sym, _∙_, Bool, true, false, not, _||_, or-true, or-false, or-assoc, List, [], _∷_, _++_, map, _⊎_, ⊎-elim, ℕ, zero, suc, _+_, _≤_, _<_}
+use Rattle.laws.proofs.Base.{le-of-suc-le-suc, not-suc-le-zero, add-one, arith, length, getD, take, drop, drop-of-length-le, eqb, eqb·suc-zero, take-suc, drop-cons, eq-eqb, ne-eqb, eqb-true}
+use Rattle.laws.specs.Search.{some, firstFrom, lookup}
 use Rattle.laws.proofs.Tests.{true-or-false, either, neither}
 
 module _ {A : Type 0} (f : A → Bool) where
@@ -100,3 +100,40 @@ module _ {A : Type 0} (f g : A → Bool) (agree : (x : A) → f x ≡ g x) where
   unfolding firstFrom
   first-agree s [] = refl
   first-agree s (x ∷ l) = rw (agree x, first-agree (suc s) l)
+
+-- a turn and both ends of the loop that looks for an entry's value by its key
+module _ {A : Type 0} (key value : A → ℕ) (k y : ℕ) where
+  pub lookup-next : (d : A) (l : List A) (i : ℕ) → i < length l → (key (getD l i d) ≡ k → ⊥) → lookup key value (drop i l) k y ≡ lookup key value (drop (i + 1) l) k y
+  unfolding lookup
+  lookup-next d l i h ne = rw (drop-cons l i d h, ne-eqb _ _ ne, add-one i)
+
+  pub lookup-here : (d : A) (l : List A) (i : ℕ) → i < length l → key (getD l i d) ≡ k → lookup key value (drop i l) k y ≡ value (getD l i d)
+  unfolding lookup
+  lookup-here d l i h e = rw (drop-cons l i d h, eq-eqb _ _ e)
+
+  pub lookup-end : (l : List A) (i : ℕ) → length l ≤ i → lookup key value (drop i l) k y ≡ y
+  unfolding lookup
+  lookup-end l i h = rw (drop-of-length-le l h)
+
+-- entries that are made of others are found as these are
+pub lookup-map : {A B : Type 0} (f : B → A) (key value : A → ℕ) (l : List B) (k y : ℕ) → lookup key value (map f l) k y ≡ lookup (λ (x : B). key (f x)) (λ (x : B). value (f x)) l k y
+unfolding lookup
+lookup-map f key value [] k y = refl
+lookup-map f key value (x ∷ l) k y = rw (lookup-map f key value l k y)
+
+-- what looking up ends with: the other number, or the value of an entry that has the key
+pub data Looked {A : Type 0} (key value : A → ℕ) (d : A) (l : List A) (k y r : ℕ) : Type 0 where
+  not-listed : r ≡ y → Looked key value d l k y r
+  listed-at : (i : ℕ) → i < length l → key (getD l i d) ≡ k → r ≡ value (getD l i d) → Looked key value d l k y r
+
+pub looked : {A : Type 0} (key value : A → ℕ) (d : A) (l : List A) (k y : ℕ) → Looked key value d l k y (lookup key value l k y)
+unfolding lookup
+looked key value d [] k y = not-listed refl
+looked key value d (x ∷ l) k y =
+    true-or-false (eqb (key x) k)
+    (λ e. rw e (listed-at zero (omega arith) (eqb-true _ _ e) refl))
+    (λ e. rw e (later (looked key value d l k y)))
+  where
+    later : {r : ℕ} → Looked key value d l k y r → Looked key value d (x ∷ l) k y r
+    later (not-listed q) = not-listed q
+    later (listed-at i h e q) = listed-at (suc i) (omega arith) e q

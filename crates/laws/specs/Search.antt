@@ -2,6 +2,7 @@
 use Prim.Native.Nat.{ℕ, suc}
 use mathlib.Core.Bool.{Bool, false, cond, _||_}
 use mathlib.Core.List.{List, [], _∷_}
+use lib.Dec.{eqb}
 
 -- some entry passes the test f
 unfoldable pub some : {A : Type 0} → (A → Bool) → List A → Bool
@@ -12,3 +13,8 @@ some f (x ∷ xs) = f x || some f xs
 unfoldable pub firstFrom : {A : Type 0} → (A → Bool) → ℕ → List A → ℕ
 firstFrom f s [] = 0
 firstFrom f s (x ∷ xs) = cond (f x) s (firstFrom f (suc s) xs)
+
+-- the value of the first entry whose key is k; y where no entry has it
+unfoldable pub lookup : {A : Type 0} → (A → ℕ) → (A → ℕ) → List A → ℕ → ℕ → ℕ
+lookup key value [] k y = y
+lookup key value (x ∷ xs) k y = cond (eqb (key x) k) (value x) (lookup key value xs k y)

@@ -12,9 +12,3 @@ every f i (x ∷ xs) = f i x && every f (suc i) xs
 abbrev pub listed : (ℕ → ℕ) → ℕ → ℕ → List ℕ
 listed f i zero = []
 listed f i (suc n) = f i ∷ listed f (suc i) n
-
--- the entries of o at whose place xs has one become f of that one; the others stay
-abbrev pub onto : (ℕ → ℕ) → List ℕ → List ℕ → List ℕ
-onto f [] o = o
-onto f (x ∷ xs) [] = []
-onto f (x ∷ xs) (y ∷ o) = f x ∷ onto f xs o

@@ -15,9 +15,9 @@ pub enum Refusal {
     NotNext,
     // state not proper, or a lent state not 90 octets; collector not proper, or not 1,340 octets
     StateImproper,
-    // text over 93 characters
+    // text over 93 septets
     TextLength,
-    // a character that is not in the alphabet
+    // a character that is neither in the alphabet nor in its extension table
     NotInAlphabet,
     // text ends in CR
     EndsInCr,

@@ -3,7 +3,7 @@ use Rattle.laws.proofs.Base.{_≡_, sym, ap, _∙_, true, false, List, ℕ, _<_
 use Rattle.sizes.specs.Paper.{wholeBlocks}
 use Rattle.page.specs.Paper.{octet, handedNumber}
 use Rattle.page.proofs.Received.{Handled, length-wrong, received-wrong, all-right, handled}
-use Rattle.text.specs.Paper.{PageLeft, Reading, septetsReceived, trimmed, shownText, reading}
+use Rattle.text.specs.Paper.{PageLeft, Reading, septetsReceived, shown, shownText, reading}
 
 -- a refusal by n leaves the page p
 abbrev pub unwritten : ℕ → List ℕ → PageLeft
@@ -29,7 +29,7 @@ module _ (p : List ℕ) (n : ℕ) (t : List ℕ) where
         unfolding reading
         reading-13 l = simp (eq-eqb (length t) 93 e, eq-eqb (length p) 88 k, w, lt-ltb 15 (octet p 5) l)
 
-        pub reading-0 : octet p 5 ≤ 15 → reading p n t ≡ shownText (trimmed (septetsReceived p n))
+        pub reading-0 : octet p 5 ≤ 15 → reading p n t ≡ shownText (shown (septetsReceived p n))
         unfolding reading
         reading-0 l = simp (eq-eqb (length t) 93 e, eq-eqb (length p) 88 k, w, le-ltb 15 (octet p 5) l)
 

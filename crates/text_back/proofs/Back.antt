@@ -1,21 +1,18 @@
 -- What the writer writes is read back, the same characters, received whole or up to the last used block.
-use Rattle.laws.proofs.Base.{_≡_, refl, sym, ap, _∙_, false, _||_, or-assoc, List, [], _∷_, _++_, map, map-append, append-assoc, append-nil, ℕ, zero}
-use Rattle.laws.proofs.Base.{suc, _+_, _*_, _-_, _/_, _^_, _<_, _≤_, min, zero-lt-suc, le-refl, add-sub-of-le, arith, eqb, lit<, length, getD, take, drop}
-use Rattle.laws.proofs.Base.{replicate, length-append, length-map, take-length, take-at, take-take, drop-at, take-append-add, getD-take, eqb-false}
+use Rattle.laws.proofs.Base.{_≡_, refl, sym, ap, _∙_, false, List, [], _∷_, _++_, map, map-append, ℕ}
+use Rattle.laws.proofs.Base.{_+_, _*_, _-_, _/_, _^_, _≤_, min, zero-lt-suc, le-refl, add-sub-of-le, arith, lit<, length, getD, take, drop}
+use Rattle.laws.proofs.Base.{replicate, length-append, length-map, take-length, take-at, take-take, drop-at, take-append-add, getD-take}
 use lib.Pow.{pow-add}
 use Rattle.laws.specs.Radix.{value, Below}
 use Rattle.laws.proofs.Parts.{drop-take, take-replicate}
 use Rattle.laws.proofs.Radix.{length-digits, take-digits, digits-front, digits-kept, power-bits}
 use Rattle.sizes.proofs.Received.{whole-times, whole-bounds}
-use Rattle.laws.proofs.Tests.{neither}
-use Rattle.alphabet.specs.Paper.{codePoint, septetOf, noSeptet}
-use Rattle.alphabet.proofs.Laws.{Writes, reads-cr}
 use Rattle.page.specs.Paper.{Heading, header, headerOctets, octet}
 use Rattle.page.proofs.HeaderBack.{header-back, header-length}
-use Rattle.text.specs.Paper.{cr, septets, packed, pageOctets, usedOctets, foreign, endsInCr, writtenPage, wholeOf, septetsReceived, trimmed, shownText}
+use Rattle.text.specs.Paper.{cr, Character, unpadded, septets, packed, pageOctets, usedOctets, foreign, endsInCr, writtenPage, wholeOf, septetsReceived, trimmed, points, shown, shownText}
 use Rattle.text.proofs.Cases.{reading-0}
-use Rattle.text.proofs.Septets.{known, septets-count, septets-below}
-use Rattle.text.proofs.Trim.{trim-cr, trim-other, take-last}
+use Rattle.text.proofs.Septets.{readAs, decoded-text, decoded-crs, septets-count, septets-below}
+use Rattle.text.proofs.Trim.{trim-other, trim-padding, take-last}
 use Rattle.text_back.specs.Claims.{givenBack, TextBack, TextBackWhole, TextBackBlocks, HeadingBack}
 use Rattle.text_back.proofs.Accepted.{writer-accepts}
 
@@ -32,58 +29,31 @@ front-back s m e h low =
     (digits-kept 256 128 m (8 * m / 7) (2 ^ (8 * m - 7 * (8 * m / 7))) (value 128 s) (lit< tt) (bits-kept (8 * m / 7) m (omega arith))
     ∙ digits-front 128 (8 * m / 7) s low (omega arith))
 
--- CRs after some septets are dropped
-pub trim-padding : (j : ℕ) (s : List ℕ) → trimmed (s ++ replicate j cr) ≡ trimmed s
-trim-padding zero s = rw (append-nil s)
-trim-padding (suc j) s =
-    ap trimmed (sym (append-assoc s (cr ∷ []) (replicate j cr))) ∙ trim-padding j (s ++ (cr ∷ [])) ∙ trim-cr s
+-- nothing is dropped of the characters of a text that doesn't end in CR
+trim-text : (t : List ℕ) → endsInCr t ≡ false → trimmed (map readAs t) ≡ map readAs t
+unfolding endsInCr trimmed
+trim-text [] ends = refl
+trim-text (x ∷ t) ends =
+    let all : List ℕ = x ∷ t in
+    let front : List ℕ = take (length all - 1) all in
+    let c : ℕ = getD all (length all - 1) 0 in
+    let split : all ≡ front ++ (c ∷ []) = sym (take-length all) ∙ take-last all (length all) 0 (zero-lt-suc _) (le-refl _) in
+    let m : map readAs all ≡ map readAs front ++ (readAs c ∷ []) = ap (map readAs) split ∙ map-append readAs front (c ∷ []) in
+    ap trimmed m ∙ trim-other (map readAs front) (readAs c) (rw ends) ∙ sym m
 
-foreign-append : (s t : List ℕ) → foreign (s ++ t) ≡ (foreign s || foreign t)
-unfolding foreign
-foreign-append [] t = refl
-foreign-append (c ∷ s) t = rw (foreign-append s t) (sym (or-assoc (eqb (septetOf c) noSeptet) (foreign s) (foreign t)))
-
--- a character other than CR has a septet other than CR
-no-cr : (c : ℕ) → Writes c (septetOf c) → (c ≡ cr → ⊥) → septetOf c ≡ cr → ⊥
-no-cr c w ne e = ne (sym (w .reads) ∙ ap codePoint e ∙ reads-cr)
-
--- nothing is dropped of the septets of a text that doesn't end in CR
-trim-last : (t : List ℕ) → 0 < length t → foreign t ≡ false → endsInCr t ≡ false → trimmed (map septetOf t) ≡ map septetOf t
-unfolding foreign endsInCr
-trim-last t pos f ends =
-    let front : List ℕ = take (length t - 1) t in
-    let c : ℕ = getD t (length t - 1) 0 in
-    let split : t ≡ front ++ (c ∷ []) = sym (take-length t) ∙ take-last t (length t) pos (le-refl _) in
-    let m : map septetOf t ≡ map septetOf front ++ (septetOf c ∷ []) = ap (map septetOf) split ∙ map-append septetOf front (c ∷ []) in
-    let last : foreign (c ∷ []) ≡ false = neither (foreign front) (foreign (c ∷ [])) (sym (foreign-append front (c ∷ [])) ∙ sym (ap foreign split) ∙ f) .1 in
-    let w : Writes c (septetOf c) = known c (neither (eqb (septetOf c) noSeptet) false last .0) in
-    ap trimmed m ∙ trim-other (map septetOf front) (septetOf c) (no-cr c w (eqb-false c cr ends)) ∙ sym m
-
-trim-nil : trimmed [] ≡ []
-unfolding trimmed
-trim-nil = refl
-
-trim-found : (t : List ℕ) → foreign t ≡ false → endsInCr t ≡ false → trimmed (map septetOf t) ≡ map septetOf t
-trim-found [] f ends = trim-nil
-trim-found (c ∷ t) f ends = trim-last (c ∷ t) (zero-lt-suc _) f ends
-
--- what is written for each character reads as it
-reads-back : (t : List ℕ) → foreign t ≡ false → map codePoint (map septetOf t) ≡ t
-unfolding foreign
-reads-back [] h = refl
-reads-back (c ∷ t) h =
-    let n = neither (eqb (septetOf c) noSeptet) (foreign t) h in
-    rw (known c (n .0) .reads, reads-back t (n .1))
-
--- the first k septets of a text, all its characters among them, without the CRs at the end
-trim-front-back : (t : List ℕ) (k : ℕ) → length t ≤ k → foreign t ≡ false → endsInCr t ≡ false → trimmed (take k (septets t)) ≡ map septetOf t
+-- the first k septets of a text, all its own among them, are read as its characters
+shown-front : (t : List ℕ) (k : ℕ) → length (unpadded t) ≤ k → foreign t ≡ false → endsInCr t ≡ false → shown (take k (septets t)) ≡ map readAs t
 unfolding septets
-trim-front-back t k h f ends =
-    let m : List ℕ = map septetOf t in
-    let pad : List ℕ = replicate (93 - length t) cr in
-    let e : length m + (k - length m) ≡ k = add-sub-of-le (rw (length-map t septetOf) h) in
-    let cut = rw (e, take-replicate (k - length m) (93 - length t) cr) at (take-append-add m pad (k - length m)) in
-    ap trimmed cut ∙ trim-padding (min (k - length m) (93 - length t)) m ∙ trim-found t f ends
+shown-front t k h known ends =
+    let m : List ℕ = unpadded t in
+    let j : ℕ = min (k - length m) (93 - length m) in
+    let e : length m + (k - length m) ≡ k = add-sub-of-le h in
+    let cut : take k (m ++ replicate (93 - length m) cr) ≡ m ++ replicate j cr =
+    rw (e, take-replicate (k - length m) (93 - length m) cr) at (take-append-add m (replicate (93 - length m) cr) (k - length m)) in
+    ap shown cut
+    ∙ ap trimmed (decoded-text t (replicate j cr) known ∙ ap (λ (l : List Character). map readAs t ++ l) (decoded-crs j))
+    ∙ trim-padding j (map readAs t)
+    ∙ trim-text t ends
 
 -- the content of what agrees with a written page on its first n octets
 content-back : (h : Heading) (t q : List ℕ) (n : ℕ) → take n q ≡ take n (pageOctets h t) → take (n - 6) (drop 6 q) ≡ take (n - 6) (packed (septets t))
@@ -109,9 +79,13 @@ scheme-back : (h : Heading) (t q : List ℕ) (n : ℕ) → 6 ≤ n → take n q 
 unfolding header
 scheme-back h t q n l e = sym (getD-take 6 q 4 0 (lit< tt)) ∙ ap (λ (x : Heading). x .scheme) (heading-agrees h t q n l e)
 
-shown-back : (t : List ℕ) → foreign t ≡ false → shownText (map septetOf t) ≡ givenBack t
+points-back : (t : List ℕ) → points (map readAs t) ≡ t
+points-back [] = refl
+points-back (c ∷ t) = ap (_∷_ c) (points-back t)
+
+shown-back : (t : List ℕ) → shownText (map readAs t) ≡ givenBack t
 unfolding shownText
-shown-back t f = rw (length-map t septetOf, reads-back t f)
+shown-back t = rw (length-map t readAs, points-back t)
 
 -- what was used is at least the header, and at most the page
 pub used-bounds : (h : Heading) (t p : List ℕ) → writtenPage h t p .number ≡ 0 → (6 ≤ writtenPage h t p .used) × (writtenPage h t p .used ≤ 88)
@@ -128,11 +102,11 @@ text-back h t p z q u n w used lq lu agree =
     let s : octet q 5 ≤ 15 = rw (scheme-back h t q n (omega arith) e) (a .scheme) in
     let got : septetsReceived q n ≡ take (8 * (n - 6) / 7) (septets t) =
     ap wholeOf (content-back h t q n e)
-    ∙ front-back (septets t) (n - 6) (septets-count t (a .short)) (omega arith) (septets-below t (a .known)) in
+    ∙ front-back (septets t) (n - 6) (septets-count t (a .short)) (omega arith) (septets-below t) in
     reading-0 q n u lu lq w s
-    ∙ ap (λ (l : List ℕ). shownText (trimmed l)) got
-    ∙ ap shownText (trim-front-back t (8 * (n - 6) / 7) (omega arith) (a .known) (a .open-ended))
-    ∙ shown-back t (a .known)
+    ∙ ap (λ (l : List ℕ). shownText (shown l)) got
+    ∙ ap shownText (shown-front t (8 * (n - 6) / 7) (omega arith) (a .known) (a .open-ended))
+    ∙ shown-back t
 
 pub heading-back : HeadingBack
 heading-back h t p q n z l agree =

@@ -1,13 +1,16 @@
 -- Text read back as it was written, and what the reader gives: the statements.
 use mathlib.Core.Path.{_≡_}
-use mathlib.Core.Bool.{true}
-use mathlib.Core.List.{List, _++_}
+use mathlib.Core.Bool.{Bool, false, true, not, _&&_}
+use mathlib.Core.List.{List, [], _∷_, _++_, map}
 use Prim.Native.Nat.{ℕ, _+_, _*_, _-_, _/_, _≤_, _<_}
+use lib.Dec.{eqb}
 use lib.ListN.{length, getD, take, replicate}
 use Rattle.laws.specs.Radix.{Below, bit}
+use Rattle.laws.specs.Search.{some}
+use Rattle.alphabet.specs.Paper.{codePoint, escape, extension, pairPoint}
 use Rattle.sizes.specs.Paper.{wholeBlocks}
 use Rattle.page.specs.Paper.{Heading, header}
-use Rattle.text.specs.Paper.{Reading, cr, packed, usedOctets, writtenPage, wholeOf, septetsReceived, reading}
+use Rattle.text.specs.Paper.{Reading, Character, cr, packed, usedOctets, writtenPage, wholeOf, septetsReceived, decoded, isCr, points, shown, shownText, reading}
 
 -- 01 Page and text: a text as the reader gives it: its characters, and 0 in the rest of the 93
 abbrev pub givenBack : List ℕ → Reading
@@ -45,14 +48,72 @@ HeadingBack =
 abbrev pub CharactersBounded : Type 0
 CharactersBounded = (p : List ℕ) (n : ℕ) (t : List ℕ) → reading p n t .characters ≤ 93
 
--- what the reader drops of the septets received
+-- the characters of the septets received, before any is dropped
+abbrev pub allReceived : List ℕ → ℕ → List Character
+allReceived p n = decoded false (septetsReceived p n)
+
+-- 02 No. 5: what the reader drops of the characters received
 pub record DropsCrsOnly (p : List ℕ) (n : ℕ) (t : List ℕ) : Type 0 where
-  -- those shown are among them
-  pub shown : reading p n t .characters ≤ length (septetsReceived p n)
-  -- behind those stand CRs only
-  pub dropped : septetsReceived p n ≡ take (reading p n t .characters) (septetsReceived p n) ++ replicate (length (septetsReceived p n) - reading p n t .characters) cr
-  -- and the last that is shown is no CR
-  pub stops : 0 < reading p n t .characters → getD (septetsReceived p n) (reading p n t .characters - 1) 0 ≡ cr → ⊥
+  -- those shown are the first of them
+  pub shown : reading p n t .characters ≤ length (allReceived p n)
+  pub first : take (reading p n t .characters) (reading p n t .text) ≡ points (take (reading p n t .characters) (allReceived p n))
+  -- behind those stand CRs only, none of them escaped
+  pub dropped : allReceived p n
+      ≡ take (reading p n t .characters) (allReceived p n)
+      ++ replicate (length (allReceived p n) - reading p n t .characters) (record { point = cr; escaped = false })
+  -- and the last that is shown is no such CR
+  pub stops : (d : Character) → 0 < reading p n t .characters → isCr (getD (allReceived p n) (reading p n t .characters - 1) d) ≡ false
+
+-- 02 No. 5: whether the last of some septets is a 1B that waits for another one; the flag says whether one waits before them
+unfoldable pub waits : Bool → List ℕ → Bool
+waits e [] = e
+waits e (s ∷ r) = waits (not e && eqb s escape) r
+
+-- 02 No. 5: the reader reads, and the septets received are a, none of which waits, and then b
+pub record Received (p : List ℕ) (n : ℕ) (t a b : List ℕ) : Type 0 where
+  pub read : reading p n t .number ≡ 0
+  pub septets : septetsReceived p n ≡ a ++ b
+  pub closed : waits false a ≡ false
+
+-- 02 No. 5: what is shown where 1B and a septet stand between a and r is all of a, one character x, and what r alone shows
+abbrev pub ShownBetween : (ℕ → Character → Type 0) → Type 0
+ShownBetween Pairs =
+    (p : List ℕ) (n : ℕ) (t a : List ℕ) (s : ℕ) (r : List ℕ) (x : Character) → Received p n t a (escape ∷ s ∷ r) → Pairs s x
+    → reading p n t ≡ shownText (decoded false a ++ (x ∷ shown r))
+
+-- 02 No. 5: a pair is one character
+abbrev pub PairShown : Type 0
+PairShown = ShownBetween (λ s x. x ≡ record { point = pairPoint s; escaped = true })
+
+-- 02 No. 5: a pair of the extension table shows the table's character
+abbrev pub ListedShown : Type 0
+ListedShown =
+    ShownBetween (λ s x. (i : ℕ) × ((i < 10) × (s ≡ getD extension i (0, 0) .0) × (x ≡ record { point = getD extension i (0, 0) .1; escaped = true })))
+
+-- 02 No. 5: a septet that the table doesn't list shows its own character
+abbrev pub UnlistedShown : Type 0
+UnlistedShown =
+    ShownBetween (λ s x. ((i : ℕ) → i < 10 → getD extension i (0, 0) .0 ≡ s → ⊥) × (x ≡ record { point = codePoint s; escaped = true }))
+
+-- 02 No. 5: 1B twice is one space
+abbrev pub EscapeTwiceShown : Type 0
+EscapeTwiceShown = ShownBetween (λ s x. (s ≡ escape) × (x ≡ record { point = 0x20; escaped = true }))
+
+-- 02 No. 5: an escaped CR stays, and so does all before it
+abbrev pub EscapedCrShown : Type 0
+EscapedCrShown = ShownBetween (λ s x. (s ≡ cr) × (x ≡ record { point = cr; escaped = true }))
+
+-- 02 No. 5: 1B as the last whole septet received is a space, and all before it stays
+abbrev pub EscapeLastShown : Type 0
+EscapeLastShown =
+    (p : List ℕ) (n : ℕ) (t a : List ℕ) → Received p n t a (escape ∷ [])
+    → reading p n t ≡ shownText (decoded false a ++ (record { point = 0x20; escaped = false } ∷ []))
+
+-- 01 Page and text: where no 1B is received, each septet is a character, as before
+abbrev pub PlainShown : Type 0
+PlainShown =
+    (p : List ℕ) (n : ℕ) → some (λ (s : ℕ). eqb s escape) (septetsReceived p n) ≡ false
+    → allReceived p n ≡ map (λ (s : ℕ). record { point = codePoint s; escaped = false }) (septetsReceived p n)
 
 -- bit m of the octets is bit m of the septets; past the last septet stand zeros
 abbrev pub PackedBits : Type 0

@@ -1,2 +1,3 @@
 -- What `text_reader` defines.
 pub mod Coded
+pub mod Inner

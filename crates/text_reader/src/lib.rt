@@ -1,9 +1,12 @@
-// Text of the default alphabet read out of a page.
+// Text of the default alphabet and its extension read out of a page.
+mod reading;
+
 ghost use mathlib.Core.Path.{_≡_};
 ghost use Prim.Native.Nat.{_≤_};
 ghost use lib.ListN.{length, replicate};
-ghost use Rattle.text.specs.Paper.{trimmed, wholeOf, shownText, reading};
+ghost use Rattle.text.specs.Paper.{shown, shownText, wholeOf, reading};
 ghost use Rattle.text_reader.specs.Coded.{readingOf};
+use alphabet::tables::CODE_POINTS;
 use page::Handing;
 use refusals::Refusal;
 use text::CHARACTERS;
@@ -12,20 +15,6 @@ use text::CHARACTERS;
 pub enum Got {
     Characters(usize),
     Refused(Refusal),
-}
-
-// How many septets are left when the CRs at the end are dropped.
-fn without_crs(septets: &[u8]) -> usize
-    ensures { λ r. ⌜ r ≡ length (trimmed (now (septets .entry))) ⌝ }
-{
-    let mut n = septets.len();
-    while n > 0 {
-        if septets[n - 1] != 0x0D {
-            return n;
-        }
-        n -= 1;
-    }
-    0
 }
 
 fn blank(text: &mut [u16])
@@ -41,13 +30,12 @@ fn blank(text: &mut [u16])
 // Writes the text of some content received, 0 after it, and answers its length.
 fn show(content: &[u8], text: &mut [u16]) -> usize
     requires { ⌜ (length (now content) ≤ 82) × (length (now text) ≡ 93) ⌝ }
-    ensures { λ r. ⌜ readingOf (Got.Characters r) (now (text .exit)) ≡ shownText (trimmed (wholeOf (now (content .entry)))) ⌝ }
+    ensures { λ r. ⌜ readingOf (Got.Characters r) (now (text .exit)) ≡ shownText (shown (wholeOf (now (content .entry)))) ⌝ }
 {
     let whole = content.len() + content.len() / 7;
     let mut septets = [0u8; CHARACTERS];
     packing::unpack(content, &mut septets[..whole]);
-    let n = without_crs(&septets[..whole]);
-    alphabet::code_points(&septets[..n], text);
+    let n = reading::read(&CODE_POINTS, &septets[..whole], text);
     blank(&mut text[n..]);
     n
 }

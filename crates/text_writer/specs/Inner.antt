@@ -2,44 +2,55 @@
 use Prim.Native.Nat.{ℕ, _+_, _*_, _/_, _%_, _^_, _<_, _≤_}
 use mathlib.Core.Path.{_≡_}
 use mathlib.Core.Bool.{Bool, false, cond}
-use mathlib.Core.List.{List, map}
+use mathlib.Core.List.{List, [], _∷_}
 use lib.Dec.{eqb, leb, ltb}
 use lib.ListN.{length, take, set}
 use Rattle.laws.specs.Radix.{Below, value, digits}
 use Rattle.laws.specs.Search.{some}
 use Rattle.alphabet.specs.Inner.{inverse}
-use Rattle.alphabet.specs.Paper.{septetOf}
+use Rattle.alphabet.specs.Paper.{septetOf, noSeptet}
 use Rattle.page.specs.Paper.{Heading}
-use Rattle.text.specs.Paper.{badParameter, foreign}
-use Rattle.text_writer.specs.declared.filling.Filling.{Filling}
+use Rattle.text.specs.Paper.{badParameter, foreign, septetsOf, unpadded}
+use Rattle.text_writer.specs.declared as own
+use own.Found.{Found}
+use own.Found.the-variants.{Foreign, Septets}
+use own.filling.Filling.{Filling}
 
 -- some character is past the table of septets
 abbrev pub past : List ℕ → Bool
 past t = some (leb 938) t
 
--- 01 Order, text writer: 15, 13, 14 and 10 are past, and the table of septets is lent for 11
-pub record Asked (table : List ℕ) (h : Heading) (text page : List ℕ) : Type 0 where
+-- some character has no septet of its own
+abbrev pub odd : List ℕ → Bool
+odd t = some (λ (c : ℕ). eqb (septetOf c) noSeptet) t
+
+-- 02 No. 5: what looking through a text finds
+abbrev pub looked : List ℕ → Found
+looked t = cond (foreign t) Foreign (Septets (length (unpadded t)))
+
+-- 02 No. 5, order of the text writer: 15, 13 and 14 are past, and the table of septets is lent for 11
+pub record Asked (table : List ℕ) (h : Heading) (page : List ℕ) : Type 0 where
   pub lent : table ≡ inverse
   pub room : length page ≡ 88
   pub scheme : ltb 0x0f (h .scheme) ≡ false
   pub parameter : badParameter (h .parameter) ≡ false
-  pub short : length text ≤ 93
 
--- the table, and a text that can be written
-pub record Writable (table text : List ℕ) : Type 0 where
-  pub lent : table ≡ inverse
-  pub short : length text ≤ 93
+-- a text that is in the tables, and how many septets it has
+pub record Known (text : List ℕ) (count : ℕ) : Type 0 where
   pub known : foreign text ≡ false
+  pub counted : count ≡ length (unpadded text)
 
--- the table, a text that can be written, and room for a page
-pub record Paged (table text page : List ℕ) : Type 0 where
-  pub writable : Writable table text
-  pub room : length page ≡ 88
+-- 11 is past too
+pub record Counted (table : List ℕ) (h : Heading) (text : List ℕ) (count : ℕ) (page : List ℕ) : Type 0 where
+  pub asked : Asked table h page
+  pub known : Known text count
 
--- the table, a text that can be written, and room for a page's content
-pub record Packable (table text octets : List ℕ) : Type 0 where
-  pub writable : Writable table text
-  pub room : length octets ≡ 82
+-- the table, and a text that can be written into so much room
+pub record Writable (table : List ℕ) (text : List ℕ) (count size : ℕ) (out : List ℕ) : Type 0 where
+  pub lent : table ≡ inverse
+  pub known : Known text count
+  pub short : count ≤ 93
+  pub room : length out ≡ size
 
 -- what adding a septet leaves: the octet that is being filled, and the octets
 pub record Added : Type 0 where
@@ -76,7 +87,28 @@ pub record Filled (xs : List ℕ) (f : Filling) (o : List ℕ) : Type 0 where
   pub written : take (7 * length xs / 8) o ≡ digits 256 (7 * length xs / 8) (value 128 xs)
   pub room : length o ≡ 82
 
--- what can be padded: a text that isn't too long, all of it packed
-pub record Paddable (text : List ℕ) (f : Filling) (o : List ℕ) : Type 0 where
-  pub short : length text ≤ 93
-  pub filled : Filled (map septetOf text) f o
+-- septets added one after the other
+unfoldable pub addedAll : List ℕ → Filling → List ℕ → Added
+addedAll [] f o = record { filling = f; octets = o }
+addedAll (s ∷ ss) f o = addedAll ss (added f s o .filling) (added f s o .octets)
+
+-- septets that can be added one after the other
+unfoldable pub AddableAll : List ℕ → Filling → List ℕ → Type 0
+AddableAll [] f o = Unit {0}
+AddableAll (s ∷ ss) f o = Addable f s o × AddableAll ss (added f s o .filling) (added f s o .octets)
+
+-- a character in the tables, whose septets can be added
+pub record Spellable (table : List ℕ) (c : ℕ) (f : Filling) (o : List ℕ) : Type 0 where
+  pub lent : table ≡ inverse
+  pub known : foreign (c ∷ []) ≡ false
+  pub addable : AddableAll (septetsOf c) f o
+
+-- the first octet, before anything is added
+abbrev pub unfilled : Filling
+unfilled = record { held = 0; weight = 1; at = 0 }
+
+-- a text in the tables, whose septets can be added from the first octet on
+pub record Textual (table text o : List ℕ) : Type 0 where
+  pub lent : table ≡ inverse
+  pub known : foreign text ≡ false
+  pub addable : AddableAll (unpadded text) unfilled o

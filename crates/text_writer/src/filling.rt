@@ -1,9 +1,9 @@
 // Septets packed low bits first, each as it comes: an octet is written when it is full.
 ghost use mathlib.Core.Path.{_≡_};
-ghost use mathlib.Core.List.{map};
-ghost use Rattle.alphabet.specs.Paper.{septetOf};
-ghost use Rattle.text.specs.Paper.{packed, septets};
-ghost use Rattle.text_writer.specs.Inner.{Addable, Filled, Packable, Paddable, added};
+ghost use Prim.Native.Nat.{_-_};
+ghost use lib.ListN.{replicate};
+ghost use Rattle.text.specs.Paper.{cr, packed, septets, septetsOf, unpadded};
+ghost use Rattle.text_writer.specs.Inner.{Addable, AddableAll, Spellable, Textual, Writable, added, addedAll, unfilled};
 use text::CHARACTERS;
 
 // An octet that is being filled: the bits that it has, what the lowest bit of the next septet counts in it, and its place.
@@ -35,10 +35,24 @@ fn add(filling: Filling, septet: u8, octets: &mut [u8]) -> Filling
     }
 }
 
-// Adds the septet of each character, from the first octet on.
+// Adds the septets of a character: its own, or 1B and that of the extension table.
+fn add_character(table: &[u8; 938], code: u16, filling: Filling, octets: &mut [u8]) -> Filling
+    requires { ⌜ Spellable (now table) code filling (now octets) ⌝ }
+    ensures { λ r. ⌜ record { filling = r; octets = now (octets .exit) } ≡ addedAll (septetsOf code) filling (now (octets .entry)) ⌝ }
+{
+    let own = alphabet::septet_by(table, code);
+    if own < 128 {
+        return add(filling, own, octets);
+    }
+    let begun = add(filling, 0x1B, octets);
+    let paired = alphabet::pair_septet(code);
+    add(begun, paired, octets)
+}
+
+// Adds the septets of each character, from the first octet on.
 fn add_text(table: &[u8; 938], text: &[u16], octets: &mut [u8]) -> Filling
-    requires { ⌜ Packable (now table) (now text) (now octets) ⌝ }
-    ensures { λ r. ⌜ Filled (map septetOf (now (text .entry))) r (now (octets .exit)) ⌝ }
+    requires { ⌜ Textual (now table) (now text) (now octets) ⌝ }
+    ensures { λ r. ⌜ record { filling = r; octets = now (octets .exit) } ≡ addedAll (unpadded (now (text .entry))) unfilled (now (octets .entry)) ⌝ }
 {
     let mut filling = Filling {
         held: 0,
@@ -47,19 +61,19 @@ fn add_text(table: &[u8; 938], text: &[u16], octets: &mut [u8]) -> Filling
     };
     let mut i = 0;
     while i < text.len() {
-        filling = add(filling, table[text[i] as usize], octets);
+        filling = add_character(table, text[i], filling, octets);
         i += 1;
     }
     filling
 }
 
-// Adds the CRs that follow a text.
-fn add_padding(text: &[u16], begun: Filling, octets: &mut [u8]) -> Filling
-    requires { ⌜ Paddable (now text) begun (now octets) ⌝ }
-    ensures { λ r. ⌜ Filled (septets (now (text .entry))) r (now (octets .exit)) ⌝ }
+// Adds the CRs that follow so many septets.
+fn add_padding(count: usize, begun: Filling, octets: &mut [u8]) -> Filling
+    requires { ⌜ AddableAll (replicate (93 - count) cr) begun (now octets) ⌝ }
+    ensures { λ r. ⌜ record { filling = r; octets = now (octets .exit) } ≡ addedAll (replicate (93 - count) cr) begun (now (octets .entry)) ⌝ }
 {
     let mut filling = begun;
-    let mut i = text.len();
+    let mut i = count;
     while i < CHARACTERS {
         filling = add(filling, 0x0D, octets);
         i += 1;
@@ -68,11 +82,11 @@ fn add_padding(text: &[u16], begun: Filling, octets: &mut [u8]) -> Filling
 }
 
 // Packs a text and its padding into 82 octets. The bits of the last octet that no septet has are 0.
-pub(crate) fn pack(table: &[u8; 938], text: &[u16], octets: &mut [u8])
-    requires { ⌜ Packable (now table) (now text) (now octets) ⌝ }
+pub(crate) fn pack(table: &[u8; 938], text: &[u16], count: usize, octets: &mut [u8])
+    requires { ⌜ Writable (now table) (now text) count 82 (now octets) ⌝ }
     ensures { λ _. ⌜ now (octets .exit) ≡ packed (septets (now (text .entry))) ⌝ }
 {
     let begun = add_text(table, text, octets);
-    let padded = add_padding(text, begun, octets);
+    let padded = add_padding(count, begun, octets);
     add(padded, 0, octets);
 }

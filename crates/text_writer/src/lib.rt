@@ -1,13 +1,14 @@
-// Text of the default alphabet written into a page: looked through first, and then packed character by character.
+// Text of the default alphabet and its extension written into a page: looked through first, and then packed character by character.
 mod filling;
 
 ghost use mathlib.Core.Path.{_≡_};
-ghost use mathlib.Core.Bool.{false};
+ghost use mathlib.Core.Bool.{false, not};
+ghost use lib.ListN.{length};
 ghost use Rattle.page.specs.Coded.{headingOf};
 ghost use Rattle.alphabet.specs.Inner.{inverse};
-ghost use Rattle.text.specs.Paper.{badParameter, endsInCr, foreign, pageOctets, writtenPage};
+ghost use Rattle.text.specs.Paper.{badParameter, endsInCr, pageOctets, septetsOf, writtenPage};
 ghost use Rattle.text_writer.specs.Coded.{headingWith, writingOf};
-ghost use Rattle.text_writer.specs.Inner.{Asked, Paged, past};
+ghost use Rattle.text_writer.specs.Inner.{Asked, Counted, Writable, looked, odd, past};
 use alphabet::tables::SEPTETS;
 use page::Header;
 use page::MessageId;
@@ -20,6 +21,12 @@ use text::CHARACTERS;
 pub enum Written {
     Used(usize),
     Refused(Refusal),
+}
+
+// What looking through a text finds: a character that neither table has, or how many septets there are.
+enum Found {
+    Foreign,
+    Septets(usize),
 }
 
 // Whether a page parameter may not be written. A total of 0 is below any page but 0.
@@ -41,15 +48,15 @@ fn ends_in_cr(text: &[u16]) -> bool
     text[text.len() - 1] == 0x0D
 }
 
-// Whether some character has no septet. Where none is past the table, each has an entry.
-fn has_foreign(table: &[u8; 938], text: &[u16]) -> bool
+// Whether every character has a septet of its own. Where none is past the table, each has an entry.
+fn is_plain(table: &[u8; 938], text: &[u16]) -> bool
     requires { ⌜ now table ≡ inverse ⌝ }
-    ensures { λ r. ⌜ r ≡ foreign (now (text .entry)) ⌝ }
+    ensures { λ r. ⌜ r ≡ not (odd (now (text .entry))) ⌝ }
 {
     if has_past(text) {
-        return true;
+        return false;
     }
-    has_none(table, text)
+    !has_none(table, text)
 }
 
 // Whether some character is past the table. The loop has no early way out, so that the compiler can take many at once.
@@ -70,7 +77,7 @@ fn has_past(text: &[u16]) -> bool
 // Whether some character's entry is the mark for none, which is no septet.
 fn has_none(table: &[u8; 938], text: &[u16]) -> bool
     requires { ⌜ (now table ≡ inverse) × (past (now text) ≡ false) ⌝ }
-    ensures { λ r. ⌜ r ≡ foreign (now (text .entry)) ⌝ }
+    ensures { λ r. ⌜ r ≡ odd (now (text .entry)) ⌝ }
 {
     let mut found = false;
     let mut i = 0;
@@ -83,29 +90,90 @@ fn has_none(table: &[u8; 938], text: &[u16]) -> bool
     found
 }
 
+// How many septets a character has: one, two, or none if it is in neither table.
+fn width(table: &[u8; 938], code: u16) -> usize
+    requires { ⌜ now table ≡ inverse ⌝ }
+    ensures { λ r. ⌜ r ≡ length (septetsOf code) ⌝ }
+{
+    if alphabet::septet_by(table, code) < 128 {
+        return 1;
+    }
+    if alphabet::pair_septet(code) < 128 {
+        return 2;
+    }
+    0
+}
+
+// Looks at a text that may have pairs in it, character by character.
+fn look_at_each(table: &[u8; 938], text: &[u16]) -> Found
+    requires { ⌜ now table ≡ inverse ⌝ }
+    ensures { λ r. ⌜ r ≡ looked (now (text .entry)) ⌝ }
+{
+    let mut count = 0;
+    let mut i = 0;
+    while i < text.len() {
+        let n = width(table, text[i]);
+        if n == 0 {
+            return Found::Foreign;
+        }
+        count += n;
+        i += 1;
+    }
+    Found::Septets(count)
+}
+
+// Looks through a text. A plain one, which most are, has a septet for each character.
+fn look(table: &[u8; 938], text: &[u16]) -> Found
+    requires { ⌜ now table ≡ inverse ⌝ }
+    ensures { λ r. ⌜ r ≡ looked (now (text .entry)) ⌝ }
+{
+    if is_plain(table, text) {
+        return Found::Septets(text.len());
+    }
+    look_at_each(table, text)
+}
+
 // Makes a page of a header and a text.
-fn put_page(table: &[u8; 938], heading: Header, text: &[u16], page: &mut [u8])
-    requires { ⌜ Paged (now table) (now text) (now page) ⌝ }
+fn put_page(table: &[u8; 938], heading: Header, text: &[u16], count: usize, page: &mut [u8])
+    requires { ⌜ Writable (now table) (now text) count 88 (now page) ⌝ }
     ensures { λ _. ⌜ now (page .exit) ≡ pageOctets (headingOf heading) (now (text .entry)) ⌝ }
 {
     let head = page::header_octets(heading);
     bytes::copy(&head, page);
-    filling::pack(table, text, &mut page[6..]);
+    filling::pack(table, text, count, &mut page[6..]);
 }
 
-// Writes a page that nothing but its characters can refuse, by the table of septets.
-fn write_by(table: &[u8; 938], heading: Header, text: &[u16], page: &mut [u8]) -> Written
-    requires { ⌜ Asked (now table) (headingOf heading) (now text) (now page) ⌝ }
+// Writes a page of a text that has so many septets, if there are not too many and it does not end in CR.
+fn write_counted(
+    table: &[u8; 938],
+    heading: Header,
+    text: &[u16],
+    count: usize,
+    page: &mut [u8],
+) -> Written
+    requires { ⌜ Counted (now table) (headingOf heading) (now text) count (now page) ⌝ }
     ensures { λ r. ⌜ writingOf r (now (page .exit)) ≡ writtenPage (headingOf heading) (now (text .entry)) (now (page .entry)) ⌝ }
 {
-    if has_foreign(table, text) {
-        return Written::Refused(Refusal::NotInAlphabet);
+    if count > CHARACTERS {
+        return Written::Refused(Refusal::TextLength);
     }
     if ends_in_cr(text) {
         return Written::Refused(Refusal::EndsInCr);
     }
-    put_page(table, heading, text, page);
-    Written::Used(6 + (7 * text.len() + 7) / 8)
+    put_page(table, heading, text, count, page);
+    Written::Used(6 + (7 * count + 7) / 8)
+}
+
+// Writes a page that nothing but its text can refuse, by the table of septets.
+fn write_by(table: &[u8; 938], heading: Header, text: &[u16], page: &mut [u8]) -> Written
+    requires { ⌜ Asked (now table) (headingOf heading) (now page) ⌝ }
+    ensures { λ r. ⌜ writingOf r (now (page .exit)) ≡ writtenPage (headingOf heading) (now (text .entry)) (now (page .entry)) ⌝ }
+{
+    let found = look(table, text);
+    match found {
+        Found::Foreign => Written::Refused(Refusal::NotInAlphabet),
+        Found::Septets(count) => write_counted(table, heading, text, count, page),
+    }
 }
 
 // Writes a page of text, or refuses it and leaves the page as it is.
@@ -127,9 +195,6 @@ pub fn write_text(
     }
     if bad_parameter(parameter) {
         return Written::Refused(Refusal::PageParameter);
-    }
-    if text.len() > CHARACTERS {
-        return Written::Refused(Refusal::TextLength);
     }
     let heading = Header {
         serial,

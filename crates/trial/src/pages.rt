@@ -9,7 +9,7 @@ use page::Serial;
 use text_reader::Got;
 use text_writer::Written;
 
-// The septet that is read as a space, and never written.
+// The septet that makes a pair with the one after it, and is a space by itself.
 const ESCAPE: u8 = 0x1B;
 
 // C: page, received; number, the part handed back.
@@ -73,17 +73,27 @@ pub(crate) fn packing(line: &[u8]) -> usize {
     DIFFERS
 }
 
-// Whether a page is read as the text of septets, and written from it. A text with septet 1B is only read.
+// Whether a page's content is unpacked to septets. Where none of them is 1B, each is also a character, read and written.
 fn is_packing(septets: &[u8; 93], page: &[u8; 88]) -> bool {
+    let mut unpacked = [0u8; 93];
+    packing::unpack(page::content(page, 88), &mut unpacked);
+    if !check::same(&unpacked, septets) {
+        return false;
+    }
+    if bytes::scan::find(septets, 0, 93, ESCAPE) < 93 {
+        return true;
+    }
+    is_text(septets, page)
+}
+
+// Whether a page is read as the text of septets, and written from it.
+fn is_text(septets: &[u8; 93], page: &[u8; 88]) -> bool {
     let mut text = [0u16; 93];
     if read(page, &mut text) != 93 {
         return false;
     }
     if !are_read(septets, &text) {
         return false;
-    }
-    if bytes::scan::find(septets, 0, 93, ESCAPE) < 93 {
-        return true;
     }
     let mut out = [0u8; 88];
     if write(&text, &mut out) != 88 {

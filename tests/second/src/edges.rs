@@ -3,6 +3,7 @@
 use crate::bad_entries;
 use crate::blocks::{BLOCK, FILL, MESSAGE};
 use crate::case::{Case, Entry};
+use crate::extension;
 use crate::intake::STATE;
 use crate::invent::CARRIED;
 use crate::late_faults;
@@ -16,6 +17,11 @@ use crate::zero_parameter;
 
 /// The edge cases of an entry.
 pub fn cases(entry: Entry) -> Vec<Case> {
+    [but_for_extension(entry), extension::cases(entry)].concat()
+}
+
+/// The edge cases of an entry but for those of document 02's No. 5, which are stored in files of their own.
+pub fn but_for_extension(entry: Entry) -> Vec<Case> {
     match entry {
         Entry::Start => vec![Case::new(entry, &[], &[&[0; STATE]], &[]), Case::new(entry, &[], &[&[]], &[])],
         Entry::Intake => intake(),

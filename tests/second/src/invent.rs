@@ -10,7 +10,7 @@ use crate::schedule::{read_schedule, Description, Told, DESCRIPTIONS, SLOTS};
 use crate::sender::lay;
 use crate::several_pages::{self, collecting, from_start, holding, littered, parameter, started, Message, Sent};
 use crate::side::LENT;
-use crate::text::{ALPHABET, CHARACTERS};
+use crate::text::{pack, septet_after_escape, ALPHABET, CHARACTERS, ESCAPE, EXTENSION, HEADER, SEPTETS};
 use crate::zero_parameter::{by_octets, Plans};
 
 /// Octets of the state and of the output that an intake case carries: more than are lent to a sound call.
@@ -105,8 +105,8 @@ pub fn faults(entry: Entry) -> Vec<(u8, Fault)> {
             (15, Fault::Length(4, MESSAGE)),
             (13, Fault::Scheme),
             (14, Fault::Parameter),
-            (10, Fault::TextLength),
             (11, Fault::NotInAlphabet),
+            (10, Fault::TextLength),
             (12, Fault::EndsInCr),
         ],
         Entry::ReadText => vec![
@@ -151,7 +151,17 @@ pub fn faults(entry: Entry) -> Vec<(u8, Fault)> {
     }
 }
 
-/// Puts faults into a case, the last refused first, so that the one refused first stands.
+/// The faults of an entry in the order in which random numbers choose among them: that of refusals, but for 10, which stays
+/// before 11 as in document 01, so that cases stored before document 02's No. 5 stay what they were. // 01 Order
+pub fn choices(entry: Entry) -> Vec<Fault> {
+    let mut choices: Vec<Fault> = faults(entry).into_iter().map(|(_, fault)| fault).collect();
+    if let Some(at) = choices.iter().position(|&fault| fault == Fault::TextLength) {
+        choices.swap(at - 1, at);
+    }
+    choices
+}
+
+/// Puts faults into a case, the last refused first, so that the one refused first stands; 10 and 11 stand in either order.
 pub fn put(case: &mut Case, faults: &[Fault], random: &mut Random) {
     for &fault in faults.iter().rev() {
         put_one(case, fault, random);
@@ -203,7 +213,7 @@ fn put_one(case: &mut Case, fault: Fault, random: &mut Random) {
 
 const NOT_RECEIVED: [u64; 13] = [0, 1, 21, 23, 43, 45, 65, 67, 87, 89, 110, 256 + 22, (1 << 32) + 88];
 const OTHER_SCHEMES: [u8; 6] = [0x10, 0x11, 0x40, 0x80, 0xF0, 0xFF];
-const FOREIGN: [u16; 11] = [0, 0x1B, 0x5B, 0x60, 0x7F, 0xA0, 0xE7, 0x3AA, 0x391, 0x20AC, 0xFFFF];
+const FOREIGN: [u16; 11] = [0, 0x1B, 0x09, 0x60, 0x7F, 0xA0, 0xE7, 0x3AA, 0x391, 0x20AD, 0xFFFF];
 
 /// A length other than the right one, mostly near it, or like it in its low octet.
 fn other_length(random: &mut Random, not: usize) -> usize {
@@ -314,10 +324,19 @@ fn put_not_next(case: &mut Case, random: &mut Random) {
     put_type(case, 0x0F, if next == 2 { random.pick(&[1, 3]) } else { 2 });
 }
 
-/// Over 93 characters, with the same at the end as before.
+/// Over 93 septets, with the same at the end as before: more characters or, where some take two septets, more of such in
+/// front, mostly only as many as it takes. // 02 No. 5
 fn put_long_text(text: &mut Vec<u16>, random: &mut Random) {
-    let last = text.last().copied().unwrap_or(0x41);
-    text.resize(random.pick(&[94, 95, 96, 186]), last);
+    let pairs = text.iter().filter(|&&point| septet_after_escape(point).is_some()).count();
+    if pairs == 0 {
+        let last = text.last().copied().unwrap_or(0x41);
+        text.resize(random.pick(&[94, 95, 96, 186]), last);
+        return;
+    }
+    let enough = (SEPTETS + 2).saturating_sub(text.len() + pairs) / 2;
+    let more = random.pick(&[enough, enough, enough, enough + 1, 94, 300]);
+    let front: Vec<u16> = (0..more).map(|_| random.pick(&EXTENSION).1).collect();
+    text.splice(0..0, front);
 }
 
 /// A character that isn't in the alphabet, elsewhere than at the end.
@@ -673,7 +692,7 @@ fn some_written_page(random: &mut Random) -> Vec<u8> {
     match random.below(3) {
         0 => {
             let text = some_septets(random);
-            crate::text::pack(&text, &mut page[6..]);
+            pack(&text, &mut page[HEADER..]);
         }
         1 => page[82..].fill(0x1A),
         _ => {}
@@ -702,6 +721,103 @@ fn some_text(random: &mut Random) -> Vec<u16> {
         text.pop();
     }
     text
+}
+
+/// A text that the writer takes, with characters of the extension table: few of them, many or no others; often as many
+/// septets as there is room for. // 02 No. 5
+fn some_paired_text(random: &mut Random) -> Vec<u16> {
+    let any = random.below(SEPTETS + 1);
+    let mut room = random.pick(&[SEPTETS, SEPTETS, SEPTETS - 1, any, any, any]);
+    let seldom = random.pick(&[1, 1, 2, 2, 4, 16, 64]);
+    let mut text = Vec::new();
+    while room > 0 {
+        let pair = room > 1 && random.once_in(seldom);
+        text.push(some_character(random, pair));
+        room -= if pair { 2 } else { 1 };
+    }
+    while text.last() == Some(&0x0D) {
+        text.pop();
+    }
+    text
+}
+
+/// A character of the alphabet, or of the extension table.
+fn some_character(random: &mut Random, pair: bool) -> u16 {
+    if pair {
+        random.pick(&EXTENSION).1
+    } else {
+        ALPHABET[random.below(128)]
+    }
+}
+
+/// A text of more septets than there is room for, or almost; some end in CR, and some have a foreign character, often as
+/// the last. // 02 No. 5
+fn some_long_text(random: &mut Random) -> Vec<u16> {
+    let seldom = random.pick(&[1, 2, 8, 64]);
+    let length = random.pick(&[45, 60, 92, 128, 256, 300]) + random.below(32);
+    let mut text: Vec<u16> = Vec::new();
+    while text.len() < length {
+        let pair = random.once_in(seldom);
+        text.push(some_character(random, pair));
+    }
+    if random.once_in(3) {
+        text[length - 1] = 0x0D;
+    }
+    if random.once_in(3) {
+        let any = random.below(length);
+        text[random.pick(&[any, length - 1])] = random.pick(&FOREIGN);
+    }
+    text
+}
+
+/// Now and then a long text in place of a text, or in it a character that differs from a listed one in one bit.
+fn spoil_text(text: &mut Vec<u16>, random: &mut Random) {
+    match random.below(16) {
+        0 | 1 => *text = some_long_text(random),
+        2 if !text.is_empty() => {
+            let at = random.below(text.len());
+            text[at] = random.pick(&EXTENSION).1 ^ 1 << random.below(16);
+        }
+        _ => {}
+    }
+}
+
+/// Septets with many 1B among them: before listed septets, before CR, before each other and before any. // 02 No. 5
+fn some_escapes(random: &mut Random) -> Vec<u8> {
+    let seldom = random.pick(&[1, 2, 2, 4, 16]);
+    let mut septets = Vec::new();
+    while septets.len() < SEPTETS {
+        if random.once_in(seldom) {
+            septets.push(ESCAPE);
+        }
+        let (listed, any) = (random.pick(&EXTENSION).0, random.octet() & 0x7F);
+        septets.push(random.pick(&[listed, listed, listed, ESCAPE, 0x0D, any, any, any]));
+    }
+    septets.truncate(SEPTETS);
+    septets
+}
+
+/// A reading of such septets: often what is received ends in 1B, and often in CRs with 1B before some of them. // 02 No. 5
+fn paired_reading(random: &mut Random) -> Case {
+    let received = random.pick(&[22, 44, 66, 88]);
+    let whole = 8 * (received - HEADER) / 7;
+    let mut septets = some_escapes(random);
+    if random.once_in(2) {
+        let crs = random.below(whole);
+        septets[crs..whole].fill(0x0D);
+        for _ in 0..random.below(4) {
+            septets[random.within(crs, whole - 1)] = ESCAPE;
+        }
+    }
+    if random.once_in(4) {
+        septets[whole - 1] = ESCAPE;
+    }
+    let mut page = random.octets(MESSAGE);
+    page[4] &= 0x0F;
+    let spare = random.pick(&[0x00, 0x00, 0xF8]); // the bits past the last septet
+    pack(&septets, &mut page[HEADER..]);
+    page[MESSAGE - 1] |= spare;
+    Case::new(Entry::ReadText, &[received as u64, CHARACTERS as u64], &[&page], &[])
 }
 
 fn some_parameter(random: &mut Random) -> u64 {
@@ -1192,12 +1308,24 @@ pub fn formed(entry: Entry, random: &mut Random, most: usize) -> Case {
     }
 }
 
-/// Any case: of an entry that takes plans, every other one has pages in several forms.
+/// A case that isn't refused with characters of the extension table, of an entry that writes or reads text; one of another
+/// entry is as others. // 02 No. 5
+pub fn paired(entry: Entry, random: &mut Random, most: usize) -> Case {
+    match entry {
+        Entry::WriteText => Case { words: some_paired_text(random), ..sound(entry, random, most) },
+        Entry::ReadText => paired_reading(random),
+        _ => near(entry, random, most),
+    }
+}
+
+/// Any case: of an entry that takes plans, every other one has pages in several forms, and of one that writes or reads
+/// text, characters of the extension table.
 pub fn any(entry: Entry, random: &mut Random, most: usize) -> Case {
     match entry {
         Entry::ReadPlan | Entry::WriteSchedule | Entry::CheckSchedule if random.once_in(2) => {
             any_formed(entry, random, most)
         }
+        Entry::WriteText | Entry::ReadText if random.once_in(2) => any_paired(entry, random, most),
         _ => any_plain(entry, random, most),
     }
 }
@@ -1220,6 +1348,15 @@ fn any_formed(entry: Entry, random: &mut Random, most: usize) -> Case {
     spoilt(case, random)
 }
 
+/// Any case with characters of the extension table: as it is made, with one fault or several, damaged, or wild.
+pub fn any_paired(entry: Entry, random: &mut Random, most: usize) -> Case {
+    let mut case = paired(entry, random, most);
+    if entry == Entry::WriteText {
+        spoil_text(&mut case.words, random);
+    }
+    spoilt(case, random)
+}
+
 /// A case as it is, or with faults, damaged or wild.
 fn spoilt(mut case: Case, random: &mut Random) -> Case {
     let entry = case.entry;
@@ -1234,14 +1371,14 @@ fn spoilt(mut case: Case, random: &mut Random) -> Case {
     case
 }
 
-/// A few of an entry's faults, in their order.
+/// A few of an entry's faults, in the order of `choices`.
 fn some_faults(entry: Entry, random: &mut Random, most: usize) -> Vec<Fault> {
-    let all = faults(entry);
+    let all = choices(entry);
     let count = random.within(1, most);
     let mut at: Vec<usize> = (0..count).map(|_| random.below(all.len())).collect();
     at.sort_unstable();
     at.dedup();
-    at.into_iter().map(|at| all[at].1).collect()
+    at.into_iter().map(|at| all[at]).collect()
 }
 
 /// Changes a few octets, lengths, 16-bit numbers and numbers.

@@ -5,8 +5,8 @@ use crate::blocks::MESSAGE;
 use crate::case::{Case, Entry};
 use crate::text::{ALPHABET, CHARACTERS};
 
-const UNLISTED: [u16; 4] = [0x0000, 0x0009, 0x001B, 0x005B]; // not in the alphabet, below its highest code point
-const PAST: [u16; 3] = [0x03AA, 0x20AC, 0xFFFF]; // above it
+const UNLISTED: [u16; 4] = [0x0000, 0x0009, 0x001B, 0x0060]; // in neither table, below the alphabet's highest code point
+const PAST: [u16; 3] = [0x03AA, 0x20AD, 0xFFFF]; // above it, and not the euro sign
 const CR: u16 = 0x0D;
 const BITS: [[usize; 2]; 5] = [[0x7F, 0x7F], [0x00, 0x00], [0x7F, 0x00], [0x00, 0x7F], [0x55, 0x2A]]; // septets in turn
 

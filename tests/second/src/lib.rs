@@ -1,4 +1,4 @@
-//! A second implementation of the base of document 01 and of document 02's Nos. 1 to 3, written from the documents
+//! A second implementation of the base of document 01 and of document 02's Nos. 1 to 3 and 5, written from the documents
 //! alone.
 
 pub mod bad_entries;
@@ -9,6 +9,7 @@ pub mod collector;
 pub mod compare;
 pub mod decision;
 pub mod edges;
+pub mod extension;
 pub mod intake;
 pub mod invent;
 pub mod late_faults;

@@ -8,7 +8,10 @@ use crate::blocks::MESSAGE;
 use crate::case::{self, hex, hex_slots, hex_words, Case, Entry, ENTRIES};
 use crate::collector::COLLECTOR;
 use crate::edges;
-use crate::invent::{any, any_plain, collecting_sequence, faults, formed, put, sequence, sound_by, Fault};
+use crate::extension;
+use crate::invent::{
+    any, any_paired, any_plain, choices, collecting_sequence, formed, paired, put, sequence, sound_by, Fault,
+};
 use crate::random::Random;
 use crate::schedule::{read_schedule, SLOTS};
 use crate::several_pages::{collecting, Sent};
@@ -42,6 +45,8 @@ pub fn files() -> Vec<(&'static str, Vec<String>)> {
         ("intake.txt", [lines(Entry::Start, 6), lines(Entry::Intake, 60), sequences(80)].concat()),
         ("text.txt", lines(Entry::WriteText, 100)),
         ("text_read.txt", lines(Entry::ReadText, 100)),
+        ("text_pairs.txt", paired_lines(Entry::WriteText, 150)),
+        ("text_pairs_read.txt", paired_lines(Entry::ReadText, 80)),
         ("content.txt", lines(Entry::Content, 30)),
         ("schedule.txt", [lines(Entry::ReadSchedule, 200), lines(Entry::Description, 60)].concat()),
         ("plan.txt", lines(Entry::ReadPlan, 120)),
@@ -59,7 +64,7 @@ pub fn files() -> Vec<(&'static str, Vec<String>)> {
 /// given doesn't hang on which pages are the same.
 fn lines_of(entry: Entry, random_cases: usize) -> Vec<String> {
     let mut random = Random::new(SEED ^ entry as u64);
-    let mut cases = edges::cases(entry);
+    let mut cases = edges::but_for_extension(entry);
     for faults in fault_sets(entry) {
         let mut case = sound_by(entry, &mut random, SLOTS_MOST, by_octets);
         put(&mut case, &faults, &mut random);
@@ -73,6 +78,20 @@ fn lines_of(entry: Entry, random_cases: usize) -> Vec<String> {
 fn formed_lines(entry: Entry, count: usize) -> Vec<String> {
     let mut random = Random::new(!SEED ^ entry as u64);
     (0..count).map(|round| line(&any_call(formed, entry, &mut random, most_slots(round)))).collect()
+}
+
+/// The edges of characters of the extension table, and cases with such: each fault, each pair of faults, and as many random
+/// ones. // 02 No. 5
+fn paired_lines(entry: Entry, random_cases: usize) -> Vec<String> {
+    let mut random = Random::new(!SEED ^ entry as u64);
+    let mut cases = extension::cases(entry);
+    for faults in fault_sets(entry) {
+        let mut case = paired(entry, &mut random, SLOTS_MOST);
+        put(&mut case, &faults, &mut random);
+        cases.push(case);
+    }
+    cases.extend((0..random_cases).map(|_| any_call(any_paired, entry, &mut random, SLOTS_MOST)));
+    cases.iter().map(line).collect()
 }
 
 /// Every tenth random case has up to 48 slots.
@@ -106,9 +125,9 @@ pub fn lines(to: &mut impl io::Write, seed: u64, time: Duration) -> io::Result<(
     to.flush()
 }
 
-/// Each fault three times, and each pair of faults once, in the order of refusals.
+/// Each fault three times, and each pair of faults once.
 pub fn fault_sets(entry: Entry) -> Vec<Vec<Fault>> {
-    let all: Vec<Fault> = faults(entry).into_iter().map(|(_, fault)| fault).collect();
+    let all = choices(entry);
     let mut sets = Vec::new();
     for (at, &fault) in all.iter().enumerate() {
         sets.extend(vec![vec![fault]; 3]);

@@ -1,14 +1,16 @@
-//! A page of 88 octets: its header, and text in the default alphabet written to it and read back.
+//! A page of 88 octets: its header, and text in the default alphabet and its extension table, written to it and read back.
 
 use crate::blocks::{is_received, MESSAGE};
 use crate::refusal::Refusal;
 
-pub const CHARACTERS: usize = 93; // 01 Page and text
+pub const CHARACTERS: usize = 93; // 01 Page and text: code points that the reader writes
+pub const SEPTETS: usize = 93; // 01 Page and text: septets of a page
 pub const HEADER: usize = 6; // 002 9.3.2
+pub const ESCAPE: u8 = 0x1B; // 02 No. 5
 
 const CR: u8 = 0x0D;
 const CR_POINT: u16 = 0x0D;
-const ESCAPE: usize = 0x1B;
+const SPACE: u16 = 0x20;
 
 /// The default alphabet of GSM 03.38 by septet; 1B reads as a space. // 01 Page and text
 #[rustfmt::skip]
@@ -31,10 +33,28 @@ pub const ALPHABET: [u16; 128] = [
     0x0078, 0x0079, 0x007A, 0x00E4, 0x00F6, 0x00F1, 0x00FC, 0x00E0,
 ];
 
-/// The septet of a code point; 1B is never written. // 01 Page and text
+/// The default extension table of GSM 03.38: a septet after 1B, and the code point of the two. // 02 No. 5
+pub const EXTENSION: [(u8, u16); 10] = [
+    (0x0A, 0x000C), // form feed
+    (0x14, 0x005E), // ^
+    (0x28, 0x007B), // {
+    (0x29, 0x007D), // }
+    (0x2F, 0x005C), // \
+    (0x3C, 0x005B), // [
+    (0x3D, 0x007E), // ~
+    (0x3E, 0x005D), // ]
+    (0x40, 0x007C), // |
+    (0x65, 0x20AC), // euro sign
+];
+
+/// The septet of a code point in the default alphabet; 1B is no character's. // 01 Page and text
 pub fn septet(point: u16) -> Option<u8> {
-    let at = (0..128).find(|&at| at != ESCAPE && ALPHABET[at] == point)?;
-    Some(at as u8)
+    (0..128).find(|&septet| septet != ESCAPE && ALPHABET[septet as usize] == point)
+}
+
+/// The septet that makes a code point after 1B. // 02 No. 5
+pub fn septet_after_escape(point: u16) -> Option<u8> {
+    EXTENSION.iter().find(|&&(_, listed)| listed == point).map(|&(septet, _)| septet)
 }
 
 /// A page's header as it is written and read. // 002 9.3.2
@@ -46,7 +66,7 @@ pub struct Header {
     pub parameter: u8,
 }
 
-/// Writes a page and gives its used octets; refuses by 15, 13, 14, 10, 11, 12 in this order. // 01 Order
+/// Writes a page and gives its used octets; refuses by 15, 13, 14, 11, 10, 12 in this order. // 02 No. 5
 pub fn write_text(header: Header, text: &[u16], page: &mut [u8]) -> Result<usize, Refusal> {
     if page.len() != MESSAGE {
         return Err(Refusal::OutputLength);
@@ -57,13 +77,15 @@ pub fn write_text(header: Header, text: &[u16], page: &mut [u8]) -> Result<usize
     if !good_parameter(header.parameter) {
         return Err(Refusal::Parameter);
     }
-    let septets = septets_of(text)?;
+    let mut septets = septets_of(text)?;
+    let used = HEADER + (7 * septets.len()).div_ceil(8); // 02 No. 5
+    septets.resize(SEPTETS, CR);
     page[0..2].copy_from_slice(&header.serial.to_be_bytes());
     page[2..4].copy_from_slice(&header.identifier.to_be_bytes());
     page[4] = header.scheme;
     page[5] = header.parameter;
     pack(&septets, &mut page[HEADER..]);
-    Ok(HEADER + (7 * text.len()).div_ceil(8))
+    Ok(used)
 }
 
 /// Reads the header, whatever stands in it; refuses by 16. // 002 9.3.2
@@ -85,14 +107,18 @@ fn good_parameter(parameter: u8) -> bool {
     page != 0 && total != 0 && page <= total
 }
 
-/// The 93 septets of a text, padded with CR; refuses by 10, 11, 12. // 01 Page and text
-fn septets_of(text: &[u16]) -> Result<[u8; CHARACTERS], Refusal> {
-    if text.len() > CHARACTERS {
-        return Err(Refusal::TextLength);
+/// The septets of a text; refuses by 11, 10, 12. // 02 No. 5
+fn septets_of(text: &[u16]) -> Result<Vec<u8>, Refusal> {
+    let mut septets = Vec::new();
+    for &point in text {
+        match (septet(point), septet_after_escape(point)) {
+            (Some(septet), _) => septets.push(septet),
+            (None, Some(septet)) => septets.extend([ESCAPE, septet]),
+            (None, None) => return Err(Refusal::NotInAlphabet),
+        }
     }
-    let mut septets = [CR; CHARACTERS];
-    for (place, &point) in septets.iter_mut().zip(text) {
-        *place = septet(point).ok_or(Refusal::NotInAlphabet)?;
+    if septets.len() > SEPTETS {
+        return Err(Refusal::TextLength);
     }
     if text.last() == Some(&CR_POINT) {
         return Err(Refusal::EndsInCr);
@@ -126,13 +152,50 @@ pub fn read_text(page: &[u8], received: usize, text: &mut [u16]) -> Result<usize
     if page[4] > 0x0F {
         return Err(Refusal::Scheme);
     }
-    let septets = unpack(part);
-    let count = septets.iter().rposition(|&s| s != CR).map_or(0, |last| last + 1);
+    let characters = characters(&unpack(part));
+    let count = characters.iter().rposition(|character| !character.is_dropped_at_end()).map_or(0, |last| last + 1);
     text.fill(0);
-    for (point, &septet) in text.iter_mut().zip(&septets[..count]) {
-        *point = ALPHABET[septet as usize];
+    for (point, character) in text.iter_mut().zip(&characters[..count]) {
+        *point = character.point;
     }
     Ok(count)
+}
+
+/// A character read, and whether it came after 1B.
+struct Character {
+    point: u16,
+    escaped: bool,
+}
+
+impl Character {
+    /// Whether it is a CR that wasn't escaped. // 02 No. 5
+    fn is_dropped_at_end(&self) -> bool {
+        self.point == CR_POINT && !self.escaped
+    }
+}
+
+/// The characters of the whole septets received. // 02 No. 5
+fn characters(septets: &[u8]) -> Vec<Character> {
+    let mut septets = septets.iter().copied();
+    let mut characters = Vec::new();
+    while let Some(septet) = septets.next() {
+        characters.push(match septet {
+            ESCAPE => Character { point: after_escape(septets.next()), escaped: true },
+            _ => Character { point: ALPHABET[septet as usize], escaped: false },
+        });
+    }
+    characters
+}
+
+/// The code point of 1B and the septet after it, if one was received. // 02 No. 5
+fn after_escape(septet: Option<u8>) -> u16 {
+    match septet {
+        None | Some(ESCAPE) => SPACE,
+        Some(septet) => {
+            let listed = EXTENSION.iter().find(|&&(listed, _)| listed == septet);
+            listed.map_or(ALPHABET[septet as usize], |&(_, point)| point)
+        }
+    }
 }
 
 /// The received part of a page's content, octets 7 to the last received; refuses by 16, 18. // 01 Page and text

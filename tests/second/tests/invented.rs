@@ -7,7 +7,7 @@ use std::time::Duration;
 use second::case::{octets, Case, Entry, ENTRIES};
 use second::collector::{is_proper, place_of, COLLECTOR};
 use second::compare::{compare, differ};
-use second::invent::{any, faults, put, sound};
+use second::invent::{any, faults, paired, put, sound};
 use second::random::Random;
 use second::refusal::number_of;
 use second::schedule::{read_schedule, SLOTS};
@@ -21,12 +21,21 @@ fn number(case: &Case) -> u8 {
     run(case, &Ours).returned[0] as u8
 }
 
+/// Invents a case that isn't refused, with so many slots at most.
+type Invent = fn(Entry, &mut Random, usize) -> Case;
+
+/// Each entry with what invents its cases; those of text twice, the second time with the extension table.
+fn inventing() -> Vec<(Entry, Invent)> {
+    let all = ENTRIES.into_iter().map(|entry| (entry, sound as Invent));
+    all.chain([Entry::WriteText, Entry::ReadText].map(|entry| (entry, paired as Invent))).collect()
+}
+
 #[test]
 fn sound_cases_are_not_refused() {
     let mut random = Random::new(1);
-    for entry in ENTRIES {
+    for (entry, invent) in inventing() {
         for _ in 0..500 {
-            let case = sound(entry, &mut random, 48);
+            let case = invent(entry, &mut random, 48);
             let given = number(&case);
             let fine = match entry {
                 Entry::Enter => read_schedule(&case.lists[0], case.number(1)).is_ok(),
@@ -43,13 +52,13 @@ fn sound_cases_are_not_refused() {
 #[test]
 fn the_first_fault_refuses() {
     let mut random = Random::new(2);
-    for entry in ENTRIES {
+    for (entry, invent) in inventing() {
         let all = faults(entry);
         for (at, &(expected, first)) in all.iter().enumerate() {
             let pairs = all[at + 1..].iter().map(|&(_, later)| vec![first, later]);
             for set in pairs.chain([vec![first]]) {
                 for _ in 0..20 {
-                    let mut case = sound(entry, &mut random, 6);
+                    let mut case = invent(entry, &mut random, 6);
                     put(&mut case, &set, &mut random);
                     let given = if entry == Entry::Enter { entering(&case) } else { number(&case) };
                     assert_eq!(given, expected, "{set:?}: {}", case.text());

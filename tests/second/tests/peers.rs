@@ -1,4 +1,5 @@
-//! Results that other people's programs confirm, in `crates/trial/data/peers.txt` and `peers_messages.txt`.
+//! Results that other people's programs confirm, in `crates/trial/data/peers.txt`, `peers_messages.txt` and
+//! `peers_extension.txt`.
 
 use second::case::{hex, octets, words};
 use second::intake::STATE;
@@ -8,6 +9,7 @@ use second::text::{pack, read_text, septet, unpack, ALPHABET, CHARACTERS};
 
 const PEERS: &str = include_str!("../../../crates/trial/data/peers.txt");
 const MESSAGES: &str = include_str!("../../../crates/trial/data/peers_messages.txt");
+const EXTENSION: &str = include_str!("../../../crates/trial/data/peers_extension.txt");
 
 fn list(field: &str) -> Vec<u8> {
     octets(field.trim_matches('-')).unwrap()
@@ -72,4 +74,14 @@ fn all_agree_on_messages_of_several_pages() {
     for message in messages {
         assert_eq!(row_line(&row(message).expect("pages in a row")), message);
     }
+}
+
+#[test]
+fn all_agree_on_the_extension_table() {
+    let results: Vec<&str> = EXTENSION.lines().filter(|line| !line.starts_with('#')).collect();
+    for result in &results {
+        assert_eq!(line(&case_of(result).expect("a call")), *result);
+    }
+    let texts = results.iter().filter(|line| line.starts_with("T ")).count();
+    assert_eq!((results.len(), texts), (308, 89));
 }

@@ -1,13 +1,15 @@
 -- `alphabet::septet` meets its contract: its constant is computed to list what each code point is found as.
-use Rattle.laws.proofs.Base.{refl, needs}
+use Rattle.laws.proofs.Base.{refl, _∙_, needs}
 use Rattle.alphabet.specs.Paper.{alphabet, septetOf}
-use Rattle.alphabet.proofs.septet as own
-use own.Statement.{statement}
-use own.Tie as tie
+use Rattle.alphabet.specs.Inner.{inverse}
+use Rattle.alphabet.proofs as own
+use own.Laws.{septet-by}
+use own.septet.Statement.{statement}
+use own.septet.Tie as tie
 
-septet-by-requires : tie.Need-septet-by-requires
+returns : tie.Need-returns
 unfolding septetOf alphabet
-septet-by-requires c κs = refl
+returns c = c .septet-by .ensures ∙ septet-by inverse (c .before .before .args .code) refl
 
 pub septet-spec : {M : Type 1} → statement M
-septet-spec = tie.close (tie.spec septet-by-requires (search needs))
+septet-spec = tie.close (tie.spec (search needs) returns)

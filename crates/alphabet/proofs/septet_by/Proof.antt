@@ -1,13 +1,14 @@
--- `alphabet::septet_by` meets its contract: the table lent lists what each code point is found as.
-use Rattle.laws.proofs.Base.{sym, arith, needs}
-use Rattle.alphabet.proofs as own
-use own.Laws.{entry, past-table}
-use own.septet_by.Statement.{statement}
-use own.septet_by.Tie as tie
+-- `alphabet::septet_by` meets its contract: the test decides that of `septetBy`.
+use Rattle.laws.proofs.Base.{_≤_, arith, needs, lt-ltb, le-ltb}
+use Rattle.alphabet.proofs.septet_by as own
+use own.Statement.{statement}
+use own.Tie as tie
+
+returns : tie.Need-returns
+returns c = rw (lt-ltb _ _ (c .before .if1 .taken))
+
+returns-2 : tie.Need-returns-2
+returns-2 c = let past : 938 ≤ c .before .args .code = omega (arith, c .if1 .left) in rw (le-ltb _ _ past)
 
 pub septet-by-spec : {M : Type 1} → statement M
-septet-by-spec =
-    tie.close
-    (tie.spec
-    (search needs) (λ c. entry _ _ (c .before .before .pre) (omega (arith, c .before .if1 .taken)))
-    (λ c. sym (past-table (c .before .args .code) (omega (arith, c .if1 .left)))))
+septet-by-spec = tie.close (tie.spec (search needs) returns returns-2)

@@ -7,7 +7,7 @@ use Rattle.sizes.proofs.Received.{whole-bounds}
 use Rattle.page.specs.Paper.{Part}
 use Rattle.page.specs.Coded.{numberOfHanding, partOf}
 use Rattle.page.proofs.Received.{handed-content}
-use Rattle.text.specs.Paper.{wholeOf, trimmed, shownText, reading}
+use Rattle.text.specs.Paper.{wholeOf, shown, shownText, reading}
 use Rattle.text.proofs.Cases.{reading-13, reading-0, reading-refused, handed-right}
 use Rattle.text_reader.proofs.read_text as own
 use own.Statement.{statement}
@@ -71,7 +71,7 @@ returns-4 c =
     let e = d .before .before .before in
     let b = first e in
     c .before .before .show .ensures
-    ∙ ap (λ (o : List ℕ). shownText (trimmed (wholeOf o))) (handed-back d)
+    ∙ ap (λ (o : List ℕ). shownText (shown (wholeOf o))) (handed-back d)
     ∙ sym (reading-0 (page b) (received b) (text b) (b .if1 .left) (right e .0) (right e .1) (d .before .if2 .left))
 
 pub read-text-spec : {M : Type 1} → statement M

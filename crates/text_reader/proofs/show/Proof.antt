@@ -1,13 +1,13 @@
--- `text_reader::show` meets its contract: the array holds the whole septets, and what is left of them is shown.
-use Rattle.laws.proofs.Base.{_≡_, sym, ap, _∙_, List, _++_, ℕ, _+_, _*_, _/_, _≤_, arith, needs, now, length, take, drop, replicate, length-append, take-at, length-take-le}
+-- `text_reader::show` meets its contract: the array holds the whole septets, and what they are read as is shown.
+use Rattle.laws.proofs.Base.{_≡_, refl, sym, ap, subst, _∙_, List, _++_, ℕ, _+_, _*_, _/_, _≤_, arith, needs, now, length, take, drop, replicate, length-append, take-at, length-take-le}
 use Rattle.laws.specs.Radix.{value, digits}
-use Rattle.laws.specs.Table.{onto}
-use Rattle.alphabet.specs.Paper.{codePoint}
+use Rattle.alphabet.specs.Paper.{alphabet}
 use Rattle.packing.proofs.Others.{unpacked-into}
-use Rattle.text.specs.Paper.{wholeOf, trimmed, shownText}
-use Rattle.text.proofs.Trim.{trim-length}
+use Rattle.text.specs.Paper.{wholeOf, shown, shownText}
+use Rattle.text.proofs.Septets.{shown-few}
+use Rattle.text_reader.specs.Inner.{Read}
 use Rattle.text_reader.proofs as own
-use own.Shown.{left-count, left-front, shown-made}
+use own.Shown.{shown-made}
 use own.show.Statement.{statement}
 use own.show.Tie as tie
 
@@ -46,51 +46,45 @@ module _ (u : tie.After-unpack) where
       let e : length o + length o / 7 ≡ 8 * length o / 7 = omega arith in
       u .unpack .ensures ∙ (unpacked-into o (take (whole start) zeros) (room start) ∙ ap (λ (n : ℕ). digits 128 n (value 256 o)) (room start ∙ e))
 
-slice-aggregate-without-crs : tie.Need-slice-aggregate-without-crs
-slice-aggregate-without-crs c =
-    let u = c .before .before in
-    sym (ap length (take-at (unpacked u) (rest u) (whole (start u)) (unpacked-length u)) ∙ unpacked-length u)
+  -- what is lent to be read is the septets
+  lent-part : take (whole start) (unpacked ++ rest) ≡ unpacked
+  lent-part = take-at unpacked rest (whole start) unpacked-length
 
--- how many septets are left, and which
-module _ (c : tie.After-without-crs) where
+read-requires : tie.Need-read-requires
+unfolding alphabet
+read-requires c κs =
+    let u = c .before .before .before .before in
+    record {
+      lent = refl;
+      room = rw (lent-part u, unpacked-length u) (omega (arith, start u .pre .0, start u .pre .1));
+    }
+
+-- what was read, and how much
+module _ (r : tie.After-read) where
   abbrev back : tie.After-unpack
-  back = c .before .before .before
+  back = r .before .before .before .before .before
 
-  abbrev left : ℕ
-  left = c .without-crs .result
+  reads : Read (unpacked back) (r .read .result) (r .read .last .1 .1 .0)
+  reads = subst (λ (l : List ℕ). Read l (r .read .result) (r .read .last .1 .1 .0)) (lent-part back) (r .read .ensures)
 
-  count : left ≡ length (trimmed (unpacked back))
-  count = left-count (unpacked back) (rest back) (whole (start back)) left (unpacked-length back) (c .without-crs .ensures)
+  few : length (shown (unpacked back)) ≤ 93
+  few = omega (arith, shown-few (unpacked back), unpacked-length back, start back .pre .0)
 
-  front : take left (unpacked back ++ rest back) ≡ trimmed (unpacked back)
-  front = left-front (unpacked back) (rest back) (whole (start back)) left (unpacked-length back) (c .without-crs .ensures)
+  size : length (r .read .last .1 .1 .0) ≡ 93
+  size = r .read .kept .1 .1 .0 ∙ start back .pre .1
 
-  within : left ≤ length (unpacked back)
-  within = omega (arith, count, trim-length (unpacked back))
-
-  bound : left ≤ 93
-  bound = omega (arith, within, unpacked-length back, start back .pre .0)
-
--- what is left fits the text, which keeps its length
-fits : (c : tie.After-code-points) → c .before .before .before .without-crs .result ≤ length (c .code-points .last .1 .0)
-fits c =
-    let w = c .before .before .before in
-    omega (arith, bound w, c .code-points .kept .1 .0, start (back w) .pre .1)
+  bound : r .read .result ≤ 93
+  bound = omega (arith, reads .count, few)
 
 returns : tie.Need-returns
 unfolding shownText
 returns c =
-    let p = c .before .before .before .before .before .before in
-    let w = p .before .before .before in
-    let u = back w in
-    let s = trimmed (unpacked u) in
-    let t = now (start u .args .text) in
+    let r = c .before .before .before .before .before .before in
+    let y = unpacked (back r) in
     let made =
-    shown-made s t (p .code-points .last .1 .0) (c .before .before .blank .last .0) (left w) (start u .pre .1)
-    (omega (arith, bound w, count w)) (count w)
-    (p .code-points .ensures ∙ ap (λ (l : List ℕ). onto codePoint l t) (front w))
+    shown-made y (r .read .last .1 .1 .0) (c .before .before .blank .last .0) (r .read .result) (size r) (few r) (reads r)
     (c .before .before .blank .ensures) in
-    (λ i. record { number = 0; characters = count w i; text = made i }) ∙ ap (λ (l : List ℕ). shownText (trimmed l)) (unpacked-whole u)
+    (λ i. record { number = 0; characters = reads r .count i; text = made i }) ∙ ap (λ (l : List ℕ). shownText (shown l)) (unpacked-whole (back r))
 
 pub show-spec : {M : Type 1} → statement M
 show-spec =
@@ -98,10 +92,9 @@ show-spec =
     (tie.spec
     (search needs) (search needs) (λ c. sym (room (c .before .before .before)))
     (search needs)
-    (λ c. simp length-append (omega (arith, unpacked-length (c .before))))
-    slice-aggregate-without-crs (search needs)
-    (λ c. simp length-append (omega (arith, within c)))
-    (λ c. count (c .before) ∙ sym (ap length (front (c .before)))) (search needs)
-    (λ c. omega (arith, bound (c .before .before .before .before .before)))
-    (λ c. fits (c .before .before)) (λ c. fits (c .before .before)) (search needs)
+    (λ c. simp length-append (omega (arith, unpacked-length (c .before .before))))
+    (λ c. let u = c .before .before .before in sym (ap length (lent-part u) ∙ unpacked-length u)) read-requires
+    (λ c. omega (arith, bound (c .before .before)))
+    (λ c. omega (arith, bound (c .before .before), size (c .before .before)))
+    (λ c. omega (arith, bound (c .before .before), size (c .before .before))) (search needs)
     (search needs) (search needs) returns)

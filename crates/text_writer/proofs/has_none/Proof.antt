@@ -5,7 +5,7 @@ use Rattle.laws.proofs.Search.{some-marked}
 use Rattle.alphabet.specs.Paper.{septetOf}
 use Rattle.alphabet.proofs.Laws.{entry}
 use Rattle.text_writer.proofs as own
-use own.Foreign.{none, foreign-some, none-past}
+use own.Foreign.{none, odd-some, none-past}
 use own.has_none.Statement.{statement}
 use own.has_none.Tie as tie
 
@@ -43,7 +43,7 @@ returns c =
     let l = c .before .loop in
     let t = now (c .before .before .args .text) in
     let e : l .i ≡ length t = omega arith in
-    l .inv .1 ∙ rw (e, take-length t) (sym (foreign-some t))
+    l .inv .1 ∙ rw (e, take-length t) (sym (odd-some t))
 
 pub has-none-spec : {M : Type 1} → statement M
 has-none-spec =

@@ -21,7 +21,7 @@ returns c =
     let h = d .before .before .before .header-octets in
     let a = d .before .before .before .before .before .before .args in
     let d′ = d .copy .last .1 .0 in
-    made (h .result) (a .page .now) d′ (c .before .before .pack .last .1 .1 .0) (ap length (h .ensures) ∙ header-length (headingOf (a .heading))) (d .copy .ensures .1)
+    made (h .result) (a .page .now) d′ (c .before .before .pack .last .1 .1 .1 .0) (ap length (h .ensures) ∙ header-length (headingOf (a .heading))) (d .copy .ensures .1)
     ∙ rw (h .ensures, c .before .before .pack .ensures)
 
 pub put-page-spec : {M : Type 1} → statement M

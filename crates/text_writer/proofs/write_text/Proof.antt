@@ -1,5 +1,5 @@
 -- `text_writer::write_text` meets its contract: each return is the first test of the order that holds, and the characters decide the rest.
-use Rattle.laws.proofs.Base.{_≡_, refl, _≤_, _<_, arith, sym, _∙_, false, needs, now, length, ltb, eq-eqb, ne-eqb, le-ltb, lt-ltb}
+use Rattle.laws.proofs.Base.{_≡_, refl, _≤_, _<_, arith, sym, _∙_, false, needs, ltb, eq-eqb, ne-eqb, le-ltb, lt-ltb}
 use Rattle.alphabet.specs.Paper.{alphabet, septetOf}
 use Rattle.text.specs.Paper.{badParameter, writtenPage}
 use Rattle.text_writer.proofs.write_text as own
@@ -30,28 +30,20 @@ returns-3 c =
 good : (c : tie.Else3) → badParameter (c .before .before .before .before .before .before .args .parameter) ≡ false
 good c = sym (c .before .bad-parameter .ensures) ∙ c .if3 .left
 
-returns-4 : tie.Need-returns-4
-unfolding writtenPage
-returns-4 c =
-    let b = c .before .before .before in
-    let long : 93 < length (now (b .before .before .before .before .args .text)) = omega arith in
-    simp (eq-eqb _ _ (b .before .if1 .left), ours b, good (c .before), lt-ltb _ _ long)
-
 write-by-requires : tie.Need-write-by-requires
 unfolding septetOf alphabet
 write-by-requires c κs =
     let e = c .before .before in
     record {
       lent = refl;
-      room = e .before .before .before .before .if1 .left;
-      scheme = ours (e .before .before .before);
-      parameter = good (e .before);
-      short = search needs;
+      room = e .before .before .before .if1 .left;
+      scheme = ours (e .before .before);
+      parameter = good e;
     }
 
 pub write-text-spec : {M : Type 1} → statement M
 write-text-spec =
     tie.close
     (tie.spec
-    returns returns-2 (search needs) returns-3 returns-4 write-by-requires (search needs)
+    returns returns-2 (search needs) returns-3 write-by-requires (search needs)
     (λ c. c .before .before .write-by .ensures))
