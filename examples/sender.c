@@ -3,8 +3,8 @@
  *
  *   sender CURRENT PREVIOUS BEGIN < TEXT
  *
- * CURRENT and PREVIOUS are plan files. The text, in Latin 1, is that of the page in slot BEGIN of the current plan. All eight
- * blocks are made before the first is written: what is refused goes out in no part.
+ * CURRENT and PREVIOUS are plan files. The text, in Latin 1, is that of the page in slot BEGIN of the current plan; of a longer
+ * one no more is read than can't fit. All eight blocks are made before the first is written: what is refused goes out in no part.
  */
 #define PROGRAM "sender"
 #include "arguments.h"

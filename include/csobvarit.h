@@ -112,8 +112,8 @@ uint32_t cb_intake(uint8_t *state, cb_length state_len, const uint8_t *piece, cb
  * 0 in either half counts as 11 hex, page 1 of 1. Wherever a parameter is handed on, it is the octet that was sent.
  *
  * The default alphabet and its extension table are GSM 03.38's, and a code point is 16 bits. A character of the alphabet
- * takes one septet. One of the extension table takes two, 1B hex and its own; they are form feed, the euro sign and
- * ^ { } \ [ ~ ] | .
+ * takes one septet. One of the extension table takes two, 1B hex and its own: these are ^ { } \ [ ~ ] and |, form feed
+ * (U+000C) and the euro sign (U+20AC).
  */
 #define CB_HEADER  6 /* octets of a page's header; the content starts after it */
 #define CB_TEXT   93 /* septets of a page, and code points that cb_read_text writes */
@@ -139,7 +139,8 @@ uint32_t cb_intake(uint8_t *state, cb_length state_len, const uint8_t *piece, cb
  *
  *   0                           page: the page; the count is its used octets, 6 to 88, which follow from the septets
  *   15, 13, 14, 11, 10, 12      page: untouched; the first of these that applies, in this order. 15 is a page_len that
- *                               isn't 88; 11 looks through the whole text, however long it is
+ *                               isn't 88; 11 looks at every character, however many there are, so text_len has to be
+ *                               true
  */
 uint32_t cb_write_text(uint16_t serial, uint16_t identifier, uint8_t scheme, uint8_t parameter,
                        const uint16_t *text, cb_length text_len, uint8_t *page, cb_length page_len);
@@ -148,7 +149,8 @@ uint32_t cb_write_text(uint16_t serial, uint16_t identifier, uint8_t scheme, uin
  * Reads the text of what was received of a page. Septet 1B hex, the escape of GSM 03.38, and the septet after it are one
  * character: that of the extension table or, where the table doesn't list the septet, the septet's own in the default
  * alphabet. 1B twice is one space, and the second of them doesn't escape; 1B as the last whole septet received is a space
- * too. Then the CRs at the end are dropped, save one that was escaped and those before it.
+ * too. Then the CRs at the end are dropped, save one that was escaped and those before it. So a text that another sender
+ * wrote may end in CR, and may take other septets when cb_write_text writes it again.
  *
  *   0                           text: the count's characters, then 0 up to 93
  *   15, 16, 18, 13              text: untouched; the first of these that applies, in this order. 15 is a text_len that

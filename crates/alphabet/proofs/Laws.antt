@@ -1,5 +1,5 @@
 -- Laws of the default alphabet and its extension: finding a septet undoes reading one, 1B aside, and finds nothing else.
-use Rattle.laws.proofs.Base.{_≡_, refl, sym, ap, _∙_, Bool, true, false, not, _&&_, _||_, List, [], _∷_, _⊎_, inl, inr, ⊎-elim, ℕ, suc, _+_, _<_, _≤_, mod-eq-of-lt}
+use Rattle.laws.proofs.Base.{_≡_, refl, sym, ap, _∙_, Bool, true, false, not, _&&_, _||_, List, [], _∷_, _⊎_, inl, inr, ⊎-elim, ℕ, suc, _+_, _%_, _<_, _≤_, mod-eq-of-lt}
 use Rattle.laws.proofs.Base.{zero-add, add-zero, add-suc, suc-add, zero-lt-suc, arith, eqb, ltb, length, getD, eqb-true, eqb-false, ltb-true, lt-ltb, le-ltb, ne-eqb, not-true, not-false}
 use Rattle.laws.specs.Search.{some, lookup}
 use Rattle.laws.specs.Table.{every}
@@ -115,7 +115,7 @@ rows-point s x = lookup-map (λ (p : ℕ × ℕ). p .0 ∷ p .1 ∷ []) (column 
 
 pub pair-point-by : (table : List ℕ) (s : ℕ) → table ≡ alphabet → pairPointBy table s ≡ pairPoint s
 unfolding pairPoint
-pair-point-by table s e = ap (lookup (λ (p : ℕ × ℕ). p .0) (λ (p : ℕ × ℕ). p .1) extension s) (point-by table s e)
+pair-point-by table s e = ap (lookup (λ (p : ℕ × ℕ). p .0) (λ (p : ℕ × ℕ). p .1) extension (s % 128)) (point-by table s e)
 
 -- the test of a pair: it is of a septet, each of its two is found by the other, and its code point is not in the alphabet
 undone-pair : ℕ × ℕ → Bool
@@ -154,11 +154,11 @@ found-pair c = go (looked (λ (p : ℕ × ℕ). p .1) (λ (p : ℕ × ℕ). p .0
     go (listed-at i h k e) = inr (rw e (rw k at (undoes-pairs i h)))
 
 -- 1B and a septet that is not listed read as that septet does
-pub unlisted : (s : ℕ) → ((i : ℕ) → i < length extension → getD extension i (0, 0) .0 ≡ s → ⊥) → pairPoint s ≡ codePoint s
+pub unlisted : (s : ℕ) → ((i : ℕ) → i < length extension → getD extension i (0, 0) .0 ≡ s % 128 → ⊥) → pairPoint s ≡ codePoint s
 unfolding pairPoint
-unlisted s none = go (looked (λ (p : ℕ × ℕ). p .0) (λ (p : ℕ × ℕ). p .1) (0, 0) extension s (codePoint s))
+unlisted s none = go (looked (λ (p : ℕ × ℕ). p .0) (λ (p : ℕ × ℕ). p .1) (0, 0) extension (s % 128) (codePoint s))
   where
-    go : Looked (λ (p : ℕ × ℕ). p .0) (λ (p : ℕ × ℕ). p .1) (0, 0) extension s (codePoint s) (pairPoint s) → pairPoint s ≡ codePoint s
+    go : Looked (λ (p : ℕ × ℕ). p .0) (λ (p : ℕ × ℕ). p .1) (0, 0) extension (s % 128) (codePoint s) (pairPoint s) → pairPoint s ≡ codePoint s
     go (not-listed e) = e
     go (listed-at i h k e) = absurd (none i h k)
 

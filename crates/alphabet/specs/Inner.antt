@@ -22,7 +22,7 @@ septetBy table c = cond (ltb c 938) (getD table c 0) noSeptet
 
 -- 02 No. 5: the code point of 1B and a septet, by a table for those that the extension does not list
 abbrev pub pairPointBy : List ℕ → ℕ → ℕ
-pairPointBy table s = lookup (λ (p : ℕ × ℕ). p .0) (λ (p : ℕ × ℕ). p .1) extension s (pointBy table s)
+pairPointBy table s = lookup (λ (p : ℕ × ℕ). p .0) (λ (p : ℕ × ℕ). p .1) extension (s % 128) (pointBy table s)
 
 -- column n of a row
 abbrev pub column : ℕ → List ℕ → ℕ

@@ -6,7 +6,7 @@ use lib.Dec.{eqb}
 use lib.ListN.{getD}
 use Rattle.laws.specs.Search.{lookup}
 
--- 01 Page and text: the default alphabet of 03.38, the code point of each septet from 00 to 7F, sixteen to a line; 09 is C7, and 1B reads as a space
+-- 01 Page and text: the default alphabet of 03.38, the code point of each septet from 00 to 7F, sixteen to a line; 09 is C7, and 1B by itself is a space
 unfoldable pub alphabet : List ℕ
 alphabet =
     0x0040 ∷ 0x00a3 ∷ 0x0024 ∷ 0x00a5 ∷ 0x00e8 ∷ 0x00e9 ∷ 0x00f9 ∷ 0x00ec ∷ 0x00f2 ∷ 0x00c7 ∷ 0x000a ∷ 0x00d8 ∷ 0x00f8 ∷ 0x000d ∷ 0x00c5 ∷ 0x00e5
@@ -49,7 +49,7 @@ extension =
 
 -- 02 No. 5: the code point that 1B and septet s read as: that of the table, or, where s is not listed, that of s itself
 unfoldable pub pairPoint : ℕ → ℕ
-pairPoint s = lookup (λ (p : ℕ × ℕ). p .0) (λ (p : ℕ × ℕ). p .1) extension s (codePoint s)
+pairPoint s = lookup (λ (p : ℕ × ℕ). p .0) (λ (p : ℕ × ℕ). p .1) extension (s % 128) (codePoint s)
 
 -- 02 No. 5: the septet that is written after 1B for a code point, or the mark
 unfoldable pub pairSeptet : ℕ → ℕ

@@ -39,7 +39,7 @@ pub fn pair_point_by(table: &[u16; 128], septet: u8) -> u16
     ensures { λ r. ⌜ r ≡ pairPointBy (now (table .entry)) septet ⌝ }
 {
     let own = code_point_by(table, septet);
-    look_up(&EXTENSION, 0, septet as u16, own)
+    look_up(&EXTENSION, 0, (septet % 128) as u16, own)
 }
 
 // What stands beside a key in its column, or another number.

@@ -19,7 +19,7 @@ use libc::STDERR_FILENO;
 use page::MessageId;
 use page::Serial;
 use sizes::MESSAGE;
-use text::CHARACTERS;
+use text::PLACES;
 use text_reader::Got;
 
 // Room for the longest line of each piece of a chunk.
@@ -43,7 +43,7 @@ fn say_help() {
         Shows the pages of a log of blocks, FILE or standard input, a line for each page that is complete.\n\
         A line has the number of the page's last block, its serial number and identifier in hex, page and total,\n\
         and then the word text with the text received or, where the coding scheme is over 0F, hex with the content received.\n\
-        \\n and \\r are line ends inside a text.\n",
+        Inside a text \\n and \\r are line ends, \\f is a form feed and \\\\ a backslash.\n",
     );
 }
 
@@ -170,7 +170,7 @@ fn put_body(page: &[u8], received: usize, out: &mut [u8], at: usize) -> usize
     requires { ⌜ (length (now page) ≡ 88) × (wholeBlocks received ≡ true) × (at + 285 ≤ length (now out)) ⌝ }
     ensures { λ r. ⌜ Puts (body (now (page .entry)) received) 285 at (now (out .entry)) (now (out .exit)) r ⌝ }
 {
-    let mut points = [0u16; CHARACTERS];
+    let mut points = [0u16; PLACES];
     let got = text_reader::read_text(page, received, &mut points);
     if let Got::Characters(count) = got {
         return put_text(&points[..count], out, at);

@@ -16,7 +16,7 @@ use Rattle.sender_message.specs.Paper.{octetsOfAll, descriptions, newBits, used
 use Rattle.sender.specs.Paper.{plannedTold, newAt, write}
 use Rattle.board.specs.Paper.{isWanted, reads, decide}
 use Rattle.board_held.specs.Paper.{isHeld, tellsOf}
-use Rattle.edges.specs.Claims.{Edges, pairsWritten, pairsRead, PairEdges}
+use Rattle.edges.specs.Claims.{Edges, PairEdgesWritten, PairEdgesRead}
 
 pub edges : Edges
 unfolding wholeBlocks value digits search.some search.firstFrom search.lookup someBelow count picked each alphabet septetOf extension pairSeptet headerOctets samePage septetsOf unpadded septets packed
@@ -24,11 +24,11 @@ unfolding wholeBlocks value digits search.some search.firstFrom search.lookup so
     read plannedTold newAt octetsOfAll descriptions newBits usedPart padded write isWanted isHeld tellsOf reads decide
 edges = refl
 
-pub pair-edges-written : PairEdges pairsWritten
+pub pair-edges-written : PairEdgesWritten
 unfolding search.lookup alphabet septetOf extension pairSeptet septetsOf unpadded badParameter foreign endsInCr writtenPage
 pair-edges-written = refl
 
-pub pair-edges-read : PairEdges pairsRead
+pub pair-edges-read : PairEdgesRead
 unfolding wholeBlocks value digits search.lookup alphabet codePoint septetOf extension pairPoint pairSeptet headerOctets septetsOf unpadded septets packed
     pageOctets badParameter foreign endsInCr writtenPage wholeOf decoded leftWith trimmed shownText reading
 pair-edges-read = refl

@@ -27,9 +27,13 @@ pageHeading = record { serial = 0x0010; id = 0x8001; scheme = 0x00; parameter = 
 abbrev pub textWritten : List ℕ → text.PageLeft
 textWritten t = text.writtenPage pageHeading t (replicate 88 0)
 
--- 01 Page and text: the number given for a text of some characters A, and how many content octets it uses
+-- 01 Page and text: the number given for a text, and how many content octets it uses
+abbrev pub textUsed : List ℕ → List ℕ
+textUsed t = textWritten t .number ∷ (textWritten t .used - 6) ∷ []
+
+-- 01 Page and text: the same of some characters A
 abbrev pub contentUsed : ℕ → List ℕ
-contentUsed n = textWritten (replicate n 65) .number ∷ (textWritten (replicate n 65) .used - 6) ∷ []
+contentUsed n = textUsed (replicate n 65)
 
 -- 01 Page and text: the first n content octets of a text, and its last
 abbrev pub contentEnds : ℕ → List ℕ → List ℕ
@@ -108,13 +112,13 @@ cases =
     ∷ (decisionNumbers 0x0002, 0 ∷ 0 ∷ [])
     ∷ []
 
--- 01 Where the edges are: every case is as the document says
-abbrev pub Edges : Type 0
-Edges = map (λ (x : List ℕ × List ℕ). x .0) cases ≡ map (λ (x : List ℕ × List ℕ). x .1) cases
+-- every case of a list is as the document says
+abbrev pub AsSaid : List (List ℕ × List ℕ) → Type 0
+AsSaid cs = map (λ (x : List ℕ × List ℕ). x .0) cs ≡ map (λ (x : List ℕ × List ℕ). x .1) cs
 
--- 02 No. 5: the number given for a text, and how many content octets it uses
-abbrev pub textUsed : List ℕ → List ℕ
-textUsed t = textWritten t .number ∷ (textWritten t .used - 6) ∷ []
+-- 01 Where the edges are
+abbrev pub Edges : Type 0
+Edges = AsSaid cases
 
 -- 02 No. 5: a page of 93 septets
 abbrev pub pageOf : List ℕ → List ℕ
@@ -142,8 +146,11 @@ pairsWritten =
     ∷ (textUsed (replicate 46 0x20ac ++ (0x41 ∷ [])), 0 ∷ 82 ∷ [])
     ∷ (textWritten (replicate 47 0x5b) .number ∷ [], 10 ∷ [])
     ∷ (textWritten (replicate 94 0x41) .number ∷ [], 10 ∷ [])
-    -- 11 comes before 10: one of 94 characters is in neither table
+    -- 11 comes before 10, and 10 before 12: the last of 94 characters is in neither table, or CR
     ∷ (textWritten (replicate 93 0x41 ++ (0x60 ∷ [])) .number ∷ [], 11 ∷ [])
+    ∷ (textWritten (replicate 93 0x41 ++ (0x0d ∷ [])) .number ∷ [], 10 ∷ [])
+    -- all ten are written
+    ∷ (textUsed (0x0c ∷ 0x5e ∷ 0x7b ∷ 0x7d ∷ 0x5c ∷ 0x5b ∷ 0x7e ∷ 0x5d ∷ 0x7c ∷ 0x20ac ∷ []), 0 ∷ 18 ∷ [])
     -- a text that ends in ] is written
     ∷ (textUsed (0x5b ∷ 0x37 ∷ 0x5d ∷ []), 0 ∷ 5 ∷ [])
     ∷ []
@@ -153,6 +160,8 @@ abbrev pub pairsRead : List (List ℕ × List ℕ)
 pairsRead =
     -- it is read
     (readFrom 0 22 (textWritten (0x5b ∷ 0x37 ∷ 0x5d ∷ []) .page), 0 ∷ 3 ∷ 0x5b ∷ 0x37 ∷ 0x5d ∷ [])
+    -- and so are all ten
+    ∷ (readFrom 0 44 (textWritten (0x0c ∷ 0x5e ∷ 0x7b ∷ 0x7d ∷ 0x5c ∷ 0x5b ∷ 0x7e ∷ 0x5d ∷ 0x7c ∷ 0x20ac ∷ []) .page), 0 ∷ 10 ∷ 0x0c ∷ 0x5e ∷ 0x7b ∷ 0x7d ∷ 0x5c ∷ 0x5b ∷ 0x7e ∷ 0x5d ∷ 0x7c ∷ 0x20ac ∷ [])
     -- 1B as the last whole septet received is a space, though the next block has the rest
     ∷ (readFrom 17 22 (bracketAt 18), 0 ∷ 18 ∷ 0x20 ∷ [])
     ∷ (readFrom 42 44 (bracketAt 43), 0 ∷ 43 ∷ 0x20 ∷ [])
@@ -168,6 +177,9 @@ pairsRead =
     ∷ (readFrom 0 22 (withCrs (0x41 ∷ 0x0d ∷ [])), 0 ∷ 1 ∷ 0x41 ∷ [])
     ∷ []
 
--- 02 No. 5: every case is as the document says
-abbrev pub PairEdges : List (List ℕ × List ℕ) → Type 0
-PairEdges cs = map (λ (x : List ℕ × List ℕ). x .0) cs ≡ map (λ (x : List ℕ × List ℕ). x .1) cs
+-- 02 No. 5
+abbrev pub PairEdgesWritten : Type 0
+PairEdgesWritten = AsSaid pairsWritten
+
+abbrev pub PairEdgesRead : Type 0
+PairEdgesRead = AsSaid pairsRead

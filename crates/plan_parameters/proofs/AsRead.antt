@@ -1,6 +1,7 @@
 -- Writer and checker take plans as they are with every page parameter as it is read. Of the sameness of pages only its laws are used.
-use Rattle.laws.proofs.Base.{_≡_, refl, sym, ap, _∙_, Bool, not, List, [], _∷_, map, ℕ, zero, suc, _-_, _%_, eqb, eqb-true, getD, take, List·getD-map}
+use Rattle.laws.proofs.Base.{_≡_, refl, sym, ap, _∙_, Bool, not, List, [], _∷_, map, ℕ, suc, _-_, _%_, eqb, eqb-true, getD, List·getD-map}
 use Rattle.laws.specs.Search.{some, firstFrom}
+use Rattle.laws.proofs.Map.{take-map}
 use Rattle.laws.proofs.Search.{found-some}
 use Rattle.laws.proofs.Tests.{true-or-false}
 use Rattle.page.specs.Paper.{Name}
@@ -40,11 +41,6 @@ bad-as-read : (e : Entry) → bad (entryAsRead e) ≡ bad e
 unfolding bad
 bad-as-read e = by-kind (λ (d : Entry). bad d ≡ bad e) e (λ k. rw k) refl
 
-take-map : (n : ℕ) (es : List Entry) → take n (map entryAsRead es) ≡ map entryAsRead (take n es)
-take-map zero es = refl
-take-map (suc n) [] = refl
-take-map (suc n) (e ∷ es) = ap (λ (l : List Entry). entryAsRead e ∷ l) (take-map n es)
-
 -- a test that finds no difference in an entry as it is read finds none in a list of them
 module _ (f : Entry → Bool) (h : (e : Entry) → f (entryAsRead e) ≡ f e) where
   first-as-read : (s : ℕ) (es : List Entry) → firstFrom f s (map entryAsRead es) ≡ firstFrom f s es
@@ -65,19 +61,19 @@ module _ (p : Plan) where
   number-as-read : planNumber (planAsRead p) ≡ planNumber p
   unfolding planNumber
   number-as-read =
-      rw (take-map (p .count) (p .entries), some-as-read bad bad-as-read (entriesWithin p), fault-as-read (entriesWithin p))
+      rw (take-map entryAsRead (p .count) (p .entries), some-as-read bad bad-as-read (entriesWithin p), fault-as-read (entriesWithin p))
 
   named-as-read : planEntry (planAsRead p) ≡ planEntry p
   unfolding planEntry
-  named-as-read = rw (number-as-read, take-map (p .count) (p .entries), first-as-read bad bad-as-read 1 (entriesWithin p))
+  named-as-read = rw (number-as-read, take-map entryAsRead (p .count) (p .entries), first-as-read bad bad-as-read 1 (entriesWithin p))
 
   lowest-as-read : (x : Name) → lowestSlot (planAsRead p) x ≡ lowestSlot p x
   unfolding lowestSlot
-  lowest-as-read x = rw (take-map (p .count) (p .entries), first-as-read (holds x) (holds-as-read x) 1 (entriesWithin p))
+  lowest-as-read x = rw (take-map entryAsRead (p .count) (p .entries), first-as-read (holds x) (holds-as-read x) 1 (entriesWithin p))
 
   has-as-read : (x : Name) → hasPage (planAsRead p) x ≡ hasPage p x
   unfolding hasPage
-  has-as-read x = rw (take-map (p .count) (p .entries), some-as-read (holds x) (holds-as-read x) (entriesWithin p))
+  has-as-read x = rw (take-map entryAsRead (p .count) (p .entries), some-as-read (holds x) (holds-as-read x) (entriesWithin p))
 
   module _ (i : ℕ) where
     entry-as-read : entryAt (planAsRead p) i ≡ entryAsRead (entryAt p i)

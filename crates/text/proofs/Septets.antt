@@ -103,18 +103,6 @@ unfolding decoded
 decoded-crs zero = refl
 decoded-crs (suc j) = decoded-own (replicate j cr) cr (λ e. omega (arith, e)) ∙ rw (reads-cr, decoded-crs j)
 
--- a character has a septet at least
-length-of : (c : ℕ) → ((septetOf c ≡ noSeptet) → (pairSeptet c ≡ noSeptet) → ⊥) → Spelled c → 0 < length (septetsOf c)
-length-of c known (by-own _ e) = rw e (lit< tt)
-length-of c known (by-pair _ e) = rw e (lit< tt)
-length-of c known (by-none e n _) = absurd (known e n)
-
-pub characters-few : (t : List ℕ) → foreign t ≡ false → length t ≤ length (unpadded t)
-unfolding unpadded
-characters-few [] h = lit≤ tt
-characters-few (c ∷ t) h =
-    omega (arith, length-append (septetsOf c) (unpadded t), length-of c (known-first c t h) (spelled c), characters-few t (known-rest c t h))
-
 -- no more characters are read than there are septets
 decoded-few : (s : List ℕ) → (length (decoded false s) ≤ length s) × (length (decoded true s) ≤ suc (length s))
 unfolding decoded

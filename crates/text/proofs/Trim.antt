@@ -2,13 +2,13 @@
 use Rattle.laws.proofs.Base.{_≡_, refl, sym, ap, _∙_, true, false, not, List, [], _∷_, _++_, append-assoc, append-nil, ℕ, zero, suc, _-_, _<_, _≤_, sub-zero, suc-sub-suc}
 use Rattle.laws.proofs.Base.{arith, eqb, length, getD, take, drop, replicate, length-append, take-suc, take-at, take-append-drop, length-take-le, eqb-true, not-true}
 use Rattle.laws.proofs.Tests.{true-or-false, both}
-use Rattle.text.specs.Paper.{cr, Character, isCr, leftWith, trimmed}
+use Rattle.text.specs.Paper.{cr, Character, isPlainCr, leftWith, trimmed}
 
 -- the CR that is dropped
 abbrev pub plainCr : Character
 plainCr = record { point = cr; escaped = false }
 
-is-plain-cr : (x : Character) → isCr x ≡ true → x ≡ plainCr
+is-plain-cr : (x : Character) → isPlainCr x ≡ true → x ≡ plainCr
 is-plain-cr x e =
     let w = both (eqb (x .point) cr) (not (x .escaped)) e in
     let p : x .point ≡ cr = eqb-true (x .point) cr (w .0) in
@@ -27,19 +27,19 @@ unfolding leftWith
 left-some y [] x m = refl
 left-some y (z ∷ l) x m = refl
 
-left-other : (x : Character) (l : List Character) → isCr x ≡ false → leftWith x l ≡ x ∷ l
+left-other : (x : Character) (l : List Character) → isPlainCr x ≡ false → leftWith x l ≡ x ∷ l
 unfolding leftWith
 left-other x [] other = rw other
 left-other x (y ∷ l) other = refl
 
 -- what stands behind a character that stays is trimmed by itself
-pub trim-behind : (l : List Character) (x : Character) (m : List Character) → isCr x ≡ false → trimmed (l ++ (x ∷ m)) ≡ l ++ (x ∷ trimmed m)
+pub trim-behind : (l : List Character) (x : Character) (m : List Character) → isPlainCr x ≡ false → trimmed (l ++ (x ∷ m)) ≡ l ++ (x ∷ trimmed m)
 unfolding trimmed
 trim-behind [] x m other = left-other x (trimmed m) other
 trim-behind (y ∷ l) x m other = ap (leftWith y) (trim-behind l x m other) ∙ left-some y l x (trimmed m)
 
 -- where something else ends them, nothing is dropped
-pub trim-other : (l : List Character) (x : Character) → isCr x ≡ false → trimmed (l ++ (x ∷ [])) ≡ l ++ (x ∷ [])
+pub trim-other : (l : List Character) (x : Character) → isPlainCr x ≡ false → trimmed (l ++ (x ∷ [])) ≡ l ++ (x ∷ [])
 unfolding trimmed
 trim-other l x other = trim-behind l x [] other
 
@@ -53,7 +53,7 @@ rest-with : (x : Character) (l m : List Character) → l ≡ m ++ replicate (len
     → x ∷ l ≡ leftWith x m ++ replicate (length (x ∷ l) - length (leftWith x m)) plainCr
 unfolding leftWith
 rest-with x l [] e =
-    true-or-false (isCr x)
+    true-or-false (isPlainCr x)
     (λ yes-cr. rw yes-cr (simp sub-zero (ap (λ (y : Character). y ∷ l) (is-plain-cr x yes-cr) ∙ ap (_∷_ plainCr) (simp sub-zero at e))))
     (λ other. rw other (ap (_∷_ x) (rw suc-sub-suc e)))
 rest-with x l (y ∷ m) e = ap (_∷_ x) (rw suc-sub-suc e)
@@ -72,14 +72,14 @@ take-last l n d p h =
     let e : suc (n - 1) ≡ n = omega arith in
     rw e at (take-suc l (n - 1) d (omega arith))
 
-all-plain : (d : Character) (l : List Character) → ((k : ℕ) → k < length l → isCr (getD l k d) ≡ true) → l ≡ replicate (length l) plainCr
+all-plain : (d : Character) (l : List Character) → ((k : ℕ) → k < length l → isPlainCr (getD l k d) ≡ true) → l ≡ replicate (length l) plainCr
 all-plain d [] each = refl
 all-plain d (x ∷ l) each =
     ap (λ (y : Character). y ∷ l) (is-plain-cr x (each 0 (omega arith)))
     ∙ ap (_∷_ plainCr) (all-plain d l (λ k h. each (suc k) (omega arith)))
 
 -- where the characters from n on are CRs, and nothing would be dropped of those before, these are left
-pub trim-at : (d : Character) (l : List Character) (n : ℕ) → ((k : ℕ) → k < length (drop n l) → isCr (getD (drop n l) k d) ≡ true)
+pub trim-at : (d : Character) (l : List Character) (n : ℕ) → ((k : ℕ) → k < length (drop n l) → isPlainCr (getD (drop n l) k d) ≡ true)
     → trimmed (take n l) ≡ take n l → trimmed l ≡ take n l
 trim-at d l n each kept =
     ap trimmed (sym (take-append-drop n l) ∙ ap (λ (m : List Character). take n l ++ m) (all-plain d (drop n l) each))
@@ -93,9 +93,9 @@ trim-front l =
     ∙ take-at (trimmed l) (replicate (length l - length (trimmed l)) plainCr) (length (trimmed l)) refl
 
 -- what is left doesn't end in a CR, since that would be dropped too
-pub trim-ends : (l : List Character) (d : Character) → 0 < length (trimmed l) → isCr (getD l (length (trimmed l) - 1) d) ≡ false
+pub trim-ends : (l : List Character) (d : Character) → 0 < length (trimmed l) → isPlainCr (getD l (length (trimmed l) - 1) d) ≡ false
 trim-ends l d some =
-    true-or-false (isCr (getD l (length (trimmed l) - 1) d))
+    true-or-false (isPlainCr (getD l (length (trimmed l) - 1) d))
     (λ e.
     let k = length (trimmed l) in
     let fewer : trimmed l ≡ trimmed (take (k - 1) l) =

@@ -103,12 +103,12 @@ decoded true [] = record { point = 0x20; escaped = false } ∷ []
 decoded true (s ∷ r) = record { point = pairPoint s; escaped = true } ∷ decoded false r
 
 -- 02 No. 5: a CR that isn't escaped
-abbrev pub isCr : Character → Bool
-isCr x = eqb (x .point) cr && not (x .escaped)
+abbrev pub isPlainCr : Character → Bool
+isPlainCr x = eqb (x .point) cr && not (x .escaped)
 
 -- 02 No. 5: a character before what is left of those after it: where nothing is left, a CR is dropped that isn't escaped
 unfoldable pub leftWith : Character → List Character → List Character
-leftWith x [] = cond (isCr x) [] (x ∷ [])
+leftWith x [] = cond (isPlainCr x) [] (x ∷ [])
 leftWith x (y ∷ l) = x ∷ y ∷ l
 
 -- 01 Page and text, 02 No. 5: the CRs at the end dropped, but no escaped one

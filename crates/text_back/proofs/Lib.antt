@@ -2,4 +2,5 @@
 pub mod Accepted
 pub mod Back
 pub mod Bits
+pub mod Listed
 pub mod Reader

@@ -1,5 +1,5 @@
 -- What the reader says of its characters: how many there are at most, what a pair shows, and what is dropped.
-use Rattle.laws.proofs.Base.{_≡_, refl, sym, ap, _∙_, Bool, true, false, true≢false, and-false, List, [], _∷_, _++_, map, ℕ, _-_, _≤_, min-le-left, arith, eqb, lit≤, length, take, drop, length-take, length-map, take-at}
+use Rattle.laws.proofs.Base.{_≡_, refl, sym, ap, _∙_, Bool, true, false, true≢false, and-false, List, [], _∷_, _++_, map, ℕ, _-_, _≤_, min-le-left, arith, eqb, lit≤, length, take, drop, length-take, length-map, take-at, ne-eqb}
 use Rattle.laws.specs.Search.{some}
 use Rattle.laws.proofs.Radix.{length-digits}
 use Rattle.laws.proofs.Tests.{neither, true-or-false}
@@ -9,7 +9,7 @@ use Rattle.alphabet.proofs.Laws.{undoes-pairs, unlisted, pair-escape, pair-cr}
 use Rattle.text.specs.Paper.{Reading, Character, cr, wholeOf, septetsReceived, decoded, trimmed, points, shown, shownText, reading}
 use Rattle.text.proofs.Septets.{shown-few}
 use Rattle.text.proofs.Trim.{trim-rest, trim-length, trim-front, trim-ends, trim-behind, trim-other}
-use Rattle.text_back.specs.Claims.{CharactersBounded, allReceived, DropsCrsOnly, waits, Received, PairShown, ListedShown, UnlistedShown, EscapeTwiceShown, EscapedCrShown, EscapeLastShown, PlainShown}
+use Rattle.text_back.specs.Claims.{CharactersBounded, allReceived, DropsCrsOnly, waits, Received, PairShown, ListedShown, UnlistedShown, EscapeTwiceShown, EscapedCrShown, EscapeLastShown, OwnShown, PlainShown}
 use Rattle.text_back.proofs as own
 use own.Accepted.{Reads, refused, read, reads}
 
@@ -110,6 +110,10 @@ decoded-plain [] h = refl
 decoded-plain (x ∷ s) h =
     let n = neither (eqb x escape) (some (λ (y : ℕ). eqb y escape) s) h in
     rw (n .0) (ap (_∷_ (record { point = codePoint x; escaped = false })) (decoded-plain s (n .1)))
+
+pub own-shown : OwnShown
+unfolding decoded
+own-shown p n t a s r h ne = ap (decoded false) (h .septets) ∙ decoded-behind false a (s ∷ r) (h .closed) ∙ rw (ne-eqb s escape ne)
 
 pub plain-shown : PlainShown
 plain-shown p n h = decoded-plain (septetsReceived p n) h

@@ -2,15 +2,15 @@
 use mathlib.Core.Path.{_≡_}
 use mathlib.Core.Bool.{Bool, false, true, not, _&&_}
 use mathlib.Core.List.{List, [], _∷_, _++_, map}
-use Prim.Native.Nat.{ℕ, _+_, _*_, _-_, _/_, _≤_, _<_}
+use Prim.Native.Nat.{ℕ, _+_, _*_, _-_, _/_, _%_, _≤_, _<_}
 use lib.Dec.{eqb}
 use lib.ListN.{length, getD, take, replicate}
 use Rattle.laws.specs.Radix.{Below, bit}
 use Rattle.laws.specs.Search.{some}
-use Rattle.alphabet.specs.Paper.{codePoint, escape, extension, pairPoint}
+use Rattle.alphabet.specs.Paper.{codePoint, septetOf, noSeptet, escape, extension, pairPoint}
 use Rattle.sizes.specs.Paper.{wholeBlocks}
 use Rattle.page.specs.Paper.{Heading, header}
-use Rattle.text.specs.Paper.{Reading, Character, cr, packed, usedOctets, writtenPage, wholeOf, septetsReceived, decoded, isCr, points, shown, shownText, reading}
+use Rattle.text.specs.Paper.{Reading, Character, cr, unpadded, packed, usedOctets, badParameter, endsInCr, writtenPage, wholeOf, septetsReceived, decoded, isPlainCr, points, shown, shownText, reading}
 
 -- 01 Page and text: a text as the reader gives it: its characters, and 0 in the rest of the 93
 abbrev pub givenBack : List ℕ → Reading
@@ -26,6 +26,30 @@ TextBack =
 -- the written page itself, received whole
 abbrev pub TextBackWhole : Type 0
 TextBackWhole = (h : Heading) (t p u : List ℕ) → writtenPage h t p .number ≡ 0 → length u ≡ 93 → reading (writtenPage h t p .page) 88 u ≡ givenBack t
+
+-- 02 No. 5: a character of the default alphabet or of the extension table
+pub data Listed (c : ℕ) : Type 0 where
+  in-alphabet : (s : ℕ) → s < 128 → codePoint s ≡ c → Listed c
+  in-extension : (i : ℕ) → i < 10 → getD extension i (0, 0) .1 ≡ c → Listed c
+
+-- 02 No. 5: a text of listed characters that has room, has at most 93 septets and doesn't end in CR, under a header that can be written
+pub record Sendable (h : Heading) (t p : List ℕ) : Type 0 where
+  pub room : length p ≡ 88
+  pub scheme : h .scheme ≤ 15
+  pub parameter : badParameter (h .parameter) ≡ false
+  pub listed : (i : ℕ) → i < length t → Listed (getD t i 0)
+  pub short : length (unpadded t) ≤ 93
+  pub open-ended : endsInCr t ≡ false
+
+-- 02 No. 5: such a text is written, and comes back the same
+abbrev pub ListedBack : Type 0
+ListedBack =
+    (h : Heading) (t p u : List ℕ) → Sendable h t p → length u ≡ 93
+    → (writtenPage h t p .number ≡ 0) × (reading (writtenPage h t p .page) 88 u ≡ givenBack t)
+
+-- 01 Page and text: a text of the default alphabet alone has a septet for each character, as before
+abbrev pub PlainSpelled : Type 0
+PlainSpelled = (t : List ℕ) → ((i : ℕ) → i < length t → septetOf (getD t i 0) ≡ noSeptet → ⊥) → unpadded t ≡ map septetOf t
 
 -- 01 Blocks: the octets of the blocks up to the last used one
 abbrev pub usedBlocks : ℕ → ℕ
@@ -62,7 +86,7 @@ pub record DropsCrsOnly (p : List ℕ) (n : ℕ) (t : List ℕ) : Type 0 where
       ≡ take (reading p n t .characters) (allReceived p n)
       ++ replicate (length (allReceived p n) - reading p n t .characters) (record { point = cr; escaped = false })
   -- and the last that is shown is no such CR
-  pub stops : (d : Character) → 0 < reading p n t .characters → isCr (getD (allReceived p n) (reading p n t .characters - 1) d) ≡ false
+  pub stops : (d : Character) → 0 < reading p n t .characters → isPlainCr (getD (allReceived p n) (reading p n t .characters - 1) d) ≡ false
 
 -- 02 No. 5: whether the last of some septets is a 1B that waits for another one; the flag says whether one waits before them
 unfoldable pub waits : Bool → List ℕ → Bool
@@ -93,7 +117,7 @@ ListedShown =
 -- 02 No. 5: a septet that the table doesn't list shows its own character
 abbrev pub UnlistedShown : Type 0
 UnlistedShown =
-    ShownBetween (λ s x. ((i : ℕ) → i < 10 → getD extension i (0, 0) .0 ≡ s → ⊥) × (x ≡ record { point = codePoint s; escaped = true }))
+    ShownBetween (λ s x. ((i : ℕ) → i < 10 → getD extension i (0, 0) .0 ≡ s % 128 → ⊥) × (x ≡ record { point = codePoint s; escaped = true }))
 
 -- 02 No. 5: 1B twice is one space
 abbrev pub EscapeTwiceShown : Type 0
@@ -108,6 +132,12 @@ abbrev pub EscapeLastShown : Type 0
 EscapeLastShown =
     (p : List ℕ) (n : ℕ) (t a : List ℕ) → Received p n t a (escape ∷ [])
     → reading p n t ≡ shownText (decoded false a ++ (record { point = 0x20; escaped = false } ∷ []))
+
+-- 01 Page and text: any other septet is a character by itself
+abbrev pub OwnShown : Type 0
+OwnShown =
+    (p : List ℕ) (n : ℕ) (t a : List ℕ) (s : ℕ) (r : List ℕ) → Received p n t a (s ∷ r) → (s ≡ escape → ⊥)
+    → allReceived p n ≡ decoded false a ++ (record { point = codePoint s; escaped = false } ∷ decoded false r)
 
 -- 01 Page and text: where no 1B is received, each septet is a character, as before
 abbrev pub PlainShown : Type 0

@@ -1,10 +1,11 @@
 -- Laws of septets that are read one character after another, and of the CRs dropped at the end.
-use Rattle.laws.proofs.Base.{_≡_, refl, sym, ap, _∙_, Bool, true, false, and-false, List, [], _∷_, _++_, append-assoc, append-nil, map-append, ℕ, zero, suc, _+_, _-_, _<_, _≤_, add-one, le-refl}
+use Rattle.laws.proofs.Base.{_≡_, refl, sym, ap, _∙_, Bool, true, false, and-false, List, [], _∷_, _++_, append-assoc, append-nil, map-append, ℕ, suc, _+_, _-_, _<_, _≤_, add-one, le-refl}
 use Rattle.laws.proofs.Base.{arith, length, getD, set, take, drop, length-append, length-drop, length-take-le, drop-cons, drop-of-length-le, take-append-le, take-suc-set, take-take, take-length, getD-take, getD-drop, List·getD-map, eqb, eq-eqb, ne-eqb}
+use Rattle.laws.proofs.Map.{take-map}
 use Rattle.laws.proofs.Snoc.{each-snoc}
 use Rattle.laws.proofs.Tests.{le-or-lt}
 use Rattle.alphabet.specs.Paper.{codePoint, escape, pairPoint}
-use Rattle.text.specs.Paper.{cr, Character, isCr, decoded, trimmed, shown, points}
+use Rattle.text.specs.Paper.{cr, Character, isPlainCr, decoded, trimmed, shown, points}
 use Rattle.text.proofs.Trim.{trim-other, take-last, trim-at}
 use Rattle.text_reader.specs.Inner.{Next, Remain, Read}
 
@@ -122,11 +123,6 @@ module _ (s t : List ℕ) (at floor i : ℕ) (p : ℕ) (e : Bool) (after : ℕ) 
         plain = each-snoc (λ (k : ℕ) (y : Character). floor ≤ k → y .escaped ≡ false) unread (g .done) x (g .plain) (λ l. none);
       }
 
-points-take : (n : ℕ) (l : List Character) → take n (points l) ≡ points (take n l)
-points-take zero l = refl
-points-take (suc n) [] = refl
-points-take (suc n) (x ∷ l) = ap (_∷_ (x .point)) (points-take n l)
-
 -- all septets read, and the CRs at the end dropped
 module _ (s t : List ℕ) (at floor i n : ℕ) (g : Reached s t at floor i) (end : length s ≤ i) (m : Remain t floor at n) where
   abbrev all : List Character
@@ -143,7 +139,7 @@ module _ (s t : List ℕ) (at floor i n : ℕ) (g : Reached s t at floor i) (end
   point-at k h =
       sym (getD-take at t k 0 h) ∙ rw (g .front) (List·getD-map (λ (y : Character). y .point) all k unread)
 
-  dropped-cr : (k : ℕ) → k < length (drop n all) → isCr (getD (drop n all) k unread) ≡ true
+  dropped-cr : (k : ℕ) → k < length (drop n all) → isPlainCr (getD (drop n all) k unread) ≡ true
   dropped-cr k h =
       let j : ℕ = n + k in
       let below : j < at = omega (arith, h, length-drop n all, g .count) in
@@ -170,5 +166,5 @@ module _ (s t : List ℕ) (at floor i n : ℕ) (g : Reached s t at floor i) (end
       let size : length (take n all) ≡ n = length-take-le n all (omega (arith, m .high, g .count)) in
       record {
         count = sym (ap length left ∙ size);
-        front = sym (take-take n at t (m .high)) ∙ ap (take n) (g .front) ∙ points-take n all ∙ ap points (sym left);
+        front = sym (take-take n at t (m .high)) ∙ ap (take n) (g .front) ∙ take-map (λ (y : Character). y .point) n all ∙ ap points (sym left);
       }

@@ -9,7 +9,7 @@ ghost use Rattle.text_reader.specs.Coded.{readingOf};
 use alphabet::tables::CODE_POINTS;
 use page::Handing;
 use refusals::Refusal;
-use text::CHARACTERS;
+use text::PLACES;
 
 // The number of characters that were read.
 pub enum Got {
@@ -33,7 +33,7 @@ fn show(content: &[u8], text: &mut [u16]) -> usize
     ensures { λ r. ⌜ readingOf (Got.Characters r) (now (text .exit)) ≡ shownText (shown (wholeOf (now (content .entry)))) ⌝ }
 {
     let whole = content.len() + content.len() / 7;
-    let mut septets = [0u8; CHARACTERS];
+    let mut septets = [0u8; PLACES];
     packing::unpack(content, &mut septets[..whole]);
     let n = reading::read(&CODE_POINTS, &septets[..whole], text);
     blank(&mut text[n..]);
@@ -44,7 +44,7 @@ fn show(content: &[u8], text: &mut [u16]) -> usize
 pub fn read_text(page: &[u8], received: usize, text: &mut [u16]) -> Got
     ensures { λ r. ⌜ readingOf r (now (text .exit)) ≡ reading (now (page .entry)) received (now (text .entry)) ⌝ }
 {
-    if text.len() != CHARACTERS {
+    if text.len() != PLACES {
         return Got::Refused(Refusal::OutputLength);
     }
     let answer = page::content_answer(page, received);

@@ -166,29 +166,25 @@ module _ (a rest : List ℕ) (f : Filling) (o : List ℕ) (g : Filling) (p : Lis
 pub front-addable : (a rest : List ℕ) (f : Filling) (o : List ℕ) → AddableAll (a ++ rest) f o → AddableAll a f o
 front-addable a rest f o h = addable-append a rest f o h .0
 
+-- the first of some septets
+pub first-addable : (ss : List ℕ) (f : Filling) (o : List ℕ) (s : ℕ) (r : List ℕ) → ss ≡ s ∷ r → AddableAll ss f o → Addable f s o
+unfolding AddableAll
+first-addable ss f o s r e h = (rw e at h) .0
+
 -- one septet, and two
 module _ (ss : List ℕ) (f : Filling) (o : List ℕ) (s : ℕ) where
-  pub one-addable : ss ≡ s ∷ [] → AddableAll ss f o → Addable f s o
-  unfolding AddableAll
-  one-addable e h = (rw e at h) .0
-
   pub one-added : ss ≡ s ∷ [] → {x : Added} → x ≡ added f s o → x ≡ addedAll ss f o
   unfolding addedAll
   one-added e q = rw e q
 
-  module _ (z : ℕ) (e : ss ≡ s ∷ z ∷ []) where
-    pub two-addable : AddableAll ss f o → Addable f s o
+  module _ (z : ℕ) (e : ss ≡ s ∷ z ∷ []) (g : Filling) (p : List ℕ) (q : record { filling = g; octets = p } ≡ added f s o) where
+    pub next-addable : AddableAll ss f o → Addable g z p
     unfolding AddableAll
-    two-addable h = (rw e at h) .0
+    next-addable h = subst (λ (x : Added). Addable (x .filling) z (x .octets)) (sym q) ((rw e at h) .1 .0)
 
-    module _ (g : Filling) (p : List ℕ) (q : record { filling = g; octets = p } ≡ added f s o) where
-      pub next-addable : AddableAll ss f o → Addable g z p
-      unfolding AddableAll
-      next-addable h = subst (λ (x : Added). Addable (x .filling) z (x .octets)) (sym q) ((rw e at h) .1 .0)
-
-      pub two-added : {x : Added} → x ≡ added g z p → x ≡ addedAll ss f o
-      unfolding addedAll
-      two-added d = rw e (d ∙ ap (λ (x : Added). added (x .filling) z (x .octets)) q)
+    pub two-added : {x : Added} → x ≡ added g z p → x ≡ addedAll ss f o
+    unfolding addedAll
+    two-added d = rw e (d ∙ ap (λ (x : Added). added (x .filling) z (x .octets)) q)
 
 -- before the first septet
 filled-none : (o : List ℕ) → length o ≡ 82 → Filled [] unfilled o
@@ -235,7 +231,7 @@ module _ (t o : List ℕ) (short : length (unpadded t) ≤ 93) (room : length o 
     -- what the padding leaves takes the zero bits
     module _ (g : Filling) (q : List ℕ) (d : record { filling = g; octets = q } ≡ addedAll pad f p) where
       pub zero-addable : Addable g 0 q
-      zero-addable = one-addable (0 ∷ []) g q 0 refl (rest-addable pad (0 ∷ []) f p g q d behind)
+      zero-addable = first-addable (0 ∷ []) g q 0 [] refl (rest-addable pad (0 ∷ []) f p g q d behind)
 
       pub text-packed : (h : Filling) (r : List ℕ) → record { filling = h; octets = r } ≡ added g 0 q → r ≡ packed (septets t)
       unfolding septets packed

@@ -4,7 +4,7 @@ ghost use Prim.Native.Nat.{_-_};
 ghost use lib.ListN.{replicate};
 ghost use Rattle.text.specs.Paper.{cr, packed, septets, septetsOf, unpadded};
 ghost use Rattle.text_writer.specs.Inner.{Addable, AddableAll, Spellable, Textual, Writable, added, addedAll, unfilled};
-use text::CHARACTERS;
+use text::PLACES;
 
 // An octet that is being filled: the bits that it has, what the lowest bit of the next septet counts in it, and its place.
 struct Filling {
@@ -74,7 +74,7 @@ fn add_padding(count: usize, begun: Filling, octets: &mut [u8]) -> Filling
 {
     let mut filling = begun;
     let mut i = count;
-    while i < CHARACTERS {
+    while i < PLACES {
         filling = add(filling, 0x0D, octets);
         i += 1;
     }

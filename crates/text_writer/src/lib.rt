@@ -15,7 +15,7 @@ use page::MessageId;
 use page::Serial;
 use refusals::Refusal;
 use sizes::MESSAGE;
-use text::CHARACTERS;
+use text::PLACES;
 
 // The used octets of a page that was written.
 pub enum Written {
@@ -154,7 +154,7 @@ fn write_counted(
     requires { ⌜ Counted (now table) (headingOf heading) (now text) count (now page) ⌝ }
     ensures { λ r. ⌜ writingOf r (now (page .exit)) ≡ writtenPage (headingOf heading) (now (text .entry)) (now (page .entry)) ⌝ }
 {
-    if count > CHARACTERS {
+    if count > PLACES {
         return Written::Refused(Refusal::TextLength);
     }
     if ends_in_cr(text) {

@@ -6,7 +6,7 @@ use Prim.Native.String.{String}
 use lib.Dec.{eqb}
 use Rattle.lines.specs.Paper.{ascii}
 
--- 01 Numbers given, 02 Nos. 1 and 3: those that refuse, in words. Those of 40 are for where End differs, which comes with no slot
+-- 01 Numbers given, 02 Nos. 1, 3 and 5: those that refuse, in words. Those of 40 are for where End differs, which comes with no slot
 abbrev pub table : List (ℕ × String)
 table =
     (2, "the piece is not 23 octets long")
@@ -15,8 +15,8 @@ table =
     ∷ (5, "the block is a null block")
     ∷ (6, "the block is not the next one of its message")
     ∷ (8, "the state is not one that the intake leaves")
-    ∷ (10, "the text is over 93 characters long")
-    ∷ (11, "a character is not in the alphabet")
+    ∷ (10, "the text is over 93 septets long")
+    ∷ (11, "a character is in neither table of GSM 03.38")
     ∷ (12, "the text ends in CR")
     ∷ (13, "the coding scheme is above 0F")
     ∷ (14, "the page parameter has a zero half, or its page is over its total")

@@ -156,7 +156,8 @@ fn faults_at_once() -> Vec<Case> {
         let either = |fault: usize, wrong: u64, right: u64| if has(fault) { wrong } else { right };
         let length = MESSAGE as u64;
         let numbers = [0x0010, 0x8001, either(1, 0x10, 0x0F), either(2, 0x21, 0x12), either(0, length - 1, length)];
-        let mut text = pairs(if has(4) { 47 } else { 3 });
+        // two more than fit, so that it is too long without its foreign character too
+        let mut text = pairs(if has(4) { 48 } else { 3 });
         if has(3) {
             text[set % 3] = FOREIGN[set % FOREIGN.len()];
         }

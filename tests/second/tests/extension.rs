@@ -231,7 +231,8 @@ fn the_case_of_93_characters_holds_for_plain_ones() {
 
 /// A text with these of its faults: a foreign character at a place, over 93 septets, CR at the end.
 fn faulty(foreign: Option<usize>, long: bool, cr: bool) -> Vec<u16> {
-    let mut text = vec![0x5D; if long { 47 } else { 46 }];
+    // 48 pairs are over 93 septets without their foreign character too
+    let mut text = vec![0x5D; if long { 48 } else { 46 }];
     if let Some(place) = foreign {
         text[place] = 0x0060;
     }

@@ -17,7 +17,7 @@ returns c =
     let t = now (c .before .before .before .before .before .before .args .text) in
     rw (passed-foreign t (l .i) (l .count) (l .inv) (c .before .before .before .loop-test .taken) _ (c .before .width .ensures) (c .if1 .taken))
 
--- a slice has fewer than half of its octets as characters
+-- a slice's octets are fewer than 2 ^ 63, so twice its characters fit a word
 count-fits : tie.Need-add-count Inv-loop μ-loop
 count-fits c =
     let l = c .before .before .before .before .loop in

@@ -4,7 +4,7 @@ use Rattle.alphabet.specs.Paper.{escape, septetOf, pairSeptet}
 use Rattle.alphabet.proofs.Laws.{septet-by}
 use Rattle.text.specs.Paper.{septetsOf}
 use Rattle.text_writer.proofs as own
-use own.Adding.{one-addable, one-added, two-addable, next-addable, two-added}
+use own.Adding.{first-addable, one-added, next-addable, two-added}
 use own.Foreign.{spelled-own, spelled-pair, known-pair}
 use own.filling.add_character.Statement.{statement}
 use own.filling.add_character.Tie as tie
@@ -23,7 +23,7 @@ module _ (c : tie.Then1) where
 add-requires : tie.Need-add-requires
 add-requires c κs =
     let s = start (c .before) in
-    one-addable (septetsOf (s .args .code)) (s .args .filling) (now (s .args .octets)) _ (one (c .before)) (s .pre .addable)
+    first-addable (septetsOf (s .args .code)) (s .args .filling) (now (s .args .octets)) _ [] (one (c .before)) (s .pre .addable)
 
 returns : tie.Need-returns
 returns c =
@@ -48,7 +48,7 @@ module _ (c : tie.Else1) where
 add-requires-2 : tie.Need-add-requires-2
 add-requires-2 c κs =
     let s = first (c .before) in
-    two-addable (septetsOf (s .args .code)) (s .args .filling) (now (s .args .octets)) escape (pairSeptet (s .args .code)) (two (c .before)) (s .pre .addable)
+    first-addable (septetsOf (s .args .code)) (s .args .filling) (now (s .args .octets)) escape (pairSeptet (s .args .code) ∷ []) (two (c .before)) (s .pre .addable)
 
 -- the pair's septet is looked up
 module _ (c : tie.After-pair-septet) where

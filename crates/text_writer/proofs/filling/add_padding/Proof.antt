@@ -3,7 +3,7 @@ use Rattle.laws.proofs.Base.{_≡_, refl, sym, ap, _∙_, List, [], _∷_, _++_
 use Rattle.text.specs.Paper.{cr}
 use Rattle.text_writer.specs.Inner.{AddableAll, addedAll}
 use Rattle.text_writer.proofs as own
-use own.Adding.{rest-addable, rest-added, front-addable, one-addable, one-added}
+use own.Adding.{rest-addable, rest-added, front-addable, first-addable, one-added}
 use own.filling.add_padding.Statement.{statement}
 use own.filling.add_padding.Tie as tie
 
@@ -34,7 +34,7 @@ add-requires : tie.Need-add-requires Inv-loop μ-loop
 add-requires c κs =
     let d = c .before in
     let l = d .before .loop in
-    one-addable (cr ∷ []) (l .filling) (l .octets) cr refl (front-addable (cr ∷ []) (rest d) (l .filling) (l .octets) (turn d))
+    first-addable (cr ∷ []) (l .filling) (l .octets) cr [] refl (front-addable (cr ∷ []) (rest d) (l .filling) (l .octets) (turn d))
 
 loop-again : tie.Need-loop-again Inv-loop μ-loop
 loop-again c =
