@@ -5,7 +5,7 @@
 #include <stddef.h>
 #include <stdint.h>
 
-/* Makes the table of septets by code point; call it once before the others. */
+/* Makes the table of septets by code point and that of escaped septets; call it once before the others. */
 void plain_text_init(void);
 
 uint32_t plain_write_text(uint16_t serial, uint16_t identifier, uint8_t scheme, uint8_t parameter,
