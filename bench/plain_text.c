@@ -22,8 +22,15 @@ enum { PAIR = 0x80, NONE = 0xFF };
 /* The entries of septets_of: a power of two, so that the bits of all characters together tell whether one is past them. */
 enum { CODES = 0x400 };
 
-/* For loops that do so little at a character that their own counting would be half of it. */
+/*
+ * For loops that do so little at a character that their own counting is half of it. No other plain C in bench/ is unrolled by
+ * hand, so what is measured has its loops as they are; with PLAIN_UNROLLED eight turns stand one after the other.
+ */
+#ifdef PLAIN_UNROLLED
 #define UNROLLED _Pragma("GCC unroll 8")
+#else
+#define UNROLLED
+#endif
 
 /* GSM 03.38, the default alphabet: the code point of each septet. */
 static const uint16_t code_points[128] = {

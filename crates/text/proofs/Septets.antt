@@ -1,6 +1,7 @@
 -- Laws of a text's septets: which they are, how many, and what they are read as.
 use Rattle.laws.proofs.Base.{_≡_, refl, sym, ap, _∙_, true, false, true≢false, _&&_, List, [], _∷_, _++_, append-assoc, map, ⊎-elim, ℕ, zero, suc, _-_, _<_, _≤_, arith, eqb, lit<, lit≤, length, replicate, length-append, length-replicate, ne-eqb, eq-eqb}
 use Rattle.laws.specs.Radix.{Below}
+use Rattle.laws.specs.Search.{some}
 use Rattle.laws.proofs.Radix.{below-nil, below-cons, below-append, below-replicate}
 use Rattle.laws.proofs.Tests.{neither, true-or-false}
 use Rattle.alphabet.specs.Paper.{codePoint, septetOf, noSeptet, escape, pairPoint, pairSeptet}
@@ -113,3 +114,11 @@ decoded-few (x ∷ s) =
 
 pub shown-few : (s : List ℕ) → length (shown s) ≤ length s
 shown-few s = omega (arith, trim-length (decoded false s), decoded-few s .0)
+
+-- where there is no 1B, each septet is a character
+pub decoded-plain : (s : List ℕ) → some (λ (x : ℕ). eqb x escape) s ≡ false → decoded false s ≡ map (λ (x : ℕ). record { point = codePoint x; escaped = false }) s
+unfolding decoded some
+decoded-plain [] h = refl
+decoded-plain (x ∷ s) h =
+    let n = neither (eqb x escape) (some (λ (y : ℕ). eqb y escape) s) h in
+    rw (n .0) (ap (_∷_ (record { point = codePoint x; escaped = false })) (decoded-plain s (n .1)))

@@ -1,13 +1,12 @@
 -- What the reader says of its characters: how many there are at most, what a pair shows, and what is dropped.
-use Rattle.laws.proofs.Base.{_≡_, refl, sym, ap, _∙_, Bool, true, false, true≢false, and-false, List, [], _∷_, _++_, map, ℕ, _-_, _≤_, min-le-left, arith, eqb, lit≤, length, take, drop, length-take, length-map, take-at, ne-eqb}
-use Rattle.laws.specs.Search.{some}
+use Rattle.laws.proofs.Base.{_≡_, refl, sym, ap, _∙_, Bool, true, false, true≢false, and-false, List, [], _∷_, _++_, ℕ, _-_, _≤_, min-le-left, arith, eqb, lit≤, length, take, drop, length-take, length-map, take-at, ne-eqb}
 use Rattle.laws.proofs.Radix.{length-digits}
-use Rattle.laws.proofs.Tests.{neither, true-or-false}
+use Rattle.laws.proofs.Tests.{true-or-false}
 use Rattle.sizes.proofs.Received.{whole-bounds}
 use Rattle.alphabet.specs.Paper.{codePoint, escape, extension, pairPoint}
 use Rattle.alphabet.proofs.Laws.{undoes-pairs, unlisted, pair-escape, pair-cr}
 use Rattle.text.specs.Paper.{Reading, Character, cr, wholeOf, septetsReceived, decoded, trimmed, points, shown, shownText, reading}
-use Rattle.text.proofs.Septets.{shown-few}
+use Rattle.text.proofs.Septets.{decoded-plain, shown-few}
 use Rattle.text.proofs.Trim.{trim-rest, trim-length, trim-front, trim-ends, trim-behind, trim-other}
 use Rattle.text_back.specs.Claims.{CharactersBounded, allReceived, DropsCrsOnly, waits, Received, PairShown, ListedShown, UnlistedShown, EscapeTwiceShown, EscapedCrShown, EscapeLastShown, OwnShown, PlainShown}
 use Rattle.text_back.proofs as own
@@ -103,13 +102,6 @@ pub escape-last-shown : EscapeLastShown
 unfolding decoded
 escape-last-shown p n t a h =
     shown-behind p n t a (escape ∷ []) h ∙ ap shownText (trim-other (decoded false a) (record { point = 0x20; escaped = false }) refl)
-
-decoded-plain : (s : List ℕ) → some (λ (x : ℕ). eqb x escape) s ≡ false → decoded false s ≡ map (λ (x : ℕ). record { point = codePoint x; escaped = false }) s
-unfolding decoded some
-decoded-plain [] h = refl
-decoded-plain (x ∷ s) h =
-    let n = neither (eqb x escape) (some (λ (y : ℕ). eqb y escape) s) h in
-    rw (n .0) (ap (_∷_ (record { point = codePoint x; escaped = false })) (decoded-plain s (n .1)))
 
 pub own-shown : OwnShown
 unfolding decoded

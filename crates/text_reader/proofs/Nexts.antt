@@ -1,11 +1,13 @@
 -- Laws of septets that are read one character after another, and of the CRs dropped at the end.
-use Rattle.laws.proofs.Base.{_≡_, refl, sym, ap, _∙_, Bool, true, false, and-false, List, [], _∷_, _++_, append-assoc, append-nil, map-append, ℕ, suc, _+_, _-_, _<_, _≤_, add-one, le-refl}
-use Rattle.laws.proofs.Base.{arith, length, getD, set, take, drop, length-append, length-drop, length-take-le, drop-cons, drop-of-length-le, take-append-le, take-suc-set, take-take, take-length, getD-take, getD-drop, List·getD-map, eqb, eq-eqb, ne-eqb}
+use Rattle.laws.proofs.Base.{_≡_, refl, sym, ap, _∙_, Bool, true, false, and-false, List, [], _∷_, _++_, append-assoc, append-nil, map, map-append, ℕ, zero, suc, _+_, _-_, _<_, _≤_, add-one, le-refl}
+use Rattle.laws.proofs.Base.{arith, length, getD, set, take, drop, length-append, length-drop, length-take-le, drop-cons, drop-of-length-le, drop-length, length-map, take-append-le, take-suc-set, take-take, take-length, getD-take, getD-drop, List·getD-map, eqb, eq-eqb, ne-eqb}
+use Rattle.laws.specs.Search.{some}
 use Rattle.laws.proofs.Map.{take-map}
 use Rattle.laws.proofs.Snoc.{each-snoc}
 use Rattle.laws.proofs.Tests.{le-or-lt}
 use Rattle.alphabet.specs.Paper.{codePoint, escape, pairPoint}
 use Rattle.text.specs.Paper.{cr, Character, isPlainCr, decoded, trimmed, shown, points}
+use Rattle.text.proofs.Septets.{decoded-plain}
 use Rattle.text.proofs.Trim.{trim-other, take-last, trim-at}
 use Rattle.text_reader.specs.Inner.{Next, Remain, Read}
 
@@ -70,6 +72,36 @@ reached-start s t =
       low = omega arith;
       sealed = refl;
       plain = λ k h. absurd (omega arith);
+    }
+
+-- a septet that no 1B stands before
+abbrev plainly : ℕ → Character
+plainly x = record { point = codePoint x; escaped = false }
+
+points-plainly : (s : List ℕ) → points (map plainly s) ≡ map codePoint s
+points-plainly [] = refl
+points-plainly (x ∷ s) = ap (_∷_ (codePoint x)) (points-plainly s)
+
+none-escaped : (s : List ℕ) (k : ℕ) → getD (map plainly s) k unread .escaped ≡ false
+none-escaped [] k = refl
+none-escaped (x ∷ s) zero = refl
+none-escaped (x ∷ s) (suc k) = none-escaped s k
+
+-- septets without 1B, each a character in its place
+pub reached-plainly : (s t : List ℕ) → some (λ (x : ℕ). eqb x escape) s ≡ false → take (length s) t ≡ map codePoint s → Reached s t (length s) 0 (length s)
+unfolding trimmed decoded
+reached-plainly s t none front =
+    let d : List Character = map plainly s in
+    record {
+      done = d;
+      rest = decoded-plain s none ∙ sym (rw (drop-length s) (append-nil d));
+      count = sym (length-map s plainly);
+      front = front ∙ sym (points-plainly s);
+      few = le-refl _;
+      within = le-refl _;
+      low = omega arith;
+      sealed = refl;
+      plain = λ k h l. none-escaped s k;
     }
 
 -- one character more

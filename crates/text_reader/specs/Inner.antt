@@ -1,12 +1,18 @@
 -- What the inner functions ask and promise.
 use Prim.Native.Nat.{ℕ, _-_, _≤_, _<_}
 use mathlib.Core.Path.{_≡_}
-use mathlib.Core.Bool.{false}
+use mathlib.Core.Bool.{Bool, false}
 use mathlib.Core.List.{List, _∷_}
+use lib.Dec.{eqb}
 use lib.ListN.{length, getD, take, drop}
-use Rattle.alphabet.specs.Paper.{alphabet}
+use Rattle.laws.specs.Search.{some}
+use Rattle.alphabet.specs.Paper.{alphabet, escape}
 use Rattle.text.specs.Paper.{cr, decoded, shown, points}
 use Rattle.text_reader.specs.declared.reading.Decoded.{Decoded}
+
+-- 1B is among some septets
+abbrev pub escaping : List ℕ → Bool
+escaping s = some (λ (x : ℕ). eqb x escape) s
 
 -- 02 No. 5: x is what the septets from place i on begin with
 pub record Next (s : List ℕ) (i : ℕ) (x : Decoded) : Type 0 where

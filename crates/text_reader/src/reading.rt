@@ -1,9 +1,10 @@
 // Septets read as characters, one after another.
 ghost use mathlib.Core.Path.{_≡_};
 ghost use Prim.Native.Nat.{_≤_, _<_};
-ghost use lib.ListN.{length};
-ghost use Rattle.alphabet.specs.Paper.{alphabet};
-ghost use Rattle.text_reader.specs.Inner.{Next, Read, Readable, Remain};
+ghost use mathlib.Core.List.{map};
+ghost use lib.ListN.{length, take};
+ghost use Rattle.alphabet.specs.Paper.{alphabet, codePoint};
+ghost use Rattle.text_reader.specs.Inner.{Next, Read, Readable, Remain, escaping};
 
 // A character, whether 1B stood before its septet, and the place after it.
 struct Decoded {
@@ -55,9 +56,9 @@ fn without_crs(text: &[u16], floor: usize, end: usize) -> usize
     n
 }
 
-// Writes the characters of septets, and answers how many are left when the CRs at the end are dropped. None is dropped that
-// was escaped, and none before it.
-pub(crate) fn read(points: &[u16; 128], septets: &[u8], text: &mut [u16]) -> usize
+// Writes the characters of septets one after another, and answers how many are left when the CRs at the end are dropped. None
+// is dropped that was escaped, and none before it.
+fn read_each(points: &[u16; 128], septets: &[u8], text: &mut [u16]) -> usize
     requires { ⌜ Readable (now points) (now septets) (now text) ⌝ }
     ensures { λ r. ⌜ Read (now (septets .entry)) r (now (text .exit)) ⌝ }
 {
@@ -74,4 +75,44 @@ pub(crate) fn read(points: &[u16; 128], septets: &[u8], text: &mut [u16]) -> usi
         i = next.after;
     }
     without_crs(text, floor, at)
+}
+
+// Whether 1B is among some septets. The loop has no early way out, so that the compiler can take many at once.
+fn has_escape(septets: &[u8]) -> bool
+    ensures { λ r. ⌜ r ≡ escaping (now (septets .entry)) ⌝ }
+{
+    let mut found = false;
+    let mut i = 0;
+    while i < septets.len() {
+        if septets[i] == 0x1B {
+            found = true;
+        }
+        i += 1;
+    }
+    found
+}
+
+// Writes the character of each septet.
+fn put_points(points: &[u16; 128], septets: &[u8], text: &mut [u16])
+    requires { ⌜ Readable (now points) (now septets) (now text) ⌝ }
+    ensures { λ _. ⌜ take (length (now (septets .entry))) (now (text .exit)) ≡ map codePoint (now (septets .entry)) ⌝ }
+{
+    let mut i = 0;
+    while i < septets.len() {
+        text[i] = alphabet::code_point_by(points, septets[i]);
+        i += 1;
+    }
+}
+
+// Writes the characters of septets, and answers how many are left without the CRs at the end. Where there is no 1B, as in most
+// pages, each septet is a character.
+pub(crate) fn read(points: &[u16; 128], septets: &[u8], text: &mut [u16]) -> usize
+    requires { ⌜ Readable (now points) (now septets) (now text) ⌝ }
+    ensures { λ r. ⌜ Read (now (septets .entry)) r (now (text .exit)) ⌝ }
+{
+    if has_escape(septets) {
+        return read_each(points, septets, text);
+    }
+    put_points(points, septets, text);
+    without_crs(text, 0, septets.len())
 }
