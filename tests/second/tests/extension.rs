@@ -1,6 +1,8 @@
 //! Document 02's No. 5: brackets, the euro sign and the rest of the default extension table, sentence by sentence; and that
 //! programs which take a sentence otherwise are told from this one.
 
+use std::fmt::Debug;
+
 use second::blocks::{write_blocks, Kind};
 use second::case::{Case, Entry};
 use second::extension::cases;
@@ -360,12 +362,27 @@ fn invented(entry: Entry) -> Vec<Case> {
     (0..10_000).map(|_| any(entry, &mut random, 48)).collect()
 }
 
+/// Holds ways to take the sentences to the edges, the stored and the invented cases of an entry: the right way differs in
+/// none of them, and each wrong one in some of each, in so many invented ones at least.
+fn wrong_ways_are_told<W: Copy + Debug>(
+    (entry, letter): (Entry, &str),
+    tells: fn(W, &Case) -> bool,
+    right: W,
+    wrong: &[W],
+    least: usize,
+) {
+    let sets = [cases(entry), stored(letter), invented(entry)];
+    let counts = |way: W| sets.each_ref().map(|cases| cases.iter().filter(|case| tells(way, case)).count());
+    assert_eq!(counts(right), [0; 3]);
+    for &way in wrong {
+        let [edges, stored, invented] = counts(way);
+        assert!(edges > 5 && stored > edges && invented > least, "{way:?}: {edges} {stored} {invented}");
+    }
+}
+
 #[test]
 fn readers_that_take_a_sentence_otherwise_are_told() {
-    let (edges, stored, invented) = (cases(Entry::ReadText), stored("R "), invented(Entry::ReadText));
-    let count = |reader: Misread, cases: &[Case]| cases.iter().filter(|case| tells_reader(reader, case)).count();
-    assert_eq!([&edges, &stored, &invented].map(|cases| count(Misread::Nothing, cases)), [0; 3]);
-    for reader in [
+    let wrong = [
         Misread::EscapeAlone,
         Misread::UnlistedSpace,
         Misread::UnlistedSpaceToo,
@@ -376,10 +393,8 @@ fn readers_that_take_a_sentence_otherwise_are_told() {
         Misread::DroppedBefore,
         Misread::EscapedDropped,
         Misread::DroppedBeforeEscaped,
-    ] {
-        let [edges, stored, invented] = [&edges, &stored, &invented].map(|cases| count(reader, cases));
-        assert!(edges > 5 && stored > edges && invented > 200, "{reader:?}: {edges} {stored} {invented}");
-    }
+    ];
+    wrong_ways_are_told((Entry::ReadText, "R "), tells_reader, Misread::Nothing, &wrong, 200);
 }
 
 /// A sentence taken otherwise by a writer.
@@ -431,10 +446,7 @@ fn tells_writer(writer: Miswritten, case: &Case) -> bool {
 
 #[test]
 fn writers_that_take_a_sentence_otherwise_are_told() {
-    let (edges, stored, invented) = (cases(Entry::WriteText), stored("T "), invented(Entry::WriteText));
-    let count = |writer: Miswritten, cases: &[Case]| cases.iter().filter(|case| tells_writer(writer, case)).count();
-    assert_eq!([&edges, &stored, &invented].map(|cases| count(Miswritten::Nothing, cases)), [0; 3]);
-    for writer in [
+    let wrong = [
         Miswritten::TenFirst,
         Miswritten::NotFar,
         Miswritten::TwelveFirst,
@@ -442,8 +454,6 @@ fn writers_that_take_a_sentence_otherwise_are_told() {
         Miswritten::UsedByCharacters,
         Miswritten::NoPairs,
         Miswritten::LowOctet,
-    ] {
-        let [edges, stored, invented] = [&edges, &stored, &invented].map(|cases| count(writer, cases));
-        assert!(edges > 5 && stored > edges && invented > 50, "{writer:?}: {edges} {stored} {invented}");
-    }
+    ];
+    wrong_ways_are_told((Entry::WriteText, "T "), tells_writer, Miswritten::Nothing, &wrong, 50);
 }

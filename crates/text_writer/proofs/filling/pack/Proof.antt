@@ -1,7 +1,7 @@
 -- `text_writer::filling::pack` meets its contract: the text, its padding and the zero bits fill the octets.
-use Rattle.laws.proofs.Base.{_≡_, ap, _∙_, _-_, _≤_, ℕ, arith, needs, now, length, replicate}
+use Rattle.laws.proofs.Base.{_≡_, sym, ap, subst, _∙_, _-_, _≤_, ℕ, arith, needs, now, length, replicate}
 use Rattle.text.specs.Paper.{cr, unpadded}
-use Rattle.text_writer.specs.Inner.{addedAll}
+use Rattle.text_writer.specs.Inner.{AddableAll, addedAll}
 use Rattle.text_writer.proofs as own
 use own.Adding.{text-addable, padding-addable, zero-addable, text-packed}
 use own.filling.pack.Statement.{statement}
@@ -28,7 +28,8 @@ add-padding-requires : tie.Need-add-padding-requires
 add-padding-requires c κs =
     let d = c .before .before .before in
     let s = d .before .before .before .before in
-    rw (padding s) (padding-addable (now (s .args .text)) (now (s .args .octets)) (short s) (s .pre .room) _ _ (d .add-text .ensures))
+    subst (λ (n : ℕ). AddableAll (replicate n cr) (d .add-text .result) (d .add-text .last .1 .1 .0)) (sym (padding s))
+    (padding-addable (now (s .args .text)) (now (s .args .octets)) (short s) (s .pre .room) _ _ (d .add-text .ensures))
 
 -- the text's septets are padded
 module _ (c : tie.After-add-padding) where
