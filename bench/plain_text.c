@@ -16,8 +16,8 @@
 #include <stdbool.h>
 #include <string.h>
 
-enum { PAGE = 88, HEADER = 6, CONTENT = 82, TEXT = 93, WORDS = 12, FULL = 48, CR = 0x0D, ESCAPE = 0x1B, EURO = 0x20AC };
-enum { PAIR = 0x80, NONE = 0xFF };
+enum { PAGE = 88, HEADER = 6, CONTENT = 82, TEXT = 93, WORDS = 12, FULL = 48 };
+enum { CR = 0x0D, ESCAPE = 0x1B, SPACE = 0x20, EURO = 0x20AC, PAIR = 0x80, NONE = 0xFF };
 
 /* The entries of septets_of: a power of two, so that the bits of all characters together tell whether one is past them. */
 enum { CODES = 0x400 };
@@ -342,6 +342,7 @@ uint32_t plain_read_text(const uint8_t *page, size_t page_len, size_t received, 
         count = show_plain(septets, count, text);
     else
         count = show_pairs(septets, count, text);
-    memset(text + count, 0, (TEXT - count) * sizeof *text);
+    for (size_t i = count; i < TEXT; i++)
+        text[i] = SPACE;
     return 256 * (uint32_t)count;
 }

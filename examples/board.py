@@ -22,8 +22,8 @@ OPEN_PAGE = page(0x4A33, 0x0032, 0x11, packed("Track 7 is open from 06:00 on"))
 FOREIGN_PAGE = page(0x4B01, 0xF0E1, 0xFF, bytes([0x00, 0x4B, 0x00, 0xE1, 0x01, 0x51]), scheme=0x48)
 FOREIGN_LINE = "page 4B01 F0E1 15/15 004B00E10151" + 10 * "2B"
 
-# a message of three pages: its first page needs three blocks, the others fewer
-CRANE = ["Crane 11 is out of service until noon. Lorries with steel go to", " crane 6,", " all others wait at gate 2."]
+# a message of three pages: its first page needs three blocks, the others fewer; the first two end in spaces, which count
+CRANE = ["Crane 11 is out of service until noon. Lorries with steel go to ", "crane 6, ", "all others wait at gate 2."]
 CRANE_PAGES = [page(0x4C01, 0x0032, 0x10 * (i + 1) + 3, packed(text)) for i, text in enumerate(CRANE)]
 CRANE_LINES = [f"page 4C01 0032 {i + 1}/3 {text}" for i, text in enumerate(CRANE)]
 # one of two pages, the second of them in another alphabet

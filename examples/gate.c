@@ -124,6 +124,7 @@ static void show_content(const uint8_t *page, uint32_t received)
     uint16_t text[CB_TEXT];
     uint32_t read = cb_read_text(page, CB_OUTPUT, received, text, CB_TEXT);
 
+    /* The count alone tells where the text ends: spaces stand past it, and a text can have spaces at its end. */
     for (uint32_t i = 0; i < CB_COUNT(read); i++)
         show_code_point(text[i]);
     if (CB_NUMBER(read) == CB_SCHEME && CB_NUMBER(cb_content(page, CB_OUTPUT, received)) == 0)

@@ -152,9 +152,13 @@ uint32_t cb_write_text(uint16_t serial, uint16_t identifier, uint8_t scheme, uin
  * too. Then the CRs at the end are dropped, save one that was escaped and those before it. So a text that another sender
  * wrote may end in CR, and may take other septets when cb_write_text writes it again.
  *
- *   0                           text: the count's characters, then 0 up to 93
+ *   0                           text: the count's characters, then U+0020, the space, in all the rest of the 93 places
  *   15, 16, 18, 13              text: untouched; the first of these that applies, in this order. 15 is a text_len that
  *                               isn't 93
+ *
+ * The count alone tells where a text ends. A panel driver that looks for the first 0 has to take the count instead: where
+ * text is read, none of the 93 places is 0 any more, so it would look past them. Looking for the last character that isn't
+ * a space won't do either: spaces at a text's end belong to it and are counted.
  */
 uint32_t cb_read_text(const uint8_t *page, cb_length page_len, cb_length received, uint16_t *text, cb_length text_len);
 

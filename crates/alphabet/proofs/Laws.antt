@@ -45,6 +45,19 @@ codePoint-below : (s : ℕ) → s < 128 → codePoint s < 938
 unfolding below
 codePoint-below s h = rw (codePoint-at s h) (ltb-true _ _ (at below alphabet all-below s (rw length-alphabet h)))
 
+-- a code point is not 0
+nonzero : ℕ → ℕ → Bool
+nonzero s x = not (eqb x 0)
+
+all-nonzero : every nonzero 0 alphabet ≡ true
+unfolding nonzero alphabet
+all-nonzero = refl
+
+pub codePoint-nonzero : (s : ℕ) → codePoint s ≡ 0 → ⊥
+unfolding codePoint nonzero
+codePoint-nonzero s =
+    eqb-false (getD alphabet (s % 128) 0) 0 (not-true _ (at nonzero alphabet all-nonzero (s % 128) (rw length-alphabet (omega arith))))
+
 -- what a search from septet s on ends with: the mark, or a place whose entry is c, and not 1B
 data Sought (c s : ℕ) (xs : List ℕ) (r : ℕ) : Type 0 where
   missing : r ≡ noSeptet → Sought c s xs r
@@ -161,6 +174,19 @@ unlisted s none = go (looked (λ (p : ℕ × ℕ). p .0) (λ (p : ℕ × ℕ). p
     go : Looked (λ (p : ℕ × ℕ). p .0) (λ (p : ℕ × ℕ). p .1) (0, 0) extension (s % 128) (codePoint s) (pairPoint s) → pairPoint s ≡ codePoint s
     go (not-listed e) = e
     go (listed-at i h k e) = absurd (none i h k)
+
+-- nor is that of a pair
+all-pairs-nonzero : some (λ (p : ℕ × ℕ). eqb (p .1) 0) extension ≡ false
+unfolding some extension
+all-pairs-nonzero = refl
+
+pub pairPoint-nonzero : (s : ℕ) → pairPoint s ≡ 0 → ⊥
+unfolding pairPoint
+pairPoint-nonzero s = go (looked (λ (p : ℕ × ℕ). p .0) (λ (p : ℕ × ℕ). p .1) (0, 0) extension (s % 128) (codePoint s))
+  where
+    go : Looked (λ (p : ℕ × ℕ). p .0) (λ (p : ℕ × ℕ). p .1) (0, 0) extension (s % 128) (codePoint s) (pairPoint s) → pairPoint s ≡ 0 → ⊥
+    go (not-listed e) z = codePoint-nonzero s (sym e ∙ z)
+    go (listed-at i h k e) z = eqb-false _ 0 (some-false (λ (p : ℕ × ℕ). eqb (p .1) 0) (0, 0) extension i h all-pairs-nonzero) (sym e ∙ z)
 
 -- 1B twice is a space, and an escaped CR reads as itself
 pub pair-escape : pairPoint 0x1b ≡ 0x20

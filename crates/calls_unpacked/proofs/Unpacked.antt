@@ -15,7 +15,8 @@ use Rattle.plan.proofs.Answers.{fault-low}
 use Rattle.plan_read.specs.Paper.{PlanRead as PlanRead, listed, faults as planFaults, refusal as planRefusal, goodFile, readPlan}
 use Rattle.plan.proofs.GoodPlan.{plan-low}
 use Rattle.schedule.specs.Paper.{end, faults, Read, unread, good, read, GivenSlot, next, noMore, refusal, givenAt, given}
-use Rattle.text.specs.Paper.{PageLeft, writtenPage, writerTests, usedOctets, pageOctets, Reading, reading, readerTests, shownText, shown, septetsReceived}
+use Rattle.text.specs.Paper.{PageLeft, writtenPage, writerTests, usedOctets, pageOctets, Reading, reading, readingWith, readerTests, blankCell, shownText, shown, septetsReceived}
+use Rattle.text.proofs.Shown.{shown-number}
 use Rattle.sender_message.specs.Paper as told
 use Rattle.sender.specs.Paper as sender
 use Rattle.checker.specs.Paper as checker
@@ -56,11 +57,11 @@ unpacked-write-text h t p =
     (record { number = 0; used = usedOctets t; page = pageOctets h t }) (λ n l. l) refl (lit< tt))
 
 pub unpacked-read-text : UnpackedReadText
-unfolding reading shownText
+unfolding readingWith
 unpacked-read-text p n t =
     apart (reading p n t .number) (reading p n t .characters)
     (ruled-fitting (λ (w : Reading). w .number) (λ (m : ℕ). record { number = m; characters = 0; text = t }) (readerTests p n t)
-    (shownText (shown (septetsReceived p n))) (λ n l. l) refl (lit< tt))
+    (shownText (shown (septetsReceived p n))) (λ n l. l) refl (rw (shown-number blankCell (shown (septetsReceived p n))) (lit< tt)))
 
 plan-fits : (f : List ℕ) → readPlan f .number < 256
 unfolding readPlan

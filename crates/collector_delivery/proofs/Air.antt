@@ -1,6 +1,6 @@
 -- A text of several pages that goes out in blocks is collected and read back, in whatever order its pages come.
 use Rattle.laws.proofs.Base.{_≡_, refl, subst, sym, ap, _∙_, true, false, false≢true, cond, not, or-true, List, [], _∷_, _++_, append-nil, append-assoc, map, map-append, ⊎-elim, ℕ, zero, suc, _+_, _*_, _-_, _/_, _%_, _≤_, _<_}
-use Rattle.laws.proofs.Base.{arith, length, take, replicate, length-append, length-replicate, length-take-le, getD-take, eqb, eq-eqb, ne-eqb, eqb-true, eqb-false, leb, le-leb, lt-leb}
+use Rattle.laws.proofs.Base.{arith, length, take, length-append, length-replicate, length-take-le, getD-take, eqb, eq-eqb, ne-eqb, eqb-true, eqb-false, leb, le-leb, lt-leb}
 use Rattle.laws.specs.Search.{some}
 use Rattle.laws.proofs.All.{All, all-snoc, all-append, all-weaker}
 use Rattle.laws.proofs.Search.{some-append}
@@ -15,6 +15,7 @@ use Rattle.block_writer.specs.Paper.{lastUsed, writtenBlocks}
 use Rattle.block_history.specs.Claims as pieces
 use Rattle.block_history.proofs.History.{after-append}
 use Rattle.text.specs.Paper as text
+use Rattle.text_back.specs.Claims.{givenBack}
 use Rattle.text_back.proofs.Back.{written-length, used-bounds}
 use Rattle.delivery.specs.Claims.{blockOf, takenAt, textHanded, Heard}
 use Rattle.delivery.proofs.Air.{started-proper, over-the-air, header-over-the-air}
@@ -111,7 +112,7 @@ module _ (x : Notice) (p o u : List ℕ) (few : x .total ≤ 15) (room : length 
       rw (before, answer, lt-leb last n now, le-leb last (suc n) (omega arith))))
 
   arrived-reads : (i : ℕ) → i < x .total
-      → text.reading (arrived i .page) (arrived i .received) u ≡ record { number = 0; characters = length (x .text i); text = x .text i ++ replicate (93 - length (x .text i)) 0 }
+      → text.reading (arrived i .page) (arrived i .received) u ≡ givenBack (x .text i)
   arrived-reads i l =
       ap (λ (g : block.Given). text.reading (g .octets) (g .received) u) (sym (arrived-handed i l)) ∙ carried block.start i l start-good .reads
 
@@ -311,7 +312,7 @@ module _ (x : Notice) (p o u : List ℕ) (few : x .total ≤ 15) (room : length 
       -- and each page that is handed out is read as it was written
       reads-back : (i : ℕ) → i < x .total
           → text.reading (pageIn (laid (map arrived (is ++ (k ∷ [])))) i) (receivedOf (laid (map arrived (is ++ (k ∷ [])))) i) u
-          ≡ record { number = 0; characters = length (x .text i); text = x .text i ++ replicate (93 - length (x .text i)) 0 }
+          ≡ givenBack (x .text i)
       reads-back i l =
           let e = laid-arrived (is ++ (k ∷ [])) all-below i l (all-ones i l) in
           rw (e .0, e .1) (arrived-reads i l)

@@ -3,7 +3,7 @@ use mathlib.Core.Path.{_≡_}
 use mathlib.Core.Bool.{Bool, true, cond}
 use mathlib.Core.List.{List, [], _∷_, _++_, map}
 use mathlib.Core.Logic.{_↔_}
-use Prim.Native.Nat.{ℕ, suc, _+_, _*_, _-_, _≤_, _<_}
+use Prim.Native.Nat.{ℕ, suc, _+_, _*_, _≤_, _<_}
 use lib.ListN.{length, replicate}
 use lib.Dec.{eqb}
 use Rattle.laws.specs.Search.{some}
@@ -13,6 +13,7 @@ use Rattle.block_writer.specs.Paper.{writtenBlocks}
 use Rattle.block_history.specs.Claims as pieces
 use Rattle.page.specs.Paper.{Heading}
 use Rattle.text.specs.Paper as text
+use Rattle.text_back.specs.Claims.{givenBack}
 use Rattle.delivery.specs.Claims.{blockOf}
 use Rattle.collector.specs.Paper.{receivedOf, start}
 use Rattle.collector_history.specs.Claims.{Offered, offer, answered, pageIn}
@@ -85,7 +86,7 @@ pub record Collected (x : Notice) (p o u : List ℕ) (h : block.Held) (ts : List
   -- and each page is read as the text that was written
   pub reads : (i : ℕ) → i < x .total
       → text.reading (pageIn (answered (heard h (onAir x p o ts)) one .message) i) (receivedOf (answered (heard h (onAir x p o ts)) one .message) i) u
-      ≡ record { number = 0; characters = length (x .text i); text = x .text i ++ replicate (93 - length (x .text i)) 0 }
+      ≡ givenBack (x .text i)
 
 -- 00, 02 No. 3: texts of up to 15 pages, written, cut into blocks, taken in by a board that was started, and collected from a start in any order, with other pieces between them, are read back page by page
 abbrev pub MessageOverTheAir : Type 0

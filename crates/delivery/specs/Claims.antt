@@ -1,9 +1,9 @@
 -- What is sent arrives: a message reads back as it was written, ours is accepted, and text and schedules go through blocks and intake. Slots are counted from 0 here: slot i is number i + 1.
 use mathlib.Core.Path.{_≡_}
 use mathlib.Core.Bool.{false, true}
-use mathlib.Core.List.{List, _++_}
+use mathlib.Core.List.{List}
 use Prim.Native.Nat.{ℕ, _+_, _≤_, _<_, _*_, suc, _-_}
-use lib.ListN.{length, take, drop, replicate}
+use lib.ListN.{length, take, drop}
 use Rattle.laws.specs.Radix.{Below}
 use Rattle.schedule.specs.Paper.{Told, first, again, optional, advised, Shown, type, begin, end, new, tells, place}
 use Rattle.sender_message.specs.Paper.{descriptions, messageOf, MessageLeft}
@@ -16,6 +16,7 @@ use Rattle.laws.specs.Upto.{each}
 use Rattle.page.specs.Paper.{Heading, header}
 use Rattle.block_history.specs.Claims.{completes, after}
 use Rattle.text.specs.Paper as text
+use Rattle.text_back.specs.Claims.{givenBack}
 
 -- 01 Schedule message, Descriptions: what a description has room for: 15 bits of an identifier, six bits of a slot
 abbrev pub Tellable : Told → Type 0
@@ -94,7 +95,7 @@ pub record Heard (heading : Heading) (t p o u : List ℕ) (h : Held) : Type 0 wh
   pub carried : Carried page (text.writtenPage heading t p .page) (text.writtenPage heading t p .used) o h
   -- read into u, it is the text that was written
   pub reads : text.reading (textHanded heading t p o h .octets) (textHanded heading t p o h .received) u
-      ≡ record { number = 0; characters = length t; text = t ++ replicate (93 - length t) 0 }
+      ≡ givenBack t
 
 -- 00 demand 2: text written, cut into blocks and taken in order gives the same text, on any board whose state is proper
 abbrev pub OverTheAir : Type 0

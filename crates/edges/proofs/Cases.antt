@@ -1,4 +1,4 @@
--- The cases that document 01 marks P, and those of document 02's No. 5, all computed.
+-- The cases that document 01 marks P, and those of document 02's Nos. 5 and 6, all computed.
 use Rattle.laws.proofs.Base.{refl}
 use Rattle.sizes.specs.Paper.{wholeBlocks}
 use Rattle.laws.specs.Radix.{value, digits}
@@ -6,7 +6,7 @@ use Rattle.laws.specs.Search as search
 use Rattle.laws.specs.Upto.{someBelow, count, picked, each}
 use Rattle.alphabet.specs.Paper.{alphabet, codePoint, septetOf, extension, pairPoint, pairSeptet}
 use Rattle.page.specs.Paper.{headerOctets, samePage}
-use Rattle.text.specs.Paper.{septetsOf, unpadded, septets, packed, pageOctets, badParameter, foreign, endsInCr, writtenPage, wholeOf, decoded, leftWith, trimmed, shownText, reading}
+use Rattle.text.specs.Paper.{septetsOf, unpadded, septets, packed, pageOctets, badParameter, foreign, endsInCr, writtenPage, wholeOf, decoded, leftWith, trimmed, shownWith, readingWith}
 use Rattle.block_writer.specs.Paper.{block, blocks}
 use Rattle.block_writer.specs.Paper as cut
 use Rattle.plan.specs.Paper.{bad, planNumber}
@@ -16,7 +16,7 @@ use Rattle.sender_message.specs.Paper.{octetsOfAll, descriptions, newBits, used
 use Rattle.sender.specs.Paper.{plannedTold, newAt, write}
 use Rattle.board.specs.Paper.{isWanted, reads, decide}
 use Rattle.board_held.specs.Paper.{isHeld, tellsOf}
-use Rattle.edges.specs.Claims.{Edges, PairEdgesWritten, PairEdgesRead}
+use Rattle.edges.specs.Claims.{Edges, PairEdgesWritten, PairEdgesRead, BlankEdges}
 
 pub edges : Edges
 unfolding wholeBlocks value digits search.some search.firstFrom search.lookup someBelow count picked each alphabet septetOf extension pairSeptet headerOctets samePage septetsOf unpadded septets packed
@@ -30,5 +30,10 @@ pair-edges-written = refl
 
 pub pair-edges-read : PairEdgesRead
 unfolding wholeBlocks value digits search.lookup alphabet codePoint septetOf extension pairPoint pairSeptet headerOctets septetsOf unpadded septets packed
-    pageOctets badParameter foreign endsInCr writtenPage wholeOf decoded leftWith trimmed shownText reading
+    pageOctets badParameter foreign endsInCr writtenPage wholeOf decoded leftWith trimmed shownWith readingWith
 pair-edges-read = refl
+
+pub blank-edges : BlankEdges
+unfolding wholeBlocks value digits search.lookup alphabet codePoint septetOf extension pairPoint pairSeptet headerOctets septetsOf unpadded septets packed
+    pageOctets badParameter foreign endsInCr writtenPage wholeOf decoded leftWith trimmed shownWith readingWith
+blank-edges = refl

@@ -14,6 +14,13 @@ module _ {A B : Type 0} (f : A → B) where
   ruled-map by [] x = refl
   ruled-map by (t ∷ ts) x = rw (cond-map (t .0) (by (t .1)) (ruled by ts x), ruled-map by ts x)
 
+-- two answers past the same tests are related, where those of each number are and those past the tests
+pub ruled-related : {A B : Type 0} (R : A → B → Type 0) (by : ℕ → A) (of : ℕ → B) → ((n : ℕ) → R (by n) (of n))
+    → (ts : List (Bool × ℕ)) (x : A) (y : B) → R x y → R (ruled by ts x) (ruled of ts y)
+ruled-related R by of each [] x y r = r
+ruled-related R by of each (t ∷ ts) x y r =
+    true-or-false (t .0) (λ e. rw e (each (t .1))) (λ e. rw e (ruled-related R by of each ts x y r))
+
 -- n is the number of one of the tests
 abbrev pub Among : ℕ → List (Bool × ℕ) → Type 0
 Among n [] = ⊥

@@ -3,7 +3,7 @@ use Rattle.laws.proofs.Base.{_≡_, sym, ap, _∙_, true, false, List, ℕ, _<_
 use Rattle.sizes.specs.Paper.{wholeBlocks}
 use Rattle.page.specs.Paper.{octet, handedNumber}
 use Rattle.page.proofs.Received.{Handled, length-wrong, received-wrong, all-right, handled}
-use Rattle.text.specs.Paper.{PageLeft, Reading, septetsReceived, shown, shownText, reading}
+use Rattle.text.specs.Paper.{PageLeft, Reading, septetsReceived, shown, shownText, readingWith, reading}
 
 -- a refusal by n leaves the page p
 abbrev pub unwritten : ℕ → List ℕ → PageLeft
@@ -16,21 +16,21 @@ unread n t = record { number = n; characters = 0; text = t }
 module _ (p : List ℕ) (n : ℕ) (t : List ℕ) where
   module _ (e : length t ≡ 93) where
     pub reading-16 : (length p ≡ 88 → ⊥) → reading p n t ≡ unread 16 t
-    unfolding reading
+    unfolding readingWith
     reading-16 ne = simp (eq-eqb (length t) 93 e, ne-eqb (length p) 88 ne)
 
     module _ (k : length p ≡ 88) where
       pub reading-18 : wholeBlocks n ≡ false → reading p n t ≡ unread 18 t
-      unfolding reading
+      unfolding readingWith
       reading-18 w = simp (eq-eqb (length t) 93 e, eq-eqb (length p) 88 k, w)
 
       module _ (w : wholeBlocks n ≡ true) where
         pub reading-13 : 15 < octet p 5 → reading p n t ≡ unread 13 t
-        unfolding reading
+        unfolding readingWith
         reading-13 l = simp (eq-eqb (length t) 93 e, eq-eqb (length p) 88 k, w, lt-ltb 15 (octet p 5) l)
 
         pub reading-0 : octet p 5 ≤ 15 → reading p n t ≡ shownText (shown (septetsReceived p n))
-        unfolding reading
+        unfolding readingWith
         reading-0 l = simp (eq-eqb (length t) 93 e, eq-eqb (length p) 88 k, w, le-ltb 15 (octet p 5) l)
 
   -- where the handing back is refused, so is reading, by the same number

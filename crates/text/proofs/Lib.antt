@@ -1,4 +1,5 @@
 -- What `text` proves.
 pub mod Cases
 pub mod Septets
+pub mod Shown
 pub mod Trim

@@ -130,9 +130,21 @@ pub record Reading : Type 0 where
 abbrev pub points : List Character → List ℕ
 points l = map (λ (x : Character). x .point) l
 
--- 01 Page and text: the code points of some characters, and 0 in the rest of the 93
-unfoldable pub shownText : List Character → Reading
-shownText l = record { number = 0; characters = length l; text = points l ++ replicate (93 - length l) 0 }
+-- 02 No. 6: blank cells are spaces, U+0020
+abbrev pub blankCell : ℕ
+blankCell = 0x20
+
+-- 01 Page and text, 02 No. 6: the 93 places, with some code points in the first of them and a fill in the rest
+abbrev pub places : ℕ → List ℕ → List ℕ
+places fill c = c ++ replicate (93 - length c) fill
+
+-- 01 Page and text: what is left of some characters that are read, with a fill in the places past them
+unfoldable pub shownWith : ℕ → List Character → Reading
+shownWith fill l = record { number = 0; characters = length l; text = places fill (points l) }
+
+-- 02 No. 6: the same with blank cells
+abbrev pub shownText : List Character → Reading
+shownText l = shownWith blankCell l
 
 -- 01 Order, text reader: 15, 16, 18, 13
 abbrev pub readerTests : List ℕ → ℕ → List ℕ → List (Bool × ℕ)
@@ -143,6 +155,11 @@ readerTests p n t =
     ∷ (ltb 0x0f (octet p 5), 13)
     ∷ []
 
--- 01 Page and text: what the text reader leaves of the text t; a refusal leaves it as it was
-unfoldable pub reading : List ℕ → ℕ → List ℕ → Reading
-reading p n t = ruled (λ m. record { number = m; characters = 0; text = t }) (readerTests p n t) (shownText (shown (septetsReceived p n)))
+-- 01 Page and text: what a text reader with a fill leaves of the text t; a refusal leaves it as it was
+unfoldable pub readingWith : ℕ → List ℕ → ℕ → List ℕ → Reading
+readingWith fill p n t =
+    ruled (λ m. record { number = m; characters = 0; text = t }) (readerTests p n t) (shownWith fill (shown (septetsReceived p n)))
+
+-- 02 No. 6: the text reader fills with blank cells
+abbrev pub reading : List ℕ → ℕ → List ℕ → Reading
+reading p n t = readingWith blankCell p n t

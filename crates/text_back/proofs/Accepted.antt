@@ -3,7 +3,7 @@ use Rattle.laws.proofs.Base.{_≡_, refl, true, false, List, ℕ, _≤_, length
 use Rattle.sizes.specs.Paper.{wholeBlocks}
 use Rattle.laws.proofs.Ruled.{Ruling, refuses, passes, ruling, not-among, others, unrefused}
 use Rattle.page.specs.Paper.{Heading}
-use Rattle.text.specs.Paper.{PageLeft, foreign, endsInCr, unpadded, usedOctets, pageOctets, writerTests, writtenPage, septetsReceived, shown, shownText, readerTests, reading}
+use Rattle.text.specs.Paper.{PageLeft, foreign, endsInCr, unpadded, usedOctets, pageOctets, writerTests, writtenPage, septetsReceived, shown, shownText, readerTests, readingWith, reading}
 use Rattle.text.proofs.Cases.{unwritten, unread}
 
 -- no test of the writer's order held
@@ -33,7 +33,7 @@ pub data Reads (p : List ℕ) (n : ℕ) (t : List ℕ) : Type 0 where
   read : wholeBlocks n ≡ true → reading p n t ≡ shownText (shown (septetsReceived p n)) → Reads p n t
 
 pub reads : (p : List ℕ) (n : ℕ) (t : List ℕ) → Reads p n t
-unfolding reading
+unfolding readingWith
 reads p n t = go (ruling (λ (m : ℕ). unread m t) (readerTests p n t) (shownText (shown (septetsReceived p n))))
   where
     go : Ruling (λ (m : ℕ). unread m t) (readerTests p n t) (shownText (shown (septetsReceived p n))) (reading p n t) → Reads p n t

@@ -9,7 +9,7 @@ use Rattle.laws.proofs.Radix.{length-digits, take-digits, digits-front, digits-
 use Rattle.sizes.proofs.Received.{whole-times, whole-bounds}
 use Rattle.page.specs.Paper.{Heading, header, headerOctets, octet}
 use Rattle.page.proofs.HeaderBack.{header-back, header-length}
-use Rattle.text.specs.Paper.{cr, Character, unpadded, septets, packed, pageOctets, usedOctets, foreign, endsInCr, writtenPage, wholeOf, septetsReceived, trimmed, points, shown, shownText}
+use Rattle.text.specs.Paper.{cr, Character, unpadded, septets, packed, pageOctets, usedOctets, foreign, endsInCr, writtenPage, wholeOf, septetsReceived, trimmed, points, shown, shownWith, shownText}
 use Rattle.text.proofs.Cases.{reading-0}
 use Rattle.text.proofs.Septets.{readAs, decoded-text, decoded-crs, septets-count, septets-below}
 use Rattle.text.proofs.Trim.{trim-other, trim-padding, take-last}
@@ -84,7 +84,7 @@ points-back [] = refl
 points-back (c ∷ t) = ap (_∷_ c) (points-back t)
 
 shown-back : (t : List ℕ) → shownText (map readAs t) ≡ givenBack t
-unfolding shownText
+unfolding shownWith
 shown-back t = rw (length-map t readAs, points-back t)
 
 -- what was used is at least the header, and at most the page

@@ -1,22 +1,22 @@
 -- What the reader says of its characters: how many there are at most, what a pair shows, and what is dropped.
-use Rattle.laws.proofs.Base.{_≡_, refl, sym, ap, _∙_, Bool, true, false, true≢false, and-false, List, [], _∷_, _++_, ℕ, _-_, _≤_, min-le-left, arith, eqb, lit≤, length, take, drop, length-take, length-map, take-at, ne-eqb}
+use Rattle.laws.proofs.Base.{_≡_, refl, sym, ap, _∙_, Bool, true, false, true≢false, and-false, List, [], _∷_, _++_, ℕ, _-_, _≤_, min-le-left, arith, eqb, lit≤, length, take, drop, length-take, ne-eqb}
 use Rattle.laws.proofs.Radix.{length-digits}
 use Rattle.laws.proofs.Tests.{true-or-false}
 use Rattle.sizes.proofs.Received.{whole-bounds}
 use Rattle.alphabet.specs.Paper.{codePoint, escape, extension, pairPoint}
 use Rattle.alphabet.proofs.Laws.{undoes-pairs, unlisted, pair-escape, pair-cr}
-use Rattle.text.specs.Paper.{Reading, Character, cr, wholeOf, septetsReceived, decoded, trimmed, points, shown, shownText, reading}
+use Rattle.text.specs.Paper.{Reading, Character, cr, wholeOf, septetsReceived, decoded, trimmed, blankCell, shown, shownText, reading}
 use Rattle.text.proofs.Septets.{decoded-plain, shown-few}
+use Rattle.text.proofs.Shown.{shown-characters, shown-front}
 use Rattle.text.proofs.Trim.{trim-rest, trim-length, trim-front, trim-ends, trim-behind, trim-other}
 use Rattle.text_back.specs.Claims.{CharactersBounded, allReceived, DropsCrsOnly, waits, Received, PairShown, ListedShown, UnlistedShown, EscapeTwiceShown, EscapedCrShown, EscapeLastShown, OwnShown, PlainShown}
 use Rattle.text_back.proofs as own
 use own.Accepted.{Reads, refused, read, reads}
 
 -- the number of characters is that of those shown
-count : (p : List ℕ) (n : ℕ) (t : List ℕ) → reading p n t ≡ shownText (shown (septetsReceived p n))
+pub count : (p : List ℕ) (n : ℕ) (t : List ℕ) → reading p n t ≡ shownText (shown (septetsReceived p n))
     → reading p n t .characters ≡ length (shown (septetsReceived p n))
-unfolding shownText
-count p n t e = ap (λ (r : Reading). r .characters) e
+count p n t e = ap (λ (r : Reading). r .characters) e ∙ shown-characters blankCell (shown (septetsReceived p n))
 
 received-bound : (p : List ℕ) (n : ℕ) → n ≤ 88 → length (septetsReceived p n) ≤ 93
 unfolding wholeOf
@@ -33,16 +33,12 @@ characters-bounded p n t = go (reads p n t)
     go (read w e) = omega (arith, count p n t e, shown-few (septetsReceived p n), received-bound p n (whole-bounds n w .1))
 
 -- where the reader gives 0, it shows the septets received
-shows : (p : List ℕ) (n : ℕ) (t : List ℕ) → reading p n t .number ≡ 0 → reading p n t ≡ shownText (shown (septetsReceived p n))
+pub shows : (p : List ℕ) (n : ℕ) (t : List ℕ) → reading p n t .number ≡ 0 → reading p n t ≡ shownText (shown (septetsReceived p n))
 shows p n t z = go (reads p n t)
   where
     go : Reads p n t → reading p n t ≡ shownText (shown (septetsReceived p n))
     go (refused m ne e) = absurd (ne (sym (ap (λ (r : Reading). r .number) e) ∙ z))
     go (read w e) = e
-
-text-front : (l : List Character) → take (length l) (shownText l .text) ≡ points l
-unfolding shownText
-text-front l = take-at (points l) _ (length l) (length-map l (λ (x : Character). x .point))
 
 pub drops-crs-only : (p : List ℕ) (n : ℕ) (t : List ℕ) → reading p n t .number ≡ 0 → DropsCrsOnly p n t
 drops-crs-only p n t z =
@@ -51,7 +47,7 @@ drops-crs-only p n t z =
     let c = count p n t e in
     record {
       shown = rw c (trim-length all);
-      first = rw (c, trim-front all) (ap (λ (r : Reading). take (length (trimmed all)) (r .text)) e ∙ text-front (trimmed all));
+      first = rw (c, trim-front all) (ap (λ (r : Reading). take (length (trimmed all)) (r .text)) e ∙ shown-front blankCell (trimmed all));
       dropped = rw (c, trim-front all) (trim-rest all);
       stops = rw c (trim-ends all);
     }

@@ -4,17 +4,17 @@ use mathlib.Core.Bool.{Bool, false, true, not, _&&_}
 use mathlib.Core.List.{List, [], _∷_, _++_, map}
 use Prim.Native.Nat.{ℕ, _+_, _*_, _-_, _/_, _%_, _≤_, _<_}
 use lib.Dec.{eqb}
-use lib.ListN.{length, getD, take, replicate}
+use lib.ListN.{length, getD, take, drop, replicate}
 use Rattle.laws.specs.Radix.{Below, bit}
 use Rattle.laws.specs.Search.{some}
 use Rattle.alphabet.specs.Paper.{codePoint, septetOf, noSeptet, escape, extension, pairPoint}
 use Rattle.sizes.specs.Paper.{wholeBlocks}
 use Rattle.page.specs.Paper.{Heading, header}
-use Rattle.text.specs.Paper.{Reading, Character, cr, unpadded, packed, usedOctets, badParameter, endsInCr, writtenPage, wholeOf, septetsReceived, decoded, isPlainCr, points, shown, shownText, reading}
+use Rattle.text.specs.Paper.{Reading, Character, cr, unpadded, packed, usedOctets, badParameter, endsInCr, writtenPage, wholeOf, septetsReceived, decoded, isPlainCr, points, blankCell, places, shown, shownText, readingWith, reading}
 
--- 01 Page and text: a text as the reader gives it: its characters, and 0 in the rest of the 93
+-- 01 Page and text, 02 No. 6: a text as the reader gives it: its characters, and blank cells in the rest of the 93
 abbrev pub givenBack : List ℕ → Reading
-givenBack t = record { number = 0; characters = length t; text = t ++ replicate (93 - length t) 0 }
+givenBack t = record { number = 0; characters = length t; text = places blankCell t }
 
 -- any page that agrees with the written one on the octets received, all used ones among them, is read back as the text
 abbrev pub TextBack : Type 0
@@ -144,6 +144,41 @@ abbrev pub PlainShown : Type 0
 PlainShown =
     (p : List ℕ) (n : ℕ) → some (λ (s : ℕ). eqb s escape) (septetsReceived p n) ≡ false
     → allReceived p n ≡ map (λ (s : ℕ). record { point = codePoint s; escaped = false }) (septetsReceived p n)
+
+-- 02 No. 6: two readings with the same number, the same count and the same characters
+pub record SameText (r s : Reading) : Type 0 where
+  pub number : r .number ≡ s .number
+  pub characters : r .characters ≡ s .characters
+  pub first : take (r .characters) (r .text) ≡ take (s .characters) (s .text)
+
+-- 02 No. 6: text itself is unchanged: whatever two readers fill with, and whatever stood in the places before, they read the same text
+abbrev pub TextUnchanged : Type 0
+TextUnchanged = (f g : ℕ) (p : List ℕ) (n : ℕ) (t u : List ℕ) → length t ≡ length u → SameText (readingWith f p n t) (readingWith g p n u)
+
+-- 02 No. 6: what the reader leaves in the places past its characters
+pub record CellsBlank (p : List ℕ) (n : ℕ) (t : List ℕ) : Type 0 where
+  -- where it reads, U+0020 in the rest of the 93
+  pub size : reading p n t .number ≡ 0 → length (reading p n t .text) ≡ 93
+  pub rest : reading p n t .number ≡ 0 → drop (reading p n t .characters) (reading p n t .text) ≡ replicate (93 - reading p n t .characters) 0x20
+  -- where it refuses, all places as they were
+  pub untouched : (reading p n t .number ≡ 0 → ⊥) → (reading p n t .characters ≡ 0) × (reading p n t .text ≡ t)
+
+-- 02 No. 6: spaces at the end of a text still count: a space x before nothing but CRs is counted, and so is all before it
+abbrev pub SpacesCounted : Type 0
+SpacesCounted =
+    (p : List ℕ) (n : ℕ) (t : List ℕ) (l : List Character) (x : Character) (j : ℕ) → reading p n t .number ≡ 0
+    → allReceived p n ≡ l ++ (x ∷ replicate j (record { point = cr; escaped = false })) → x .point ≡ 0x20
+    → reading p n t .characters ≡ length l + 1
+
+-- 02 No. 6: no place holds 0, for which the new panel draws a box and the old driver looked
+abbrev pub NoCellZero : Type 0
+NoCellZero = (p : List ℕ) (n : ℕ) (t : List ℕ) (k : ℕ) → reading p n t .number ≡ 0 → k < 93 → getD (reading p n t .text) k 0 ≡ 0 → ⊥
+
+-- 02 No. 6: the reported length has to be taken: nothing that looks at the 93 places alone finds it
+abbrev pub LengthNotInCells : Type 0
+LengthNotInCells =
+    (find : List ℕ → ℕ)
+    → ((p : List ℕ) (n : ℕ) (t : List ℕ) → reading p n t .number ≡ 0 → find (reading p n t .text) ≡ reading p n t .characters) → ⊥
 
 -- bit m of the octets is bit m of the septets; past the last septet stand zeros
 abbrev pub PackedBits : Type 0

@@ -4,7 +4,7 @@ mod reading;
 ghost use mathlib.Core.Path.{_≡_};
 ghost use Prim.Native.Nat.{_≤_};
 ghost use lib.ListN.{length, replicate};
-ghost use Rattle.text.specs.Paper.{shown, shownText, wholeOf, reading};
+ghost use Rattle.text.specs.Paper.{blankCell, shown, shownText, wholeOf, reading};
 ghost use Rattle.text_reader.specs.Coded.{readingOf};
 use alphabet::tables::CODE_POINTS;
 use page::Handing;
@@ -17,17 +17,18 @@ pub enum Got {
     Refused(Refusal),
 }
 
+// 02 No. 6: what stands past a text is spaces.
 fn blank(text: &mut [u16])
-    ensures { λ r. ⌜ now (text .exit) ≡ replicate (length (now (text .entry))) 0 ⌝ }
+    ensures { λ r. ⌜ now (text .exit) ≡ replicate (length (now (text .entry))) blankCell ⌝ }
 {
     let mut i = 0;
     while i < text.len() {
-        text[i] = 0;
+        text[i] = 0x20;
         i += 1;
     }
 }
 
-// Writes the text of some content received, 0 after it, and answers its length.
+// Writes the text of some content received, blank cells after it, and answers its length.
 fn show(content: &[u8], text: &mut [u16]) -> usize
     requires { ⌜ (length (now content) ≤ 82) × (length (now text) ≡ 93) ⌝ }
     ensures { λ r. ⌜ readingOf (Got.Characters r) (now (text .exit)) ≡ shownText (shown (wholeOf (now (content .entry)))) ⌝ }

@@ -1,6 +1,7 @@
 //! The cases at the edges of each entry, chosen one by one.
 
 use crate::bad_entries;
+use crate::blank_cells;
 use crate::blocks::{BLOCK, FILL, MESSAGE};
 use crate::case::{Case, Entry};
 use crate::extension;
@@ -17,11 +18,11 @@ use crate::zero_parameter;
 
 /// The edge cases of an entry.
 pub fn cases(entry: Entry) -> Vec<Case> {
-    [but_for_extension(entry), extension::cases(entry)].concat()
+    [stored_first(entry), extension::cases(entry), blank_cells::cases(entry)].concat()
 }
 
-/// The edge cases of an entry but for those of document 02's No. 5, which are stored in files of their own.
-pub fn but_for_extension(entry: Entry) -> Vec<Case> {
+/// The edge cases of an entry but for those of document 02's Nos. 5 and 6, which are stored in other files and last.
+pub fn stored_first(entry: Entry) -> Vec<Case> {
     match entry {
         Entry::Start => vec![Case::new(entry, &[], &[&[0; STATE]], &[]), Case::new(entry, &[], &[&[]], &[])],
         Entry::Intake => intake(),

@@ -7,7 +7,7 @@ use crate::text::{pack, ALPHABET, CHARACTERS, ESCAPE, EXTENSION, HEADER, SEPTETS
 
 const CR: u8 = 0x0D;
 const CR_POINT: u16 = 0x0D;
-const RECEIVED: [(u64, usize); 4] = [(22, 18), (44, 43), (66, 68), (88, SEPTETS)]; // 01 Page and text: with whole septets
+pub const RECEIVED: [(u64, usize); 4] = [(22, 18), (44, 43), (66, 68), (88, SEPTETS)]; // 01 Page and text: whole septets
 const FOREIGN: [u16; 6] = [0x001B, 0x0060, 0x20AD, 0x0009, 0x1B3C, 0xFFFF]; // in neither table
 const LONG: usize = 300; // characters, or twice as many septets: over 255 either way
 
@@ -170,7 +170,7 @@ fn faults_at_once() -> Vec<Case> {
 }
 
 /// A reading of these septets, with CR after them up to 93.
-fn read(septets: &[u8], received: u64) -> Case {
+pub fn read(septets: &[u8], received: u64) -> Case {
     let mut all = septets.to_vec();
     all.resize(SEPTETS, CR);
     let mut page = [0; MESSAGE];
@@ -180,7 +180,7 @@ fn read(septets: &[u8], received: u64) -> Case {
 }
 
 /// 93 septets that are letters, with others from a place on.
-fn letters(place: usize, others: &[u8]) -> Vec<u8> {
+pub fn letters(place: usize, others: &[u8]) -> Vec<u8> {
     let mut septets: Vec<u8> = (0..SEPTETS as u8).map(|at| 0x41 + at % 26).collect();
     septets[place..place + others.len()].copy_from_slice(others);
     septets

@@ -1,7 +1,8 @@
-//! A second implementation of the base of document 01 and of document 02's Nos. 1 to 3 and 5, written from the documents
+//! A second implementation of the base of document 01 and of document 02's Nos. 1 to 3, 5 and 6, written from the documents
 //! alone.
 
 pub mod bad_entries;
+pub mod blank_cells;
 pub mod blocks;
 pub mod case;
 pub mod checker;

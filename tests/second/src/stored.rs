@@ -4,6 +4,7 @@ use std::path::Path;
 use std::time::{Duration, Instant};
 use std::{fs, io};
 
+use crate::blank_cells;
 use crate::blocks::MESSAGE;
 use crate::case::{self, hex, hex_slots, hex_words, Case, Entry, ENTRIES};
 use crate::collector::COLLECTOR;
@@ -44,7 +45,7 @@ pub fn files() -> Vec<(&'static str, Vec<String>)> {
         ("blocks.txt", lines(Entry::WriteBlocks, 40)),
         ("intake.txt", [lines(Entry::Start, 6), lines(Entry::Intake, 60), sequences(80)].concat()),
         ("text.txt", lines(Entry::WriteText, 100)),
-        ("text_read.txt", lines(Entry::ReadText, 100)),
+        ("text_read.txt", [lines(Entry::ReadText, 100), blank_lines(Entry::ReadText)].concat()),
         ("text_pairs.txt", paired_lines(Entry::WriteText, 150)),
         ("text_pairs_read.txt", paired_lines(Entry::ReadText, 80)),
         ("content.txt", lines(Entry::Content, 30)),
@@ -64,7 +65,7 @@ pub fn files() -> Vec<(&'static str, Vec<String>)> {
 /// given doesn't hang on which pages are the same.
 fn lines_of(entry: Entry, random_cases: usize) -> Vec<String> {
     let mut random = Random::new(SEED ^ entry as u64);
-    let mut cases = edges::but_for_extension(entry);
+    let mut cases = edges::stored_first(entry);
     for faults in fault_sets(entry) {
         let mut case = sound_by(entry, &mut random, SLOTS_MOST, by_octets);
         put(&mut case, &faults, &mut random);
@@ -92,6 +93,11 @@ fn paired_lines(entry: Entry, random_cases: usize) -> Vec<String> {
     }
     cases.extend((0..random_cases).map(|_| any_call(any_paired, entry, &mut random, SLOTS_MOST)));
     cases.iter().map(line).collect()
+}
+
+/// The edges of the places after a text. // 02 No. 6
+fn blank_lines(entry: Entry) -> Vec<String> {
+    blank_cells::cases(entry).iter().map(line).collect()
 }
 
 /// Every tenth random case has up to 48 slots.

@@ -11,6 +11,7 @@ pub const ESCAPE: u8 = 0x1B; // 02 No. 5
 const CR: u8 = 0x0D;
 const CR_POINT: u16 = 0x0D;
 const SPACE: u16 = 0x20;
+const BLANK: u16 = 0x20; // 02 No. 6: what the reader writes in the places after a text
 
 /// The default alphabet of GSM 03.38 by septet; 1B reads as a space. // 01 Page and text
 #[rustfmt::skip]
@@ -154,7 +155,7 @@ pub fn read_text(page: &[u8], received: usize, text: &mut [u16]) -> Result<usize
     }
     let characters = characters(&unpack(part));
     let count = characters.iter().rposition(|character| !character.is_dropped_at_end()).map_or(0, |last| last + 1);
-    text.fill(0);
+    text.fill(BLANK);
     for (point, character) in text.iter_mut().zip(&characters[..count]) {
         *point = character.point;
     }

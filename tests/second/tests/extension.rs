@@ -1,6 +1,8 @@
 //! Document 02's No. 5: brackets, the euro sign and the rest of the default extension table, sentence by sentence; and that
 //! programs which take a sentence otherwise are told from this one.
 
+mod septets;
+
 use std::fmt::Debug;
 
 use second::blocks::{write_blocks, Kind};
@@ -11,12 +13,9 @@ use second::invent::{any, paired, sound};
 use second::random::Random;
 use second::side::{header, Ours, Side};
 use second::stored::{case_of, files};
-use second::text::{pack, septet, unpack, Header, ALPHABET};
+use second::text::{septet, unpack, Header, ALPHABET};
+use septets::{page_of, CR, HEADER, RECEIVED, SPACE};
 
-const HEADER: Header = Header { serial: 0x0010, identifier: 0x8001, scheme: 0, parameter: 0x11 };
-const RECEIVED: [(usize, usize); 4] = [(22, 18), (44, 43), (66, 68), (88, 93)]; // octets, and their whole septets
-const CR: u8 = 0x0D;
-const SPACE: u16 = 0x20;
 const LISTED: [(u8, char); 10] = [
     (0x0A, '\u{000C}'),
     (0x14, '^'),
@@ -48,22 +47,12 @@ fn written(text: &[u16]) -> (u64, u64, Vec<u8>) {
     (returned & 0xFF, returned >> 8, page)
 }
 
-/// The page of these septets, with CR after them.
-fn page_of(septets: &[u8]) -> Vec<u8> {
-    let mut all = septets.to_vec();
-    all.resize(93, CR);
-    let mut page = vec![0x00, 0x10, 0x80, 0x01, 0x00, 0x11];
-    page.resize(88, 0);
-    pack(&all, &mut page[6..]);
-    page
-}
-
-/// The text that is read of a page; what is behind it must be 0.
+/// The text that is read of a page; what is behind it must be spaces. // 02 No. 6
 fn text_of(page: &[u8], received: usize) -> Vec<u16> {
     let mut text = [0xA5A5; 93];
     let returned = Ours.read_text(&mut page.to_vec(), received, &mut text);
     let (text, rest) = text.split_at((returned >> 8) as usize);
-    assert_eq!((returned & 0xFF, rest.iter().all(|&point| point == 0)), (0, true));
+    assert_eq!((returned & 0xFF, rest.iter().all(|&point| point == SPACE)), (0, true));
     text.to_vec()
 }
 

@@ -145,7 +145,8 @@ fn text_comes_back() {
         for received in [22 * used.div_ceil(22), 88] {
             let mut text = [0xFFFF; CHARACTERS];
             assert_eq!(read_text(&page, received, &mut text), Ok(length));
-            assert_eq!((&text[..length], text[length..].iter().all(|&point| point == 0)), (&points[..], true));
+            let blank = text[length..].iter().all(|&point| point == 0x20); // 02 No. 6
+            assert_eq!((&text[..length], blank), (&points[..], true));
         }
     }
 }

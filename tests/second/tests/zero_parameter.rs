@@ -169,7 +169,7 @@ fn the_text_writer_refuses_a_zero_half() {
 #[test]
 fn the_text_reader_and_the_header_take_any_parameter() {
     let (_, mut page) = text_written(0x11);
-    let mut expected = [0; CHARACTERS];
+    let mut expected = [0x20; CHARACTERS]; // 02 No. 6
     expected[0] = 0x41;
     for parameter in 0..=0xFF {
         page[5] = parameter;

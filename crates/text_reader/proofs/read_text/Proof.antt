@@ -7,14 +7,14 @@ use Rattle.sizes.proofs.Received.{whole-bounds}
 use Rattle.page.specs.Paper.{Part}
 use Rattle.page.specs.Coded.{numberOfHanding, partOf}
 use Rattle.page.proofs.Received.{handed-content}
-use Rattle.text.specs.Paper.{wholeOf, shown, shownText, reading}
+use Rattle.text.specs.Paper.{wholeOf, shown, shownText, readingWith}
 use Rattle.text.proofs.Cases.{reading-13, reading-0, reading-refused, handed-right}
 use Rattle.text_reader.proofs.read_text as own
 use own.Statement.{statement}
 use own.Tie as tie
 
 returns : tie.Need-returns
-unfolding reading
+unfolding readingWith
 returns c = simp (ne-eqb _ _ (c .if1 .taken))
 
 -- past the text's length

@@ -3,7 +3,7 @@ use Rattle.laws.proofs.Base.{_≡_, refl, sym, ap, subst, _∙_, List, _++_, �
 use Rattle.laws.specs.Radix.{value, digits}
 use Rattle.alphabet.specs.Paper.{alphabet}
 use Rattle.packing.proofs.Others.{unpacked-into}
-use Rattle.text.specs.Paper.{wholeOf, shown, shownText}
+use Rattle.text.specs.Paper.{blankCell, wholeOf, shown, shownWith, shownText}
 use Rattle.text.proofs.Septets.{shown-few}
 use Rattle.text_reader.specs.Inner.{Read}
 use Rattle.text_reader.proofs as own
@@ -77,12 +77,12 @@ module _ (r : tie.After-read) where
   bound = omega (arith, reads .count, few)
 
 returns : tie.Need-returns
-unfolding shownText
+unfolding shownWith
 returns c =
     let r = c .before .before .before .before .before .before in
     let y = unpacked (back r) in
     let made =
-    shown-made y (r .read .last .1 .1 .0) (c .before .before .blank .last .0) (r .read .result) (size r) (few r) (reads r)
+    shown-made y (r .read .last .1 .1 .0) (c .before .before .blank .last .0) (r .read .result) blankCell (size r) (few r) (reads r)
     (c .before .before .blank .ensures) in
     (λ i. record { number = 0; characters = reads r .count i; text = made i }) ∙ ap (λ (l : List ℕ). shownText (shown l)) (unpacked-whole (back r))
 
