@@ -175,7 +175,7 @@ unlisted s none = go (looked (λ (p : ℕ × ℕ). p .0) (λ (p : ℕ × ℕ). p
     go (not-listed e) = e
     go (listed-at i h k e) = absurd (none i h k)
 
--- nor is that of a pair
+-- the code point of a pair is not 0 either
 all-pairs-nonzero : some (λ (p : ℕ × ℕ). eqb (p .1) 0) extension ≡ false
 unfolding some extension
 all-pairs-nonzero = refl

@@ -177,27 +177,28 @@ pairsRead =
     ∷ (readFrom 0 22 (withCrs (0x41 ∷ 0x0d ∷ [])), 0 ∷ 1 ∷ 0x41 ∷ [])
     ∷ []
 
--- 02 No. 6: what reading n octets of a page leaves of 93 places that hold 2A: number, characters, and all places
-abbrev pub readOver : ℕ → List ℕ → List ℕ
-readOver n p =
-    let r : text.Reading = text.reading p n (replicate 93 0x2a) in
+-- 02 No. 6: what reading n octets of a page leaves of k places that hold 2A: number, characters, and all places
+abbrev pub readOver : ℕ → ℕ → List ℕ → List ℕ
+readOver k n p =
+    let r : text.Reading = text.reading p n (replicate k 0x2a) in
     r .number ∷ r .characters ∷ r .text
 
 -- 02 No. 6: what its sentences say, case by case
 abbrev pub blanksRead : List (List ℕ × List ℕ)
 blanksRead =
     -- an empty text leaves 93 spaces, and after A stand 92
-    (readOver 22 (textWritten [] .page), 0 ∷ 0 ∷ replicate 93 0x20)
-    ∷ (readOver 22 (textWritten (0x41 ∷ []) .page), 0 ∷ 1 ∷ 0x41 ∷ replicate 92 0x20)
+    (readOver 93 22 (textWritten [] .page), 0 ∷ 0 ∷ replicate 93 0x20)
+    ∷ (readOver 93 22 (textWritten (0x41 ∷ []) .page), 0 ∷ 1 ∷ 0x41 ∷ replicate 92 0x20)
     -- spaces at a text's end count, though the places are the same
-    ∷ (readOver 22 (textWritten (0x41 ∷ 0x20 ∷ 0x20 ∷ []) .page), 0 ∷ 3 ∷ 0x41 ∷ replicate 92 0x20)
-    ∷ (readOver 88 (textWritten (replicate 93 0x20) .page), 0 ∷ 93 ∷ replicate 93 0x20)
+    ∷ (readOver 93 22 (textWritten (0x41 ∷ 0x20 ∷ 0x20 ∷ []) .page), 0 ∷ 3 ∷ 0x41 ∷ replicate 92 0x20)
+    ∷ (readOver 93 88 (textWritten (replicate 93 0x20) .page), 0 ∷ 93 ∷ replicate 93 0x20)
     -- past the part that was received stand spaces too
-    ∷ (readOver 22 (textWritten (replicate 93 0x41) .page), 0 ∷ 18 ∷ replicate 18 0x41 ++ replicate 75 0x20)
+    ∷ (readOver 93 22 (textWritten (replicate 93 0x41) .page), 0 ∷ 18 ∷ replicate 18 0x41 ++ replicate 75 0x20)
     -- a refusal leaves the places as they were
-    ∷ (readOver 22 [], 16 ∷ 0 ∷ replicate 93 0x2a)
-    ∷ (readOver 21 (textWritten [] .page), 18 ∷ 0 ∷ replicate 93 0x2a)
-    ∷ (readOver 22 (replicate 88 0x10), 13 ∷ 0 ∷ replicate 93 0x2a)
+    ∷ (readOver 92 22 (textWritten [] .page), 15 ∷ 0 ∷ replicate 92 0x2a)
+    ∷ (readOver 93 22 [], 16 ∷ 0 ∷ replicate 93 0x2a)
+    ∷ (readOver 93 21 (textWritten [] .page), 18 ∷ 0 ∷ replicate 93 0x2a)
+    ∷ (readOver 93 22 (replicate 88 0x10), 13 ∷ 0 ∷ replicate 93 0x2a)
     ∷ []
 
 -- 02 No. 5

@@ -1,6 +1,9 @@
--- Laws of what is left of some characters that are read, whatever fills the places past them.
-use Rattle.laws.proofs.Base.{_≡_, refl, _∙_, List, ℕ, _-_, length, take, drop, replicate, length-map, take-at, drop-at}
+-- Laws of what reading leaves of some characters, whatever fills the places past them.
+use Rattle.laws.proofs.Base.{_≡_, refl, List, _++_, ℕ, _-_, _≤_, arith, length, take, drop, replicate, length-append, length-replicate, length-map, take-at, drop-at}
 use Rattle.text.specs.Paper.{Character, points, shownWith}
+
+pub length-points : (l : List Character) → length (points l) ≡ length l
+length-points l = length-map l (λ (x : Character). x .point)
 
 module _ (fill : ℕ) (l : List Character) where
   pub shown-number : shownWith fill l .number ≡ 0
@@ -11,16 +14,16 @@ module _ (fill : ℕ) (l : List Character) where
   unfolding shownWith
   shown-characters = refl
 
-  -- as many code points as characters
-  size : length (points l) ≡ length l
-  size = length-map l (λ (x : Character). x .point)
+  -- the characters stand in front, and the fill in the rest of the 93
+  pub shown-parts : shownWith fill l .text ≡ points l ++ replicate (93 - length l) fill
+  unfolding shownWith
+  shown-parts = rw (length-points l)
 
-  -- the characters stand in front
   pub shown-front : take (length l) (shownWith fill l .text) ≡ points l
-  unfolding shownWith
-  shown-front = take-at (points l) (replicate (93 - length (points l)) fill) (length l) size
+  shown-front = rw shown-parts (take-at (points l) (replicate (93 - length l) fill) (length l) (length-points l))
 
-  -- and the fill in the rest of the 93
   pub shown-rest : drop (length l) (shownWith fill l .text) ≡ replicate (93 - length l) fill
-  unfolding shownWith
-  shown-rest = drop-at (points l) (replicate (93 - length (points l)) fill) (length l) size ∙ rw size
+  shown-rest = rw shown-parts (drop-at (points l) (replicate (93 - length l) fill) (length l) (length-points l))
+
+  pub shown-size : length l ≤ 93 → length (shownWith fill l .text) ≡ 93
+  shown-size few = rw shown-parts (simp (length-append, length-replicate, length-points l) (omega arith))

@@ -130,7 +130,7 @@ pub record Reading : Type 0 where
 abbrev pub points : List Character → List ℕ
 points l = map (λ (x : Character). x .point) l
 
--- 02 No. 6: blank cells are spaces, U+0020
+-- 02 No. 6: blank cells, the places past a text, are spaces, U+0020
 abbrev pub blankCell : ℕ
 blankCell = 0x20
 
@@ -138,7 +138,7 @@ blankCell = 0x20
 abbrev pub places : ℕ → List ℕ → List ℕ
 places fill c = c ++ replicate (93 - length c) fill
 
--- 01 Page and text: what is left of some characters that are read, with a fill in the places past them
+-- 01 Page and text: what reading leaves where these characters are read, with a fill in the places past them
 unfoldable pub shownWith : ℕ → List Character → Reading
 shownWith fill l = record { number = 0; characters = length l; text = places fill (points l) }
 

@@ -1,6 +1,6 @@
 -- What the reader leaves past a text: blank cells; and that the text is the same whatever it fills with.
-use Rattle.laws.proofs.Base.{_≡_, refl, sym, ap, _∙_, Bool, true, false, List, [], _∷_, _++_, map-append, ℕ, zero, suc, _+_, _-_, _≤_, arith, eqb, eqb-false, ne-eqb}
-use Rattle.laws.proofs.Base.{length, getD, replicate, length-append, length-replicate, length-map, take-append-drop}
+use Rattle.laws.proofs.Base.{_≡_, refl, sym, ap, _∙_, Bool, true, false, List, [], _∷_, _++_, map-append, ℕ, zero, suc, _+_, _-_, arith, eqb, eqb-false, ne-eqb}
+use Rattle.laws.proofs.Base.{length, getD, replicate, length-append}
 use Rattle.laws.specs.Search.{some}
 use Rattle.laws.proofs.Ruled.{ruled-related}
 use Rattle.laws.proofs.Search.{some-append, some-false}
@@ -10,7 +10,7 @@ use Rattle.alphabet.proofs.Laws.{codePoint-nonzero, pairPoint-nonzero}
 use Rattle.page.specs.Paper.{Heading}
 use Rattle.text.specs.Paper.{Reading, Character, septetsOf, unpadded, badParameter, foreign, endsInCr, writtenPage, septetsReceived, decoded, trimmed, points, blankCell, places, shown, shownWith, shownText, readerTests, readingWith, reading}
 use Rattle.text.proofs.Cases.{unread}
-use Rattle.text.proofs.Shown.{shown-number, shown-characters, shown-front, shown-rest}
+use Rattle.text.proofs.Shown.{shown-number, shown-characters, shown-parts, shown-front, shown-rest, shown-size}
 use Rattle.text.proofs.Trim.{plainCr, trim-rest, trim-padding, trim-behind}
 use Rattle.text_back.specs.Claims.{SameText, TextUnchanged, CellsBlank, SpacesCounted, NoCellZero, LengthNotInCells}
 use Rattle.text_back.proofs as own
@@ -33,14 +33,6 @@ text-unchanged f g p n t u e =
     (ruled-related SameText (λ (m : ℕ). unread m t) (λ (m : ℕ). unread m u) (λ m. record { number = refl; characters = refl; first = refl }) (readerTests p n u)
     (shownWith f (shown (septetsReceived p n))) (shownWith g (shown (septetsReceived p n))) (shown-same f g (shown (septetsReceived p n))))
 
--- the 93 places are these two parts
-shown-parts : (l : List Character) → shownText l .text ≡ points l ++ replicate (93 - length l) blankCell
-shown-parts l = sym (take-append-drop (length l) (shownText l .text)) ∙ rw (shown-front blankCell l, shown-rest blankCell l)
-
-shown-size : (l : List Character) → length l ≤ 93 → length (shownText l .text) ≡ 93
-shown-size l few =
-    ap length (shown-parts l) ∙ simp (length-append, length-replicate, length-map l (λ (x : Character). x .point)) (omega arith)
-
 pub cells-blank : (p : List ℕ) (n : ℕ) (t : List ℕ) → CellsBlank p n t
 cells-blank p n t = go (reads p n t)
   where
@@ -55,7 +47,7 @@ cells-blank p n t = go (reads p n t)
     go (read w e) =
         let l = shown (septetsReceived p n) in
         record {
-          size = λ _. ap (λ (r : Reading). length (r .text)) e ∙ shown-size l (omega (arith, characters-bounded p n t, count p n t e));
+          size = λ _. ap (λ (r : Reading). length (r .text)) e ∙ shown-size blankCell l (omega (arith, characters-bounded p n t, count p n t e));
           rest = λ _. rw (count p n t e, e) (shown-rest blankCell l);
           untouched = λ not-read. absurd (not-read (ap (λ (r : Reading). r .number) e ∙ shown-number blankCell l));
         }
@@ -93,14 +85,14 @@ shown-nonzero s =
     let split : points (decoded false s) ≡ points l ++ points dropped = ap points (trim-rest (decoded false s)) ∙ map-append (λ (x : Character). x .point) l dropped in
     let none : some zeroed (points l) ≡ false =
     neither _ _ (sym (some-append zeroed (points l) (points dropped)) ∙ ap (some zeroed) (sym split) ∙ decoded-nonzero false s) .0 in
-    ap (some zeroed) (shown-parts l) ∙ some-append zeroed (points l) (replicate (93 - length l) blankCell) ∙ rw none (blanks-nonzero (93 - length l))
+    ap (some zeroed) (shown-parts blankCell l) ∙ some-append zeroed (points l) (replicate (93 - length l) blankCell) ∙ rw none (blanks-nonzero (93 - length l))
 
 pub no-cell-zero : NoCellZero
 no-cell-zero p n t k z below =
     let none : some zeroed (reading p n t .text) ≡ false = ap (λ (r : Reading). some zeroed (r .text)) (shows p n t z) ∙ shown-nonzero (septetsReceived p n) in
     eqb-false (getD (reading p n t .text) k 0) 0 (some-false zeroed 0 (reading p n t .text) k (rw (cells-blank p n t .size z) below) none)
 
--- a header and memory to write a text with
+-- a header to write a text with
 abbrev heading : Heading
 heading = record { serial = 0; id = 0; scheme = 0; parameter = 0x11 }
 

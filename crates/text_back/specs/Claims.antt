@@ -170,7 +170,7 @@ SpacesCounted =
     → allReceived p n ≡ l ++ (x ∷ replicate j (record { point = cr; escaped = false })) → x .point ≡ 0x20
     → reading p n t .characters ≡ length l + 1
 
--- 02 No. 6: no place holds 0, for which the new panel draws a box and the old driver looked
+-- 02 No. 6: where text is read, no place holds 0, for which the new panel draws a box and the old driver looked
 abbrev pub NoCellZero : Type 0
 NoCellZero = (p : List ℕ) (n : ℕ) (t : List ℕ) (k : ℕ) → reading p n t .number ≡ 0 → k < 93 → getD (reading p n t .text) k 0 ≡ 0 → ⊥
 

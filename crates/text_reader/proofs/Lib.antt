@@ -1,4 +1,4 @@
 -- What `text_reader` proves.
 pub mod Determined
+pub mod Made
 pub mod Nexts
-pub mod Shown

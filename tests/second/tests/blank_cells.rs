@@ -5,12 +5,10 @@ mod septets;
 
 use second::blank_cells::cases;
 use second::case::{Case, Entry};
-use second::invent::any;
 use second::random::Random;
 use second::side::{Ours, Side};
-use second::stored::{case_of, files};
 use second::text::{unpack, ALPHABET, EXTENSION};
-use septets::{page_of, CR, HEADER, RECEIVED, SPACE};
+use septets::{cases_of, page_of, wrong_ways_are_told, CR, HEADER, RECEIVED, SPACE};
 
 const NO_BREAK_SPACE: u16 = 0xA0;
 const LENT: u16 = 0xA5A5;
@@ -128,6 +126,7 @@ enum Reader {
     ZerosPastReceived, // fills with 0 past the septets received
     NoBreakSpaces,     // fills with U+00A0
     OnePlace,          // fills only the place after the last character
+    CrsLeft,           // leaves the CRs that it drops in their places
     LastPlaceLeft,     // leaves the last place as it was
     SpacesDropped,     // drops the spaces at the end from the length
     Blanks(u64),       // fills the places with spaces where this number refuses
@@ -145,8 +144,8 @@ fn refusal(case: &Case) -> Option<u64> {
     faults.into_iter().find(|&(_, is_so)| is_so).map(|(number, _)| number)
 }
 
-/// The text of these septets. // 02 No. 5
-fn text_of(septets: &[u8]) -> Vec<u16> {
+/// The characters of these septets, and how many are left without the CRs at the end. // 02 No. 5
+fn characters_of(septets: &[u8]) -> (Vec<u16>, usize) {
     let (mut text, mut length) = (Vec::new(), 0);
     let mut septets = septets.iter().copied();
     while let Some(septet) = septets.next() {
@@ -157,8 +156,7 @@ fn text_of(septets: &[u8]) -> Vec<u16> {
             length = text.len();
         }
     }
-    text.truncate(length);
-    text
+    (text, length)
 }
 
 /// What a reader returns, and the places after it.
@@ -168,13 +166,14 @@ fn read_by(reader: Reader, case: &Case) -> (u64, Vec<u16>) {
         return (number, vec![place; case.number(1)]);
     }
     let septets = unpack(&case.lists[0][6..case.number(0)]);
-    let text = text_of(&septets);
-    let mut length = text.len();
-    let mut places = laid(&text);
+    let (all, mut length) = characters_of(&septets);
+    let text = &all[..length];
+    let mut places = laid(text);
     match reader {
         Reader::Right | Reader::Blanks(_) => {}
         Reader::Zeros => places[length..].fill(0),
         Reader::ZerosPastReceived => places[septets.len()..].fill(0),
+        Reader::CrsLeft => places[length..all.len()].fill(CR as u16),
         Reader::NoBreakSpaces => places[length..].fill(NO_BREAK_SPACE),
         Reader::OnePlace => places.iter_mut().skip(length + 1).for_each(|place| *place = LENT),
         Reader::LastPlaceLeft => places.iter_mut().skip(length.max(92)).for_each(|place| *place = LENT),
@@ -183,36 +182,38 @@ fn read_by(reader: Reader, case: &Case) -> (u64, Vec<u16>) {
     (256 * length as u64, places)
 }
 
-/// Whether a reader gives something else than this implementation.
-fn is_told(reader: Reader, case: &Case) -> bool {
+/// What this implementation returns, and the places after it.
+fn read_by_ours(case: &Case) -> (u64, Vec<u16>) {
     let mut places = vec![LENT; case.number(1)];
-    let returned = Ours.read_text(&mut case.lists[0].clone(), case.number(0), &mut places);
-    read_by(reader, case) != (returned, places)
+    (Ours.read_text(&mut case.lists[0].clone(), case.number(0), &mut places), places)
 }
 
-/// Stored cases of the reader of text.
-fn stored() -> Vec<Case> {
-    let files = files();
-    let lines = files.iter().flat_map(|(_, lines)| lines).filter(|line| line.starts_with("R "));
-    lines.map(|line| case_of(line).unwrap()).collect()
+#[test]
+fn text_itself_is_unchanged() {
+    for case in cases_of((Entry::ReadText, "R "), cases).concat() {
+        let (before, zeros) = read_by(Reader::Zeros, &case);
+        let (returned, places) = read_by_ours(&case);
+        let length = (returned >> 8) as usize;
+        assert_eq!((returned, &places[..length]), (before, &zeros[..length]));
+    }
 }
 
-/// Invented cases of the reader of text.
-fn invented() -> Vec<Case> {
-    let mut random = Random::new(24);
-    (0..10_000).map(|_| any(Entry::ReadText, &mut random, 48)).collect()
-}
-
-/// The right reader differs nowhere, so text itself is unchanged; each wrong one does in edges, stored and invented cases.
 #[test]
 fn readers_that_take_a_sentence_otherwise_are_told() {
-    let sets = [cases(Entry::ReadText), stored(), invented()];
-    let counts = |reader: Reader| sets.each_ref().map(|set| set.iter().filter(|case| is_told(reader, case)).count());
-    assert_eq!(counts(Reader::Right), [0; 3]);
-    let fillers = [Reader::Zeros, Reader::ZerosPastReceived, Reader::NoBreakSpaces, Reader::OnePlace];
-    let others = [Reader::LastPlaceLeft, Reader::SpacesDropped];
-    for reader in fillers.into_iter().chain(others).chain([15, 16, 18, 13].map(Reader::Blanks)) {
-        let [edges, stored, invented] = counts(reader);
-        assert!(edges > 3 && stored > edges && invented > 200, "{reader:?}: {edges} {stored} {invented}");
-    }
+    let wrong = [
+        Reader::Zeros,
+        Reader::ZerosPastReceived,
+        Reader::NoBreakSpaces,
+        Reader::OnePlace,
+        Reader::CrsLeft,
+        Reader::LastPlaceLeft,
+        Reader::SpacesDropped,
+        Reader::Blanks(15),
+        Reader::Blanks(16),
+        Reader::Blanks(18),
+        Reader::Blanks(13),
+    ];
+    let sets = cases_of((Entry::ReadText, "R "), cases);
+    let tells = |reader: Reader, case: &Case| read_by(reader, case) != read_by_ours(case);
+    wrong_ways_are_told(sets, tells, Reader::Right, &wrong, [4, 200]);
 }

@@ -3,18 +3,15 @@
 
 mod septets;
 
-use std::fmt::Debug;
-
 use second::blocks::{write_blocks, Kind};
 use second::case::{Case, Entry};
 use second::extension::cases;
 use second::intake::{intake, start, Answer, STATE};
-use second::invent::{any, paired, sound};
+use second::invent::{paired, sound};
 use second::random::Random;
 use second::side::{header, Ours, Side};
-use second::stored::{case_of, files};
 use second::text::{septet, unpack, Header, ALPHABET};
-use septets::{page_of, CR, HEADER, RECEIVED, SPACE};
+use septets::{cases_of, page_of, wrong_ways_are_told, CR, HEADER, RECEIVED, SPACE};
 
 const LISTED: [(u8, char); 10] = [
     (0x0A, '\u{000C}'),
@@ -338,37 +335,6 @@ fn tells_reader(reader: Misread, case: &Case) -> bool {
     misread(reader, page, received) != text_of(page, received)
 }
 
-/// Stored cases of an entry.
-fn stored(letter: &str) -> Vec<Case> {
-    let files = files();
-    let lines = files.iter().flat_map(|(_, lines)| lines).filter(|line| line.starts_with(letter));
-    lines.map(|line| case_of(line).unwrap()).collect()
-}
-
-/// Invented cases of an entry.
-fn invented(entry: Entry) -> Vec<Case> {
-    let mut random = Random::new(22);
-    (0..10_000).map(|_| any(entry, &mut random, 48)).collect()
-}
-
-/// Holds ways to take the sentences to the edges, the stored and the invented cases of an entry: the right way differs in
-/// none of them, and each wrong one in some of each, in so many invented ones at least.
-fn wrong_ways_are_told<W: Copy + Debug>(
-    (entry, letter): (Entry, &str),
-    tells: fn(W, &Case) -> bool,
-    right: W,
-    wrong: &[W],
-    least: usize,
-) {
-    let sets = [cases(entry), stored(letter), invented(entry)];
-    let counts = |way: W| sets.each_ref().map(|cases| cases.iter().filter(|case| tells(way, case)).count());
-    assert_eq!(counts(right), [0; 3]);
-    for &way in wrong {
-        let [edges, stored, invented] = counts(way);
-        assert!(edges > 5 && stored > edges && invented > least, "{way:?}: {edges} {stored} {invented}");
-    }
-}
-
 #[test]
 fn readers_that_take_a_sentence_otherwise_are_told() {
     let wrong = [
@@ -383,7 +349,8 @@ fn readers_that_take_a_sentence_otherwise_are_told() {
         Misread::EscapedDropped,
         Misread::DroppedBeforeEscaped,
     ];
-    wrong_ways_are_told((Entry::ReadText, "R "), tells_reader, Misread::Nothing, &wrong, 200);
+    let sets = cases_of((Entry::ReadText, "R "), cases);
+    wrong_ways_are_told(sets, tells_reader, Misread::Nothing, &wrong, [6, 200]);
 }
 
 /// A sentence taken otherwise by a writer.
@@ -444,5 +411,6 @@ fn writers_that_take_a_sentence_otherwise_are_told() {
         Miswritten::NoPairs,
         Miswritten::LowOctet,
     ];
-    wrong_ways_are_told((Entry::WriteText, "T "), tells_writer, Miswritten::Nothing, &wrong, 50);
+    let sets = cases_of((Entry::WriteText, "T "), cases);
+    wrong_ways_are_told(sets, tells_writer, Miswritten::Nothing, &wrong, [6, 50]);
 }

@@ -7,7 +7,7 @@ use Rattle.text.specs.Paper.{blankCell, wholeOf, shown, shownWith, shownText}
 use Rattle.text.proofs.Septets.{shown-few}
 use Rattle.text_reader.specs.Inner.{Read}
 use Rattle.text_reader.proofs as own
-use own.Shown.{shown-made}
+use own.Made.{shown-made}
 use own.show.Statement.{statement}
 use own.show.Tie as tie
 

@@ -1,7 +1,8 @@
--- What is shown of septets that are read one character after another.
+-- A text that is made in the lent places: what was read, and the fill behind it.
 use Rattle.laws.proofs.Base.{_≡_, _∙_, List, [], _++_, append-nil, ℕ, _-_, _≤_, le-refl, arith, length, take, drop}
-use Rattle.laws.proofs.Base.{replicate, length-drop, drop-of-length-le, length-take-le, length-map}
-use Rattle.text.specs.Paper.{Character, shown, points, places}
+use Rattle.laws.proofs.Base.{replicate, length-drop, drop-of-length-le, length-take-le}
+use Rattle.text.specs.Paper.{shown, points, places}
+use Rattle.text.proofs.Shown.{length-points}
 use Rattle.text_reader.specs.Inner.{Read}
 
 -- d is a text that begins with what septets s are read as, and z is the rest, filled
@@ -9,8 +10,7 @@ pub shown-made : (s d z : List ℕ) (n fill : ℕ) → length d ≡ 93 → lengt
     → z ≡ replicate (length (take (length d - n) (drop n d))) fill
     → take n d ++ (z ++ drop (length d - n) (drop n d)) ≡ places fill (points (shown s))
 shown-made s d z n fill l hs read ez =
-    let size : length (points (shown s)) ≡ length (shown s) = length-map (shown s) (λ (x : Character). x .point) in
     let room : length (take (length d - n) (drop n d)) ≡ 93 - length (points (shown s)) =
-    length-take-le (length d - n) (drop n d) (rw length-drop (le-refl _)) ∙ omega (arith, read .count, l, size) in
+    length-take-le (length d - n) (drop n d) (rw length-drop (le-refl _)) ∙ omega (arith, read .count, l, length-points (shown s)) in
     let none : drop (length d - n) (drop n d) ≡ [] = drop-of-length-le (drop n d) {i = length d - n} (rw length-drop (le-refl _)) in
     rw (none, append-nil z, read .front, ez, room)
