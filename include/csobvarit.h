@@ -24,7 +24,7 @@
  *   cb_write_blocks      100    cb_read_schedule     300    cb_slots             200
  *   cb_description       400    cb_read_plan       1,300    cb_write_schedule  4,400
  *   cb_check_schedule  3,500    cb_decide            300    cb_enter             300
- *   cb_start_collector   100    cb_collect           300
+ *   cb_start_collector   100    cb_collect           300    cb_check_slots     3,600
  */
 #ifndef CSOBVARIT_H
 #define CSOBVARIT_H
@@ -57,8 +57,8 @@ typedef uint64_t cb_length; /* lengths, and the numbers of octets and slots that
                                 cb_start_collector and cb_collect: the collector isn't 1,340 octets long; for
                                 cb_collect also: it isn't proper */
 #define CB_OUTPUT_LENGTH  15 /* refused: the memory to write isn't exactly as long as it must be: 88 octets for output,
-                                page or schedule, 92 octets for blocks, 1,340 for a message of several pages, 93 code
-                                points for text, 48 numbers for slots */
+                                page or schedule, 92 octets for blocks, 48 for verdicts, 1,340 for a message of
+                                several pages, 93 code points for text, 48 numbers for slots */
 
 /* What cb_intake returns is answer + 256 * octets received; what cb_start returns is an answer. */
 #define CB_ANSWER(returned)   ((uint32_t)(returned) & 0xFFu)
@@ -393,6 +393,27 @@ uint32_t cb_write_schedule(const uint8_t *current, cb_length current_len, const 
  */
 uint32_t cb_check_schedule(const uint8_t *current, cb_length current_len, const uint8_t *previous, cb_length previous_len,
                            const uint8_t *message, cb_length message_len, cb_length received);
+
+/* Rules of truth at a slot, by their place in document 01's list. Where several fail at a slot, the first is told. */
+#define CB_RULE_LOWEST   1 /* the lowest slot with its page: a first transmission with its low 15 bits, or advised */
+#define CB_RULE_LATER    2 /* a later slot with its page: a repeat naming the lowest, or advised, optional or reserved */
+#define CB_RULE_OPTIONAL 3 /* planned optional: optional or reserved */
+#define CB_RULE_ADVISED  4 /* planned advised: advised */
+#define CB_RULE_NEW      5 /* the new bit: 1 for advised, 0 for optional and reserved, and for first and repeat 1 exactly if
+                              the previous plan lacks the page */
+
+/*
+ * Checks a schedule message beside the plans, slot by slot: slot n in verdicts[n - 1]. It returns what cb_check_schedule
+ * returns, but where the memory for verdicts isn't 48 octets.
+ *
+ *   0, and 40 with a slot       verdicts: of each slot up to End, which is the current plan's count, 0 where it is told
+ *                               truly or else the first rule that fails, CB_RULE_LOWEST to CB_RULE_NEW; then 0 up to 48
+ *   15                          verdicts: untouched; verdicts_len isn't 48, which comes before all other refusals
+ *   all others, and 40 with 0   verdicts: untouched
+ */
+uint32_t cb_check_slots(const uint8_t *current, cb_length current_len, const uint8_t *previous, cb_length previous_len,
+                        const uint8_t *message, cb_length message_len, cb_length received,
+                        uint8_t *verdicts, cb_length verdicts_len);
 
 /*
  * The board's decision. With known false there is no schedule, and the message isn't looked at, but its pointer may not

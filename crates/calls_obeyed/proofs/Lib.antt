@@ -1,3 +1,4 @@
 -- What `calls_obeyed` proves.
 pub mod Called
 pub mod Example
+pub mod Judging

@@ -2,15 +2,18 @@
 use mathlib.Core.Path.{_≡_}
 use mathlib.Core.Bool.{Bool, true, cond}
 use mathlib.Core.List.{List, _∷_}
+use mathlib.Core.Logic.{_⊎_}
 use Prim.Native.Nat.{ℕ, zero, suc, _*_, _/_, _%_, _≤_, _<_}
 use lib.Dec.{eqb}
-use lib.ListN.{length}
+use lib.ListN.{length, getD}
 use Rattle.block_writer.specs.Paper.{lastUsed}
 use Rattle.plan.specs.Paper.{Plan, entryAt}
 use Rattle.plan_read.specs.Paper.{readPlan}
 use Rattle.plan_slots.specs.Paper.{pageAt, lowestAt}
 use Rattle.board.specs.Coded.{lentWanted}
-use Rattle.plan_calls.specs.Paper.{writeScheduleCall, checkScheduleCall}
+use Rattle.plan_calls.specs.Paper.{writeScheduleCall, checkScheduleCall, checkSlotsCall}
+use Rattle.schedule.specs.Paper.{shown}
+use Rattle.checker_truth.specs.Claims.{Judged}
 use Rattle.board_calls.specs.Paper.{decideCall}
 use Rattle.held_calls.specs.Paper.{enterCall}
 use Rattle.board_obeyed.specs.Claims.{WantedPage, Why, Board, boardAfter}
@@ -69,3 +72,22 @@ abbrev pub CallsPeriod : Type 0
 CallsPeriod =
     (c : Plan) (m : List ℕ) (received : ℕ) (w : List ℕ) (lost : ℕ → Bool) (b : Board) (n : ℕ)
     → afterSlots c m received w lost b n ≡ boardAfter c m received (lentWanted w) lost b n
+
+-- 01 Truthful, for C: slots are judged one by one where a returned number is 0, or 40 with a slot
+abbrev pub BySlotCall : ℕ → Type 0
+BySlotCall r = (r % 256 ≡ 0) ⊎ ((r % 256 ≡ 40) × (r / 256 ≡ 0 → ⊥))
+
+-- 01 Truthful, for C: what cb_check_slots returns and leaves in 48 places w beside the files c and p: the number of cb_check_schedule; where it
+-- judges slot by slot, of each slot the first rule that fails and 0 past the count; and otherwise all as it was
+pub record CallJudges (c p m : List ℕ) (received : ℕ) (w : List ℕ) : Type 0 where
+  pub returned : checkSlotsCall c p m received w .returned ≡ checkScheduleCall c p m received
+  pub within : BySlotCall (checkScheduleCall c p m received) → (i : ℕ) → i < planIn c .count
+      → Judged (planIn c) (planIn p) i (shown m i) (getD (checkSlotsCall c p m received w .memory) i 0)
+  pub past : BySlotCall (checkScheduleCall c p m received) → (i : ℕ) → i < 48 → planIn c .count ≤ i → getD (checkSlotsCall c p m received w .memory) i 0 ≡ 0
+  pub many : length (checkSlotsCall c p m received w .memory) ≡ 48
+  pub untouched : (BySlotCall (checkScheduleCall c p m received) → ⊥) → checkSlotsCall c p m received w .memory ≡ w
+
+-- 01 Truthful, for C: so where there are 48 places; else 15 comes before all other numbers, and all places stay
+pub record CallsJudge (c p m : List ℕ) (received : ℕ) (w : List ℕ) : Type 0 where
+  pub judges : length w ≡ 48 → CallJudges c p m received w
+  pub no-room : (length w ≡ 48 → ⊥) → checkSlotsCall c p m received w ≡ record { returned = 15; memory = w }

@@ -16,7 +16,8 @@ use Rattle.sender.specs.Paper.{ScheduleLeft, unwrittenNaming, writeSchedule}
 use Rattle.sender.proofs.Named.{writer-names-lowest-bad}
 use Rattle.checker.specs.Paper.{Checked, refusedAt, check}
 use Rattle.checker.proofs.Named.{checker-names-lowest-bad}
-use Rattle.plan_calls.specs.Paper.{besideNumber, planCall, fileFaults, filesEntry, writtenFrom, checkedBeside}
+use Rattle.plan_calls.specs.Paper.{besideNumber, planCall, fileFaults, filesEntry, writtenFrom, checkedBeside, checkScheduleCall}
+use Rattle.plan_calls.proofs.Answers.{slots-returned}
 use Rattle.calls_unpacked.specs.Claims.{firstRefusedFile, NamedByCall, CallsNameLowestBad}
 use Rattle.calls_unpacked.proofs.Unpacked.{unpacked-read-plan, unpacked-write-schedule, unpacked-check-schedule}
 
@@ -128,12 +129,16 @@ module _ (c p : List ℕ) where
         subst Told (sym (refuses (eqb-false refused 0 z) Checked (refusedAt (filesEntry c p)) beside))
         (record { named = files-name .named; unnamed = λ y h q. files-name .unnamed h }))
 
+check-names : (c p m : List ℕ) (received : ℕ) → NamedByCall (firstRefusedFile c p) (checkScheduleCall c p m received)
+check-names c p m received = let u = unpacked-check-schedule c p m received in taken (firstRefusedFile c p) _ (u .0) (u .1) (checker c p m received)
+
 pub calls-name-lowest-bad : CallsNameLowestBad
 calls-name-lowest-bad =
     record {
       reader = λ f. let u = unpacked-read-plan f in taken f _ (u .0) (u .1) (reader f);
       writer = λ c p b o. let u = unpacked-write-schedule c p b o in taken (firstRefusedFile c p) _ (u .0) (u .1) (writer c p b o);
-      checker = λ c p m received. let u = unpacked-check-schedule c p m received in taken (firstRefusedFile c p) _ (u .0) (u .1) (checker c p m received);
+      checker = check-names;
+      slots = λ c p m received w room. rw (slots-returned c p m received w room) (check-names c p m received);
     }
 
 -- its premise is met: of a file of two entries, the second of kind 3

@@ -1,9 +1,9 @@
 -- What a call packs into one number is taken out of it again as the header's macros do it: nothing runs into its neighbour.
-use Rattle.laws.proofs.Base.{_≡_, refl, ap, Bool, true, false, cond, not, _&&_, List, [], _∷_, inl, inr, ℕ, _≤_, _<_, arith, lit<, eqb, leb, ltb, length, ltb-true, lt-ltb}
+use Rattle.laws.proofs.Base.{_≡_, refl, ap, Bool, true, false, cond, not, _&&_, List, [], _∷_, inl, inr, ℕ, _≤_, _<_, arith, lit<, eqb, leb, ltb, length, eqb-true, ltb-true, lt-ltb}
 use Rattle.laws.specs.Ruled.{ruled}
 use Rattle.laws.specs.Upto.{lowest}
 use Rattle.laws.proofs.Ruled.{Among, Ruling, refuses, passes, ruling}
-use Rattle.laws.proofs.Tests.{both}
+use Rattle.laws.proofs.Tests.{true-or-false, both}
 use Rattle.calls.specs.Paper.{bitOf}
 use Rattle.calls.specs.Claims.{TakenApart}
 use Rattle.calls.proofs.Packed.{apart, bit-most}
@@ -26,9 +26,10 @@ use Rattle.board_held.specs.Coded.{lentSchedule}
 use Rattle.schedule_calls.specs.Paper.{packedGiven}
 use Rattle.schedule_calls.proofs.Given.{ends-small, slotNumber, slot-small}
 use Rattle.plan_calls.specs.Paper.{fileFaults, filesEntry, writtenFrom, checkedBeside}
+use Rattle.plan_calls.proofs.Answers.{files-checked}
 use Rattle.board_calls.specs.Paper.{decidedFor}
 use Rattle.calls_unpacked.specs.Claims.{UnpackedIntake, UnpackedWriteText, UnpackedReadText, UnpackedReadPlan, UnpackedWriteSchedule}
-use Rattle.calls_unpacked.specs.Claims.{UnpackedCheckSchedule, UnpackedDecide, UnpackedReadSchedule, UnpackedNext, UnpackedRefusal}
+use Rattle.calls_unpacked.specs.Claims.{UnpackedCheckSchedule, UnpackedCheckSlots, UnpackedDecide, UnpackedReadSchedule, UnpackedNext, UnpackedRefusal}
 
 -- the numbers of some tests fit eight bits
 abbrev fitting : List (Bool × ℕ) → Bool
@@ -144,6 +145,12 @@ unpacked-check-schedule c p m n =
     apart (checkedBeside c p m n .number) (checkedBeside c p m n .slot)
     (ruled-fitting (λ (x : checker.Checked). x .number) (checker.refusedAt (filesEntry c p)) (fileFaults c p) (checker.check (readPlan c .plan) (readPlan p .plan) m n)
     (λ n l. l) (files-fit c p) (check-fits (readPlan c .plan) (readPlan p .plan) m n))
+
+pub unpacked-check-slots : UnpackedCheckSlots
+unpacked-check-slots c p m n w =
+    true-or-false (eqb (length w) 48)
+    (λ e. rw (files-checked c p m n w (eqb-true (length w) 48 e)) (unpacked-check-schedule c p m n))
+    (λ e. rw e (apart 15 0 (lit< tt)))
 
 decide-fits : (s : Schedule) (n : ℕ) (w : Wanted) (h : ℕ) → decide s n w h .number < 256
 unfolding decide

@@ -20,7 +20,7 @@ use Rattle.text_calls.specs.Paper.{writeCall, readCall}
 use Rattle.page_calls.specs.Paper.{headed, headerCall}
 use Rattle.schedule_calls.specs.Paper.{codeOf, scheduleCall, descriptionCall}
 use Rattle.slots_calls.specs.Paper.{slotsCall}
-use Rattle.plan_calls.specs.Paper.{besideNumber, planCall, writtenFrom, writeScheduleCall, checkedBeside, checkScheduleCall}
+use Rattle.plan_calls.specs.Paper.{besideNumber, planCall, writtenFrom, writeScheduleCall, checkedBeside, checkScheduleCall, slotsBesideFiles, checkSlotsCall}
 use Rattle.board_calls.specs.Paper.{decidedFor, decideCall}
 
 -- 01 Intake, Order: the intake's answer to a call before it is packed: a wrong length of output or state is a refusal like the others;
@@ -54,6 +54,12 @@ UnpackedWriteSchedule =
 abbrev pub UnpackedCheckSchedule : Type 0
 UnpackedCheckSchedule =
     (c p m : List ℕ) (n : ℕ) → TakenApart (checkScheduleCall c p m n) (checkedBeside c p m n .number) (checkedBeside c p m n .slot)
+
+-- DECISIONS, Several numbers in one: and of cb_check_slots
+abbrev pub UnpackedCheckSlots : Type 0
+UnpackedCheckSlots =
+    (c p m : List ℕ) (n : ℕ) (w : List ℕ) → let k = slotsBesideFiles c p m n w .checked in
+    TakenApart (checkSlotsCall c p m n w .returned) (k .number) (k .slot)
 
 -- DECISIONS, Several numbers in one: number, and 1 for read or 0 for skip, of cb_decide
 abbrev pub UnpackedDecide : Type 0
@@ -126,8 +132,9 @@ pub record NamedByCall (f : List ℕ) (returned : ℕ) : Type 0 where
   pub named : Naming (returned % 256) → LowestBad (listed f) (returned % 256) (returned / 256)
   pub unnamed : (returned % 256 ≡ 0 → ⊥) → (Naming (returned % 256) → ⊥) → (returned % 256 ≡ 40 → ⊥) → returned / 256 ≡ 0
 
--- 02 No. 1: so of cb_read_plan, cb_write_schedule and cb_check_schedule
+-- 02 No. 1: so of cb_read_plan, cb_write_schedule, cb_check_schedule and cb_check_slots
 pub record CallsNameLowestBad : Type 0 where
   pub reader : (f : List ℕ) → NamedByCall f (planCall f)
   pub writer : (c p : List ℕ) (b : ℕ) (o : List ℕ) → NamedByCall (firstRefusedFile c p) (writeScheduleCall c p b o .returned)
   pub checker : (c p m : List ℕ) (received : ℕ) → NamedByCall (firstRefusedFile c p) (checkScheduleCall c p m received)
+  pub slots : (c p m : List ℕ) (received : ℕ) (w : List ℕ) → length w ≡ 48 → NamedByCall (firstRefusedFile c p) (checkSlotsCall c p m received w .returned)

@@ -1,19 +1,19 @@
 // Checks the schedule messages of a log of blocks from a file or standard input beside two plan files, a line for each: cbcheck CURRENT PREVIOUS [FILE].
 ghost use mathlib.Core.Path.{_≡_};
 ghost use Prim.Native.Nat.{_≤_, _<_};
+ghost use mathlib.Core.List.{_++_};
 ghost use lib.ListN.{length, take};
 ghost use Rattle.refusals.specs.Number.{numberOf};
 ghost use Rattle.block.specs.Paper.{start};
 ghost use Rattle.block_history.specs.Claims.{after};
 ghost use Rattle.firmware.specs.Paper.{lent, heldIn};
 ghost use Rattle.checker.specs.Coded.{checkedOf};
-ghost use Rattle.checker.specs.Inner.{checkBeside};
 ghost use Rattle.checker_plans.specs.Coded.{plansOf};
 ghost use Rattle.lines.specs.Paper.{allBehind};
 ghost use Rattle.logs.specs.Paper.{cut};
 ghost use Rattle.logs.specs.Inner.{Continues};
-ghost use Rattle.cbcheck.specs.Paper.{numbers, namesUntrue, reason, line, lineOf, lines};
-ghost use Rattle.cbcheck.specs.Inner.{lineFor};
+ghost use Rattle.cbcheck.specs.Paper.{numbers, namesUntrue, ruleOf, reason, said, line, lineOf, lines};
+ghost use Rattle.cbcheck.specs.Inner.{lineFor, freshBeside};
 use arguments::Asked;
 use checker::Checking;
 use checker_plans::Plans;
@@ -21,6 +21,7 @@ use files::Opened;
 use libc::STDERR_FILENO;
 use refusals::Refusal;
 use sizes::MESSAGE;
+use sizes::SLOTS;
 
 // Room for the longest line of each piece of a chunk.
 const ROOM: usize = 146432;
@@ -100,7 +101,7 @@ fn list_all(
     out: &mut [u8],
 ) -> usize
     requires { ⌜ (now state ≡ lent start) × (length (now out) ≡ 146432) ⌝ }
-    ensures { λ r. ⌜ Continues (lineOf (checkBeside (plansOf plans))) (now (state .exit)) (now (out .exit)) r ⌝ }
+    ensures { λ r. ⌜ Continues (lineOf (freshBeside (plansOf plans))) (now (state .exit)) (now (out .exit)) r ⌝ }
 {
     let mut log = [0u8; logs::WHOLE];
     let mut message = [0u8; MESSAGE];
@@ -128,7 +129,7 @@ fn list(
     out: &mut [u8],
 ) -> usize
     requires { ⌜ (length (now state) ≡ 90) × (length (now message) ≡ 88) × (length (now log) ≤ 23552) × (length (now out) ≡ 146432) × (first < 1000000000000000000) ⌝ }
-    ensures { λ r. ⌜ (take r (now (out .exit)) ≡ lines (checkBeside (plansOf plans)) (heldIn (now (state .entry))) first (cut (now (log .entry)))) × (now (state .exit) ≡ lent (after (heldIn (now (state .entry))) (cut (now (log .entry))))) × (r ≤ 146432) ⌝ }
+    ensures { λ r. ⌜ (take r (now (out .exit)) ≡ lines (freshBeside (plansOf plans)) (heldIn (now (state .entry))) first (cut (now (log .entry)))) × (now (state .exit) ≡ lent (after (heldIn (now (state .entry))) (cut (now (log .entry))))) × (r ≤ 146432) ⌝ }
 {
     let mut at = 0;
     let mut number = first;
@@ -152,35 +153,65 @@ fn put_answer(
     out: &mut [u8],
     at: usize,
 ) -> usize
-    ensures { λ r. ⌜ record { end = r; text = now (out .exit) } ≡ allBehind (lineFor (checkBeside (plansOf plans)) number returned (now (message .entry))) at (now (out .entry)) ⌝ }
+    ensures { λ r. ⌜ record { end = r; text = now (out .exit) } ≡ allBehind (lineFor (freshBeside (plansOf plans)) number returned (now (message .entry))) at (now (out .entry)) ⌝ }
 {
     if returned % 256 != 7 {
         return at;
     }
     let received = (returned / 256) as usize;
-    let checking = checker::check_beside(plans, message, received);
-    put_checking(number, checking, out, at)
+    let mut verdicts = [0u8; SLOTS];
+    let checking = checker::check_slots(plans, message, received, &mut verdicts);
+    put_checking(number, checking, &verdicts, out, at)
 }
 
-// Puts the line of what the checker answers to the message that a block completes.
-fn put_checking(number: u64, checking: Checking, out: &mut [u8], at: usize) -> usize
-    ensures { λ r. ⌜ record { end = r; text = now (out .exit) } ≡ allBehind (line number (checkedOf checking)) at (now (out .entry)) ⌝ }
+// Puts the line of what the checker answers to the message that a block completes, and what it leaves of the slots.
+fn put_checking(
+    number: u64,
+    checking: Checking,
+    verdicts: &[u8],
+    out: &mut [u8],
+    at: usize,
+) -> usize
+    ensures { λ r. ⌜ record { end = r; text = now (out .exit) } ≡ allBehind (line number (record { checked = checkedOf checking; verdicts = now (verdicts .entry) })) at (now (out .entry)) ⌝ }
 {
     match checking {
         Checking::True => {
             let a = put_numbers(number, 0, 0, out, at);
             lines::put(b"true\n", out, a)
         }
-        Checking::Refused(refusal, slot) => put_refused(number, refusal, slot, out, at),
+        Checking::Refused(refusal, slot) => {
+            let rule = rule_of(verdicts, slot);
+            put_refused(number, refusal, slot, rule, out, at)
+        }
     }
 }
 
-fn put_refused(number: u64, refusal: Refusal, slot: usize, out: &mut [u8], at: usize) -> usize
-    ensures { λ r. ⌜ record { end = r; text = now (out .exit) } ≡ allBehind (line number (record { number = numberOf refusal; slot = slot })) at (now (out .entry)) ⌝ }
+// The verdict on a slot, by its number; 0 where there is none.
+fn rule_of(verdicts: &[u8], slot: usize) -> u8
+    ensures { λ r. ⌜ r ≡ ruleOf (now (verdicts .entry)) slot ⌝ }
+{
+    if slot == 0 {
+        return 0;
+    }
+    if slot > verdicts.len() {
+        return 0;
+    }
+    verdicts[slot - 1]
+}
+
+fn put_refused(
+    number: u64,
+    refusal: Refusal,
+    slot: usize,
+    rule: u8,
+    out: &mut [u8],
+    at: usize,
+) -> usize
+    ensures { λ r. ⌜ record { end = r; text = now (out .exit) } ≡ allBehind (numbers number (numberOf refusal) slot ++ said (numberOf refusal) slot rule) at (now (out .entry)) ⌝ }
 {
     let answer = refusals::number(refusal) as u64;
     let a = put_numbers(number, answer, slot as u64, out, at);
-    let b = put_reason(refusal, slot, out, a);
+    let b = put_reason(refusal, slot, rule, out, a);
     lines::put_octet(b'\n', out, b)
 }
 
@@ -203,14 +234,15 @@ fn names_untrue(refusal: Refusal, slot: usize) -> bool
     refusals::number(refusal) == 40
 }
 
-// Puts why a message is refused: the slot that is told untruly, or the words of the refusal.
-fn put_reason(refusal: Refusal, slot: usize, out: &mut [u8], at: usize) -> usize
-    ensures { λ r. ⌜ record { end = r; text = now (out .exit) } ≡ allBehind (reason (numberOf refusal) slot) at (now (out .entry)) ⌝ }
+// Puts why a message is refused: the slot that is told untruly and the rule that it breaks, or the words of the refusal.
+fn put_reason(refusal: Refusal, slot: usize, rule: u8, out: &mut [u8], at: usize) -> usize
+    ensures { λ r. ⌜ record { end = r; text = now (out .exit) } ≡ allBehind (reason (numberOf refusal) slot rule) at (now (out .entry)) ⌝ }
 {
     if !names_untrue(refusal, slot) {
         return words::put_words(refusal, out, at);
     }
     let a = lines::put(b"slot ", out, at);
     let b = lines::put_number(slot as u64, out, a);
-    lines::put(b" is not told as planned", out, b)
+    let c = lines::put(b": ", out, b);
+    words::put_rule(rule, out, c)
 }

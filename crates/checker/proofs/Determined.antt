@@ -11,9 +11,9 @@ use Rattle.checker_plans.specs.Coded.{plansOf}
 use Rattle.checker.specs as defs
 use defs.declared.Checking.{Checking}
 use defs.declared.Checking.the-variants.{True, Refused}
-use defs.Paper.{Checked, check}
+use defs.Paper.{Checked, SlotsChecked, check}
 use defs.Coded.{checkedOf}
-use defs.Inner.{checkBeside}
+use defs.Inner.{slotsBeside}
 
 -- the code's answer by the paper's
 abbrev checkingFrom : Checked → Checking
@@ -31,5 +31,9 @@ pub determined-check-schedule : (current previous : Plan) (m : List ℕ) (receiv
     → Determined (λ (r : Checking). checkedOf r ≡ check (planOf current) (planOf previous) m received)
 determined-check-schedule current previous m received = determined-by checkedOf checking-injective
 
-pub determined-check-beside : (plans : Plans) (m : List ℕ) (received : ℕ) → Determined (λ (r : Checking). checkedOf r ≡ checkBeside (plansOf plans) m received)
-determined-check-beside plans m received = determined-by checkedOf checking-injective
+pub determined-check-slots : (plans : Plans) (m : List ℕ) (received : ℕ) (w : List ℕ) (r s : Checking) (x y : List ℕ)
+    → record { checked = checkedOf r; verdicts = x } ≡ slotsBeside (plansOf plans) m received w
+    → record { checked = checkedOf s; verdicts = y } ≡ slotsBeside (plansOf plans) m received w → (r ≡ s) × (x ≡ y)
+determined-check-slots plans m received w r s x y a b =
+    let e = a ∙ sym b in
+    (checking-injective r s (ap (λ (l : SlotsChecked). l .checked) e), ap (λ (l : SlotsChecked). l .verdicts) e)

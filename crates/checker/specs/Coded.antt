@@ -1,7 +1,8 @@
 -- The code's values as the checker's numbers and tests.
-use mathlib.Core.Bool.{Bool, not}
+use mathlib.Core.Bool.{cond}
 use mathlib.Core.List.{List}
 use Prim.Native.Nat.{ℕ, suc}
+use lib.Dec.{ltb}
 use lib.ListN.{getD}
 use Rattle.refusals.specs.Number.{numberOf}
 use Rattle.schedule.specs.Paper.{new}
@@ -11,12 +12,12 @@ use Rattle.plan_slots.specs.Coded.{plannedOf}
 use Rattle.plan_slots.specs.Inner.{nothing}
 use Rattle.checker.specs.declared.Checking.{Checking}
 use Rattle.checker.specs.declared.Checking.the-variants.{True, Refused}
-use Rattle.checker_slots.specs.Paper.{trueBy}
+use Rattle.checker_slots.specs.Paper.{failingRule}
 use Rattle.checker.specs.Paper.{Checked}
 
--- what a message tells of slot i at its place is untrue by what an array says of the slot
-abbrev pub untrueBy : List Planned → List ℕ → List ℕ → ℕ → Bool
-untrueBy v m p i = not (trueBy (plannedOf (getD v i nothing)) (suc i) (record { new = new m i; told = toldBy m p i }))
+-- the rule that fails at slot i, of n, by what a message tells of it at its place and what an array says of it; 0 past the n slots
+abbrev pub ruleBy : List Planned → List ℕ → List ℕ → ℕ → ℕ → ℕ
+ruleBy v m p n i = cond (ltb i n) (failingRule (plannedOf (getD v i nothing)) (suc i) (record { new = new m i; told = toldBy m p i })) 0
 
 -- 0 for a true message, or the refusal's number and the slot that comes with it
 abbrev pub checkedOf : Checking → Checked

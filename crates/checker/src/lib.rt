@@ -1,14 +1,15 @@
 // Schedule messages checked against a plan and the plan before it.
 ghost use mathlib.Core.Path.{_≡_};
-ghost use Prim.Native.Nat.{_≤_};
+ghost use Prim.Native.Nat.{_<_};
 ghost use mathlib.Core.List.{map};
-ghost use Rattle.laws.specs.Upto.{lowest as lowestOf};
+ghost use lib.ListN.{length};
+ghost use Rattle.laws.specs.Upto.{lowest as lowestOf, each};
 ghost use Rattle.plan.specs.Coded.{planOf};
 ghost use Rattle.plan_slots.specs.Coded.{plannedOf};
 ghost use Rattle.checker_plans.specs.Coded.{plansOf};
 ghost use Rattle.checker.specs.Paper.{check};
-ghost use Rattle.checker.specs.Inner.{compared, checkBeside};
-ghost use Rattle.checker.specs.Coded.{untrueBy, checkedOf};
+ghost use Rattle.checker.specs.Inner.{breaks, compared, slotsBeside};
+ghost use Rattle.checker.specs.Coded.{ruleBy, checkedOf};
 use checker_plans::Plans;
 use plan::Plan;
 use plan::Verdict;
@@ -24,16 +25,45 @@ pub enum Checking {
     Refused(Refusal, usize),
 }
 
-// The lowest slot, by its number, of the first ones that is told untruly, at its place, by what the plans say of all; 0 for none.
-fn first_untrue(all: [Planned; SLOTS], message: &[u8], places: [u8; SLOTS], count: usize) -> usize
-    requires { ⌜ count ≤ 48 ⌝ }
-    ensures { λ r. ⌜ r ≡ lowestOf (untrueBy all (now (message .entry)) places) count ⌝ }
+// Which rule fails first at slot i, counted from 0, at its place, by what the plans say of all; 0 for none, and past the count.
+fn judge(all: [Planned; SLOTS], message: &[u8], places: [u8; SLOTS], count: usize, i: usize) -> u8
+    requires { ⌜ i < 48 ⌝ }
+    ensures { λ r. ⌜ r ≡ ruleBy all (now (message .entry)) places count i ⌝ }
+{
+    if i >= count {
+        return 0;
+    }
+    let slot = schedule::shown(message, i, places[i] as usize);
+    let said = all[i];
+    checker_slots::failing_rule(said, i + 1, slot)
+}
+
+// Judges each slot, by the places of the descriptions and what the plans say of all.
+fn judge_each(
+    all: [Planned; SLOTS],
+    message: &[u8],
+    places: [u8; SLOTS],
+    count: usize,
+    verdicts: &mut [u8],
+)
+    requires { ⌜ length (now verdicts) ≡ 48 ⌝ }
+    ensures { λ r. ⌜ now (verdicts .exit) ≡ each (ruleBy all (now (message .entry)) places count) 48 ⌝ }
 {
     let mut i = 0;
-    while i < count {
-        let slot = schedule::shown(message, i, places[i] as usize);
-        let said = all[i];
-        if !checker_slots::is_true(said, i + 1, slot) {
+    while i < SLOTS {
+        verdicts[i] = judge(all, message, places, count, i);
+        i += 1;
+    }
+}
+
+// The lowest slot, by its number, that breaks a rule; 0 for none.
+fn first_untrue(verdicts: &[u8]) -> usize
+    requires { ⌜ length (now verdicts) ≡ 48 ⌝ }
+    ensures { λ r. ⌜ r ≡ lowestOf (breaks (now (verdicts .entry))) 48 ⌝ }
+{
+    let mut i = 0;
+    while i < SLOTS {
+        if verdicts[i] != 0 {
             return i + 1;
         }
         i += 1;
@@ -42,8 +72,15 @@ fn first_untrue(all: [Planned; SLOTS], message: &[u8], places: [u8; SLOTS], coun
 }
 
 // Holds a message, of which some octets are received, beside what good plans say: the current plan's count, and each slot.
-fn compare(count: usize, said: [Planned; SLOTS], message: &[u8], received: usize) -> Checking
-    ensures { λ r. ⌜ checkedOf r ≡ compared count (map plannedOf said) (now (message .entry)) received ⌝ }
+fn compare(
+    count: usize,
+    said: [Planned; SLOTS],
+    message: &[u8],
+    received: usize,
+    verdicts: &mut [u8],
+) -> Checking
+    requires { ⌜ length (now verdicts) ≡ 48 ⌝ }
+    ensures { λ r. ⌜ record { checked = checkedOf r; verdicts = now (verdicts .exit) } ≡ compared count (map plannedOf said) (now (message .entry)) received (now (verdicts .entry)) ⌝ }
 {
     let found = schedule_places::read_places(message, received);
     let answer = found.answer;
@@ -54,7 +91,8 @@ fn compare(count: usize, said: [Planned; SLOTS], message: &[u8], received: usize
                 return Checking::Refused(Refusal::Untrue, 0);
             }
             let places = found.places;
-            let slot = first_untrue(said, message, places, end);
+            judge_each(said, message, places, end, verdicts);
+            let slot = first_untrue(&verdicts[..]);
             if slot == 0 {
                 return Checking::True;
             }
@@ -63,16 +101,20 @@ fn compare(count: usize, said: [Planned; SLOTS], message: &[u8], received: usize
     }
 }
 
-// Checks a message, of which some octets are received, by what the plans say.
-pub fn check_beside(plans: Plans, message: &[u8], received: usize) -> Checking
-    ensures { λ r. ⌜ checkedOf r ≡ checkBeside (plansOf plans) (now (message .entry)) received ⌝ }
+// Checks a message, of which some octets are received, by what the plans say, and leaves which rule each slot breaks. Where slots aren't
+// judged one by one, their verdicts are left as they were.
+pub fn check_slots(plans: Plans, message: &[u8], received: usize, verdicts: &mut [u8]) -> Checking
+    ensures { λ r. ⌜ record { checked = checkedOf r; verdicts = now (verdicts .exit) } ≡ slotsBeside (plansOf plans) (now (message .entry)) received (now (verdicts .entry)) ⌝ }
 {
+    if verdicts.len() != SLOTS {
+        return Checking::Refused(Refusal::OutputLength, 0);
+    }
     let verdict = plans.verdict;
     if let Verdict::Refused(why, entry) = verdict {
         return Checking::Refused(why, entry as usize);
     }
     let said = plans.said;
-    compare(plans.count, said, message, received)
+    compare(plans.count, said, message, received, verdicts)
 }
 
 // Checks a message, of which some octets are received, beside the current plan and the previous one.
@@ -80,5 +122,6 @@ pub fn check_schedule(current: Plan, previous: Plan, message: &[u8], received: u
     ensures { λ r. ⌜ checkedOf r ≡ check (planOf current) (planOf previous) (now (message .entry)) received ⌝ }
 {
     let plans = checker_plans::beside(current, previous);
-    check_beside(plans, message, received)
+    let mut verdicts = [0u8; SLOTS];
+    check_slots(plans, message, received, &mut verdicts)
 }

@@ -1,2 +1,3 @@
 -- What `checker_slots` proves.
 pub mod Determined
+pub mod Rules

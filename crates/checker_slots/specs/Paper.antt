@@ -1,5 +1,5 @@
--- Whether a slot is told truly, as a test by what is told. `accepted-exactly` of `checker_truth` joins it to document 01's list, which goes by plan. Slots go by their numbers here, from 1.
-use mathlib.Core.Bool.{Bool, true, false, not, _&&_, _||_, Bool·beq}
+-- Whether a slot is told truly, as a test by what is told, and which rule fails where it isn't. `accepted-exactly` and `slots-judged` of `checker_truth` join both to document 01's list, which goes by plan. Slots go by their numbers here, from 1.
+use mathlib.Core.Bool.{Bool, true, false, cond, not, _&&_, _||_, Bool·beq}
 use Prim.Native.Nat.{ℕ}
 use lib.Dec.{eqb}
 use Rattle.schedule.specs.Paper.{Told, first, again, optional, advised, Shown}
@@ -30,3 +30,11 @@ newFor v advised = true
 -- 01 Truthful: a slot is told truly, by what the plans say of it
 abbrev pub trueBy : Planned → ℕ → Shown → Bool
 trueBy v n s = mayTell v n (s .told) && Bool·beq (s .new) (newFor v (s .told))
+
+-- 01 Truthful, by the places in its list: the rule of what may be told of a slot: 1 the lowest slot with a page, 2 a later one, 3 planned optional, 4 planned advised
+abbrev pub ruleFor : Planned → ℕ → ℕ
+ruleFor v n = cond (leads v n) 1 (cond (repeats v n) 2 (cond (eqb (v .kind) 0) 3 4))
+
+-- 01 Truthful: the first rule that fails at a slot: that of what may be told, then 5, the new bit; 0 where none fails
+abbrev pub failingRule : Planned → ℕ → Shown → ℕ
+failingRule v n s = cond (mayTell v n (s .told)) (cond (Bool·beq (s .new) (newFor v (s .told))) 0 5) (ruleFor v n)

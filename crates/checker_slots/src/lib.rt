@@ -1,8 +1,8 @@
-// Whether a slot of a schedule message is told truly by what two plans say of it.
+// Which rule of truth a slot of a schedule message breaks, if any, by what two plans say of it.
 ghost use mathlib.Core.Path.{_≡_};
 ghost use Rattle.schedule.specs.Coded.{toldOf, shownOf};
 ghost use Rattle.plan_slots.specs.Coded.{plannedOf};
-ghost use Rattle.checker_slots.specs.Paper.{leads, repeats, mayTell, newFor, trueBy};
+ghost use Rattle.checker_slots.specs.Paper.{leads, repeats, mayTell, newFor, ruleFor, failingRule};
 use plan_slots::Planned;
 use schedule::Description;
 use schedule::Slot;
@@ -71,15 +71,34 @@ fn new_for(planned: Planned, description: Description) -> bool
     }
 }
 
-// Whether a slot is told truly, by its number and what the plans say of it.
-pub fn is_true(planned: Planned, number: usize, slot: Slot) -> bool
-    ensures { λ r. ⌜ r ≡ trueBy (plannedOf planned) number (shownOf slot) ⌝ }
+// The rule of what may be told of a slot, by its place in the list of rules.
+fn rule_for(planned: Planned, number: usize) -> u8
+    ensures { λ r. ⌜ r ≡ ruleFor (plannedOf planned) number ⌝ }
+{
+    if leads(planned, number) {
+        return 1;
+    }
+    if repeats(planned, number) {
+        return 2;
+    }
+    if planned.kind == 0 {
+        return 3;
+    }
+    4
+}
+
+// The first rule that fails at a slot, by its number and what the plans say of it; 0 where it is told truly.
+pub fn failing_rule(planned: Planned, number: usize, slot: Slot) -> u8
+    ensures { λ r. ⌜ r ≡ failingRule (plannedOf planned) number (shownOf slot) ⌝ }
 {
     let new = slot.new;
     let description = slot.description;
     if !may_tell(planned, number, description) {
-        return false;
+        return rule_for(planned, number);
     }
     let right = new_for(planned, description);
-    new == right
+    if new != right {
+        return 5;
+    }
+    0
 }

@@ -45,8 +45,8 @@ module _ (c p : Plan) (m : List ℕ) (received : ℕ) where
   IsTruthful = Truthful c p m received
 
   -- neither the plans nor the reader refuse, and the verdict on the slots is the answer
-  record Answered : Type 0 where
-    current : planNumber c ≡ 0
+  pub record Answered : Type 0 where
+    pub current : planNumber c ≡ 0
     previous : planNumber p ≡ 0
     reads : read m received .number ≡ 0
     answer : checked ≡ verdict c p m
@@ -64,15 +64,19 @@ module _ (c p : Plan) (m : List ℕ) (received : ℕ) where
         answer = w .1;
       }
 
-  answered-0 : checked .number ≡ 0 → Answered
-  answered-0 =
-      answered 0
+  pub others-0 : Other 0 (faults c p m received)
+  others-0 =
       (unless0-numbered (planNumber c), (unless0-numbered (planNumber p), ((λ t e. omega arith), (unless0-numbered (read m received .number), tt))))
 
-  answered-40 : checked .number ≡ 40 → Answered
-  answered-40 =
-      answered 40
+  pub others-40 : Other 40 (faults c p m received)
+  others-40 =
       ((λ t e. omega (arith, plan-low c)), ((λ t e. omega (arith, plan-low p)), ((λ t e. omega arith), ((λ t e. omega (arith, number-low m received)), tt))))
+
+  pub answered-0 : checked .number ≡ 0 → Answered
+  answered-0 = answered 0 others-0
+
+  pub answered-40 : checked .number ≡ 40 → Answered
+  answered-40 = answered 40 others-40
 
   -- the verdict on the slots
   data Judged (r : Checked) : Type 0 where

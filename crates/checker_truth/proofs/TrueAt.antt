@@ -8,7 +8,7 @@ use Rattle.plan_slots.specs.Paper.{lowestAt, low15At, Planned, plannedAt}
 use Rattle.plan_slots.proofs.Lowest.{leading}
 use Rattle.checker_slots.specs.Paper.{leads, repeats, mayTell, newFor}
 use Rattle.checker.specs.Paper.{isTrue}
-use Rattle.checker_truth.specs.Claims.{TrueAt}
+use Rattle.checker_truth.specs.Claims.{NewBit, TrueAt}
 use Rattle.plan.proofs.GoodPlan.{kind-few}
 
 module _ (c p : Plan) (i : ℕ) where
@@ -32,17 +32,17 @@ module _ (c p : Plan) (i : ℕ) where
   Tells optional = (kind ≡ 0) ⊎ ((kind ≡ 2) × (lowest ≡ suc i → ⊥))
   Tells advised = (kind ≡ 1) ⊎ (kind ≡ 2)
 
-  leads-is : leads v (suc i) ≡ true → (kind ≡ 2) × (lowest ≡ suc i)
+  pub leads-is : leads v (suc i) ≡ true → (kind ≡ 2) × (lowest ≡ suc i)
   leads-is e =
       let b = both (eqb kind 2) (eqb lowest (suc i)) e in
       (eqb-true kind 2 (b .0), eqb-true lowest (suc i) (b .1))
 
-  repeats-is : repeats v (suc i) ≡ true → (kind ≡ 2) × (lowest ≡ suc i → ⊥)
+  pub repeats-is : repeats v (suc i) ≡ true → (kind ≡ 2) × (lowest ≡ suc i → ⊥)
   repeats-is e =
       let b = both (eqb kind 2) (not (eqb lowest (suc i))) e in
       (eqb-true kind 2 (b .0), eqb-false lowest (suc i) (not-true (eqb lowest (suc i)) (b .1)))
 
-  may-tells : (t : Told) → mayTell v (suc i) t ≡ true → Tells t
+  pub may-tells : (t : Told) → mayTell v (suc i) t ≡ true → Tells t
   may-tells (first x) e =
       let b = both (leads v (suc i)) (eqb x low15) e in
       let l = leads-is (b .0) in
@@ -57,7 +57,7 @@ module _ (c p : Plan) (i : ℕ) where
       ⊎-elim (λ a. inl (eqb-true kind 1 a)) (λ b. inr (eqb-true kind 2 b))
       (either (eqb kind 1) (eqb kind 2) e)
 
-  tells-may : (t : Told) → Tells t → mayTell v (suc i) t ≡ true
+  pub tells-may : (t : Told) → Tells t → mayTell v (suc i) t ≡ true
   tells-may (first x) w =
       simp (eq-eqb kind 2 (w .0), eq-eqb lowest (suc i) (w .1), eq-eqb x low15 (w .2))
   tells-may (again n) w =
@@ -67,27 +67,27 @@ module _ (c p : Plan) (i : ℕ) where
   tells-may advised (inl k) = simp (eq-eqb kind 1 k)
   tells-may advised (inr k) = rw k
 
-  lowest-tells : (t : Told) → Tells t → kind ≡ 2 → lowest ≡ suc i → (t ≡ first low15) ⊎ (t ≡ advised)
+  pub lowest-tells : (t : Told) → Tells t → kind ≡ 2 → lowest ≡ suc i → (t ≡ first low15) ⊎ (t ≡ advised)
   lowest-tells (first x) w k l = inl (ap first (w .2))
   lowest-tells (again n) w k l = absurd (w .1 l)
   lowest-tells optional (inl z) k l = absurd (omega arith)
   lowest-tells optional (inr w) k l = absurd (w .1 l)
   lowest-tells advised w k l = inr refl
 
-  later-tells : (t : Told) → Tells t → kind ≡ 2 → lowest < suc i → (t ≡ again lowest) ⊎ ((t ≡ advised) ⊎ (t ≡ optional))
+  pub later-tells : (t : Told) → Tells t → kind ≡ 2 → lowest < suc i → (t ≡ again lowest) ⊎ ((t ≡ advised) ⊎ (t ≡ optional))
   later-tells (first x) w k l = absurd (omega arith)
   later-tells (again n) w k l = inl (ap again (w .2))
   later-tells optional w k l = inr (inr refl)
   later-tells advised w k l = inr (inl refl)
 
-  optional-tells : (t : Told) → Tells t → kind ≡ 0 → t ≡ optional
+  pub optional-tells : (t : Told) → Tells t → kind ≡ 0 → t ≡ optional
   optional-tells (first x) w k = absurd (omega arith)
   optional-tells (again n) w k = absurd (omega arith)
   optional-tells optional w k = refl
   optional-tells advised (inl z) k = absurd (omega arith)
   optional-tells advised (inr z) k = absurd (omega arith)
 
-  advised-tells : (t : Told) → Tells t → kind ≡ 1 → t ≡ advised
+  pub advised-tells : (t : Told) → Tells t → kind ≡ 1 → t ≡ advised
   advised-tells (first x) w k = absurd (omega arith)
   advised-tells (again n) w k = absurd (omega arith)
   advised-tells optional (inl z) k = absurd (omega arith)
@@ -95,6 +95,16 @@ module _ (c p : Plan) (i : ℕ) where
   advised-tells advised w k = refl
 
   module _ (s : Shown) where
+    -- the new bit that belongs to what is told keeps its rule
+    pub right-new : s .new ≡ newFor v (s .told) → NewBit c p i s
+    right-new new =
+        record {
+          new-advised = λ q. new ∙ ap (newFor v) q;
+          new-optional = λ q. new ∙ ap (newFor v) q;
+          new-first = λ x q. new ∙ ap (newFor v) q;
+          new-repeat = λ n q. new ∙ ap (newFor v) q;
+        }
+
     -- a slot that passes the test keeps every rule
     pub true-keeps : isTrue c p i s ≡ true → TrueAt c p i s
     unfolding isTrue
@@ -107,10 +117,7 @@ module _ (c p : Plan) (i : ℕ) where
           later-slot = later-tells (s .told) w;
           planned-optional = optional-tells (s .told) w;
           planned-advised = advised-tells (s .told) w;
-          new-advised = λ q. new ∙ ap (newFor v) q;
-          new-optional = λ q. new ∙ ap (newFor v) q;
-          new-first = λ x q. new ∙ ap (newFor v) q;
-          new-repeat = λ n q. new ∙ ap (newFor v) q;
+          new-bit = right-new new;
         }
 
     passes : (t : Told) → s .told ≡ t → Tells t → s .new ≡ newFor v t → isTrue c p i s ≡ true
@@ -125,17 +132,17 @@ module _ (c p : Plan) (i : ℕ) where
           ⊎-elim
           (λ own.
           ⊎-elim
-          (λ e. passes (first low15) e (k, own, refl) (t .new-first low15 e))
-          (λ e. passes advised e (inr k) (t .new-advised e))
+          (λ e. passes (first low15) e (k, own, refl) (t .new-bit .new-first low15 e))
+          (λ e. passes advised e (inr k) (t .new-bit .new-advised e))
           (t .lowest-slot k own))
           (λ below.
           let other : lowest ≡ suc i → ⊥ = λ q. omega arith in
           ⊎-elim
-          (λ e. passes (again lowest) e (k, other, refl) (t .new-repeat lowest e))
+          (λ e. passes (again lowest) e (k, other, refl) (t .new-bit .new-repeat lowest e))
           (λ o.
           ⊎-elim
-          (λ e. passes advised e (inr k) (t .new-advised e))
-          (λ e. passes optional e (inr (k, other)) (t .new-optional e))
+          (λ e. passes advised e (inr k) (t .new-bit .new-advised e))
+          (λ e. passes optional e (inr (k, other)) (t .new-bit .new-optional e))
           o)
           (t .later-slot k below))
           (below-suc near)
@@ -146,7 +153,7 @@ module _ (c p : Plan) (i : ℕ) where
           ⊎-elim page-passes
           (λ low.
           ⊎-elim
-          (λ k. let e = t .planned-advised k in passes advised e (inl k) (t .new-advised e))
-          (λ least. let k : kind ≡ 0 = omega arith in let e = t .planned-optional k in passes optional e (inl k) (t .new-optional e))
+          (λ k. let e = t .planned-advised k in passes advised e (inl k) (t .new-bit .new-advised e))
+          (λ least. let k : kind ≡ 0 = omega arith in let e = t .planned-optional k in passes optional e (inl k) (t .new-bit .new-optional e))
           (below-suc low))
           (below-suc (kind-few c g i l))

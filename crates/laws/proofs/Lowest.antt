@@ -1,6 +1,6 @@
 -- Laws of the lowest number below a bound that passes a test.
 use Rattle.laws.proofs as own
-use own.Base.{_≡_, refl, sym, _∙_, Bool, true, false, cond, false≢true, ⊎-elim, ℕ, zero, suc, _<_, not-suc-le-zero, arith}
+use own.Base.{_≡_, refl, sym, _∙_, Bool, true, false, cond, false≢true, ⊎-elim, ℕ, zero, suc, _≤_, _<_, not-suc-le-zero, arith, ltb, ltb-true, ltb-false}
 use Rattle.laws.specs.Upto.{someBelow, lowest}
 use own.Tests.{true-or-false}
 use own.Upto.{below-suc, some-at, some-none, some-agree}
@@ -49,3 +49,16 @@ module _ (p : ℕ → Bool) where
   lowest-agree q zero h = refl
   lowest-agree q (suc n) h =
       rw (some-agree p q n (λ i l. h i (omega arith)), lowest-agree q n (λ i l. h i (omega arith)), h n (omega arith))
+
+-- a test that fails from n on has the lowest of one that it agrees with below n
+pub lowest-within : (p q : ℕ → Bool) (n k : ℕ) → n ≤ k → ((i : ℕ) → i < n → p i ≡ q i) → ((i : ℕ) → n ≤ i → i < k → p i ≡ false)
+    → lowest p k ≡ lowest q n
+lowest-within p q n k few same past = go (lowest-is q n)
+  where
+    none : ((i : ℕ) → i < n → q i ≡ false) → (i : ℕ) → i < k → p i ≡ false
+    none z i l = true-or-false (ltb i n) (λ b. let h = ltb-true i n b in same i h ∙ z i h) (λ b. past i (ltb-false i n b) l)
+
+    go : {r : ℕ} → Lowest q n r → lowest p k ≡ r
+    go (none-passes e z) = lowest-none p k (none z) ∙ sym e
+    go (first-passes i e l t lower) =
+        lowest-at p k i (omega arith) (same i l ∙ t) (λ j b. same j (omega arith) ∙ lower j b) ∙ sym e

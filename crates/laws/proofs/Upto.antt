@@ -1,7 +1,7 @@
 -- Laws of the numbers below a bound that pass a test, and of what a function gives at each.
 use Rattle.laws.proofs as own
 use own.Base.{_≡_, refl, sym, ap, _∙_, Bool, true, false, cond, not, false≢true, or-true, or-false, [], _∷_, _⊎_, ⊎-elim, ℕ, zero, suc, _+_, _≤_, _<_}
-use own.Base.{add-zero, eqb, ne-eqb, eq-or-lt-of-le, le-of-suc-le-suc, not-suc-le-zero, add-one, arith, length, getD, length-append, List·getD-append, getD-at}
+use own.Base.{List, _++_, take, set, take-suc-set, take-all, add-zero, eqb, ne-eqb, eq-or-lt-of-le, le-of-suc-le-suc, not-suc-le-zero, add-one, arith, length, getD, length-append, List·getD-append, getD-at}
 use Rattle.laws.specs.Upto.{someBelow, count, picked, each}
 use own.Snoc.{length-snoc}
 use own.Tests.{true-or-false, either}
@@ -173,3 +173,22 @@ module _ {A : Type 0} (f : ℕ → A) where
       let h : i < length (each f n) = omega (arith, each-length n) in
       rw (List·getD-append (each f n) (f n ∷ []) d i h) (each-at n i d b))
       (below-suc l)
+
+  -- functions that agree below n give the same
+  pub each-agree : (g : ℕ → A) (n : ℕ) → ((i : ℕ) → i < n → f i ≡ g i) → each f n ≡ each g n
+  unfolding each
+  each-agree g zero h = refl
+  each-agree g (suc n) h = rw (each-agree g n (λ i l. h i (omega arith)), h n (omega arith))
+
+  -- a loop that puts what a function gives at each place of a list: its start, a turn, and its end
+  pub each-start : (o : List A) → take 0 o ≡ each f 0
+  unfolding each
+  each-start o = refl
+
+  module _ (o : List A) (i : ℕ) (done : take i o ≡ each f i) where
+    pub each-turn : (x : A) → x ≡ f i → i < length o → take (i + 1) (set o i x) ≡ each f (i + 1)
+    unfolding each
+    each-turn x q l = rw add-one (take-suc-set o i x l ∙ (λ j. done j ++ (q j ∷ [])))
+
+    pub each-end : (n : ℕ) → i ≡ n → length o ≡ n → o ≡ each f n
+    each-end n q l = sym (take-all i o (omega arith)) ∙ done ∙ ap (each f) q

@@ -2,7 +2,7 @@
 use Rattle.laws.proofs.Base.{_≡_, sym, ap, _∙_, Bool, true, false, cond, List, ℕ, _≤_, arith, length, eqb, eqb-true, eq-eqb, ne-eqb, not-false}
 use Rattle.laws.specs.Ruled.{ruled}
 use Rattle.laws.specs.Upto.{lowest}
-use Rattle.laws.proofs.Ruled.{Ruling, refuses, passes, ruling}
+use Rattle.laws.proofs.Ruled.{Ruling, refuses, passes, ruling, ruled-map}
 use Rattle.laws.proofs.Lowest.{Lowest, none-passes, first-passes, lowest-is}
 use Rattle.refusals.specs.declared.Refusal.{Refusal}
 use Rattle.refusals.specs.Number.{numberOf}
@@ -22,14 +22,16 @@ use Rattle.sender.specs.Paper.{ScheduleLeft, unwrittenNaming, writeSchedule}
 use Rattle.sender.specs.Coded.{sendingOf}
 use Rattle.sender.proofs.Cases.{accepts}
 use Rattle.checker.specs.declared.Checking.{Checking}
-use Rattle.checker.specs.declared.Checking.the-variants.{Refused}
-use Rattle.checker.specs.Paper.{Checked, unchecked, refusedAt, untrueAt, untrue, verdict, faults, check}
+use Rattle.checker.specs.Paper.{Checked, unchecked, refusedAt, untrueAt, untrue, verdict, faults, check, SlotsChecked, unjudged, checkSlots}
+use Rattle.checker.specs.Inner.{slotsBeside}
 use Rattle.checker.specs.Coded.{checkedOf}
+use Rattle.checker.proofs.Telling.{slots-beside, slots-checked}
+use Rattle.checker_plans.specs.Inner.{beside}
 use Rattle.calls.specs.Paper.{inOne}
 use Rattle.calls.specs.Claims.{IsLeft}
 use Rattle.calls.proofs.Packed.{left-number}
 use Rattle.plan_calls.specs as defs
-use defs.Paper.{fileFaults, filesEntry, writtenFrom, writtenLeft, writeScheduleCall, checkedBeside, packedChecked, checkScheduleCall}
+use defs.Paper.{fileFaults, filesEntry, writtenFrom, writtenLeft, writeScheduleCall, checkedBeside, packedChecked, checkScheduleCall, slotsBesideFiles, packedSlots, checkSlotsCall}
 use Rattle.plan_calls.proofs.Filed.{Files, Filed, filesOf, filed, files-refused, files-good, files-entry, files-named}
 
 -- a refusal and the entry that comes with it, packed
@@ -97,21 +99,48 @@ slot-few c p m received = go (ruling (refusedAt (plansEntry c p)) (faults c p m 
     go (passes h e) =
         rw e (named (good-counted c (eqb-true _ 0 (not-false _ (h .0)))) (eqb (end m) (c .count)) (eqb (lowest (untrue c p m) (c .count)) 0))
 
-module _ (c p m : List ℕ) (received : ℕ) (f : Files) (e : filesOf f ≡ filed c p) where
-  pub refuses-both : {g : Refusal} {s r : ℕ} → f .verdict ≡ verdicts.Refused g s → r ≡ inOne (numberOf g) s → r ≡ checkScheduleCall c p m received
-  refuses-both {g} {s} k n =
-      n
-      ∙ ap packedChecked
-      (ap (λ (t : ℕ). refusedAt t (numberOf g)) (sym (files-entry c p f e k))
-      ∙ files-refused c p (refusedAt (filesEntry c p)) f e (check (readPlan c .plan) (readPlan p .plan) m received) k)
+-- with memory for the verdicts the answer for the files is the checker's, and so is the number returned
+module _ (c p m : List ℕ) (received : ℕ) (w : List ℕ) (room : length w ≡ 48) where
+  pub files-checked : slotsBesideFiles c p m received w .checked ≡ checkedBeside c p m received
+  files-checked =
+      rw (eq-eqb (length w) 48 room)
+      (ruled-map (λ (l : SlotsChecked). l .checked) (unjudged (filesEntry c p) w) (fileFaults c p) (checkSlots (readPlan c .plan) (readPlan p .plan) m received w)
+      ∙ ap (ruled (refusedAt (filesEntry c p)) (fileFaults c p)) (slots-checked (readPlan c .plan) (readPlan p .plan) m received w room))
 
-  -- the checker's answer for the plans is that for the files
-  pub as-beside : {x : Checked} → f .verdict ≡ verdicts.Good → x ≡ check (planOf (f .current)) (planOf (f .previous)) m received
-      → x ≡ checkedBeside c p m received
-  as-beside k q =
-      q
-      ∙ (λ i. check (e i .current) (e i .previous) m received)
-      ∙ files-good c p (refusedAt (filesEntry c p)) f e (check (readPlan c .plan) (readPlan p .plan) m received) k
+  pub slots-returned : checkSlotsCall c p m received w .returned ≡ checkScheduleCall c p m received
+  slots-returned = ap packedChecked files-checked
 
-pub named-small : (c p : Plan) (m : List ℕ) (received : ℕ) {a : Checking} {f : Refusal} {s : ℕ} → checkedOf a ≡ check c p m received → a ≡ Refused f s → s ≤ 48
-named-small c p m received e k = omega (arith, slot-few c p m received, ap (λ (z : Checked). z .slot) (rw k at e))
+module _ (c p m : List ℕ) (received : ℕ) (w : List ℕ) where
+  pub refuses-verdicts : {r : ℕ} → r ≡ 15 → (length w ≡ 48 → ⊥) → IsLeft r w (checkSlotsCall c p m received w)
+  refuses-verdicts n e = rw (ne-eqb (length w) 48 e) (ap (λ (x : ℕ). record { returned = x; memory = w }) n)
+
+  module _ (room : length w ≡ 48) (f : Files) (e : filesOf f ≡ filed c p) where
+    abbrev past : SlotsChecked
+    past = checkSlots (readPlan c .plan) (readPlan p .plan) m received w
+
+    -- past the test of the verdicts' memory
+    past-verdicts : ruled (unjudged (filesEntry c p) w) (fileFaults c p) past ≡ slotsBesideFiles c p m received w
+    past-verdicts = rw (eq-eqb (length w) 48 room)
+
+    pub refuses-both : {g : Refusal} {s r : ℕ} → f .verdict ≡ verdicts.Refused g s → r ≡ inOne (numberOf g) s → IsLeft r w (checkSlotsCall c p m received w)
+    refuses-both {g} {s} {r} k n =
+        ap (λ (x : ℕ). record { returned = x; memory = w }) n
+        ∙ ap packedSlots
+        (ap (λ (t : ℕ). unjudged t w (numberOf g)) (sym (files-entry c p f e k))
+        ∙ files-refused c p (unjudged (filesEntry c p) w) f e past k ∙ past-verdicts)
+
+    -- the checker's answer for the plans is that for the files
+    pub as-beside : {x : SlotsChecked} → f .verdict ≡ verdicts.Good → x ≡ slotsBeside (beside (planOf (f .current)) (planOf (f .previous))) m received w
+        → x ≡ slotsBesideFiles c p m received w
+    as-beside k q =
+        q
+        ∙ slots-beside (planOf (f .current)) (planOf (f .previous)) m received w
+        ∙ (λ i. checkSlots (e i .current) (e i .previous) m received w)
+        ∙ files-good c p (unjudged (filesEntry c p) w) f e past k
+        ∙ past-verdicts
+
+pub named-small : (c p : Plan) (m : List ℕ) (received : ℕ) (w x : List ℕ) (a : Checking) → length w ≡ 48
+    → record { checked = checkedOf a; verdicts = x } ≡ slotsBeside (beside c p) m received w → checkedOf a .slot ≤ 48
+named-small c p m received w x a room e =
+    omega
+    (arith, slot-few c p m received, ap (λ (l : SlotsChecked). l .checked .slot) (e ∙ slots-beside c p m received w), ap (λ (k : Checked). k .slot) (slots-checked c p m received w room))

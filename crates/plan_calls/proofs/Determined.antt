@@ -2,7 +2,7 @@
 use Rattle.laws.proofs.Base.{List, ℕ}
 use Rattle.calls.specs.Claims.{Settles, SettlesNumber}
 use Rattle.calls.proofs.Settled.{settles, settles-number}
-use Rattle.plan_calls.specs.Paper.{planCall, writeScheduleCall, checkScheduleCall}
+use Rattle.plan_calls.specs.Paper.{planCall, writeScheduleCall, checkScheduleCall, checkSlotsCall}
 
 pub determined-cb-read-plan : (f : List ℕ) → SettlesNumber (planCall f)
 determined-cb-read-plan f = settles-number (planCall f)
@@ -12,3 +12,6 @@ determined-cb-write-schedule c p begin o = settles (writeScheduleCall c p begin 
 
 pub determined-cb-check-schedule : (c p m : List ℕ) (received : ℕ) → SettlesNumber (checkScheduleCall c p m received)
 determined-cb-check-schedule c p m received = settles-number (checkScheduleCall c p m received)
+
+pub determined-cb-check-slots : (c p m : List ℕ) (received : ℕ) (w : List ℕ) → Settles (checkSlotsCall c p m received w)
+determined-cb-check-slots c p m received w = settles (checkSlotsCall c p m received w)

@@ -8,7 +8,7 @@ use Rattle.laws.specs.Ruled.{ruled, unless0}
 use Rattle.calls.specs.Paper.{CallLeft, inOne, leftWith}
 use Rattle.plan_read.specs.Paper.{readPlan}
 use Rattle.sender.specs.Paper.{ScheduleLeft, unwrittenNaming, writeSchedule}
-use Rattle.checker.specs.Paper.{Checked, refusedAt, check}
+use Rattle.checker.specs.Paper.{Checked, refusedAt, SlotsChecked, unjudged, check, checkSlots}
 
 -- 02 No. 1: what stands beside a number: of 0 what is counted, of a refusal the entry that is named
 abbrev pub besideNumber : ℕ → ℕ → ℕ → ℕ
@@ -51,3 +51,17 @@ packedChecked x = inOne (x .number) (x .slot)
 -- 01 The plan: the checker for C
 abbrev pub checkScheduleCall : List ℕ → List ℕ → List ℕ → ℕ → ℕ
 checkScheduleCall c p m received = packedChecked (checkedBeside c p m received)
+
+-- 01 Order: checking slot by slot: 15 where the verdicts' memory w isn't 48 octets, the current plan file c, the previous one p, then as the checker has it for their plans
+abbrev pub slotsBesideFiles : List ℕ → List ℕ → List ℕ → ℕ → List ℕ → SlotsChecked
+slotsBesideFiles c p m received w =
+    ruled (unjudged 0 w) ((not (eqb (length w) 48), 15) ∷ [])
+    (ruled (unjudged (filesEntry c p) w) (fileFaults c p) (checkSlots (readPlan c .plan) (readPlan p .plan) m received w))
+
+-- DECISIONS, Several numbers in one: number + 256 × slot, or entry; and the verdicts
+abbrev pub packedSlots : SlotsChecked → CallLeft
+packedSlots l = record { returned = packedChecked (l .checked); memory = l .verdicts }
+
+-- 01 The plan: the checker for C, slot by slot
+abbrev pub checkSlotsCall : List ℕ → List ℕ → List ℕ → ℕ → List ℕ → CallLeft
+checkSlotsCall c p m received w = packedSlots (slotsBesideFiles c p m received w)

@@ -1,16 +1,19 @@
 // The entries for C that take plans, as files: they read them, and write and check schedule messages beside them.
 ghost use mathlib.Core.Path.{_≡_};
 ghost use mathlib.Core.Bool.{cond};
+ghost use Prim.Native.Nat.{_≤_};
 ghost use lib.Dec.{eqb};
 ghost use Rattle.refusals.specs.Number.{numberOf};
 ghost use Rattle.calls.specs.Paper.{inOne};
 ghost use Rattle.plan.specs.Coded.{verdictOf};
-ghost use Rattle.plan_calls.specs.Paper.{planCall, writeScheduleCall, checkScheduleCall};
+ghost use Rattle.checker.specs.Coded.{checkedOf};
+ghost use Rattle.plan_calls.specs.Paper.{planCall, writeScheduleCall, packedChecked, checkSlotsCall, checkScheduleCall};
 use checker::Checking;
 use plan::Verdict;
 use refusals::Refusal;
 use sender::Sending;
 use sizes::MESSAGE;
+use sizes::SLOTS;
 
 // Reads a plan file: number + 256 × count, or the entry that the number names.
 #[no_mangle]
@@ -72,16 +75,31 @@ pub extern "C" fn cb_write_schedule(
     }
 }
 
-// Checks a schedule message beside two plan files: number + 256 × slot, or the entry that the number names.
+// The checker's answer as one number.
+fn packed_checking(checking: Checking) -> u32
+    requires { ⌜ checkedOf checking .slot ≤ 48 ⌝ }
+    ensures { λ r. ⌜ r ≡ packedChecked (checkedOf checking) ⌝ }
+{
+    match checking {
+        Checking::True => 0,
+        Checking::Refused(refusal, slot) => { refusals::number(refusal) as u32 + 256 * slot as u32 }
+    }
+}
+
+// Checks a schedule message beside two plan files, slot by slot: number + 256 × slot, or the entry that the number names.
 #[no_mangle]
-pub extern "C" fn cb_check_schedule(
+pub extern "C" fn cb_check_slots(
     current: &[u8],
     previous: &[u8],
     message: &[u8],
     received: usize,
+    verdicts: &mut [u8],
 ) -> u32
-    ensures { λ r. ⌜ r ≡ checkScheduleCall (now (current .entry)) (now (previous .entry)) (now (message .entry)) received ⌝ }
+    ensures { λ r. ⌜ record { returned = r; memory = now (verdicts .exit) } ≡ checkSlotsCall (now (current .entry)) (now (previous .entry)) (now (message .entry)) received (now (verdicts .entry)) ⌝ }
 {
+    if verdicts.len() != SLOTS {
+        return refusals::number(Refusal::OutputLength) as u32;
+    }
     let this = plan_read::read_plan(current);
     let last = plan_read::read_plan(previous);
     let verdict = this.verdict;
@@ -92,9 +110,21 @@ pub extern "C" fn cb_check_schedule(
     }
     let plan = this.plan;
     let older = last.plan;
-    let answer = checker::check_schedule(plan, older, message, received);
-    match answer {
-        Checking::True => 0,
-        Checking::Refused(refusal, slot) => { refusals::number(refusal) as u32 + 256 * slot as u32 }
-    }
+    let plans = checker_plans::beside(plan, older);
+    let answer = checker::check_slots(plans, message, received, verdicts);
+    packed_checking(answer)
+}
+
+// Checks a schedule message beside two plan files: number + 256 × slot, or the entry that the number names.
+#[no_mangle]
+pub extern "C" fn cb_check_schedule(
+    current: &[u8],
+    previous: &[u8],
+    message: &[u8],
+    received: usize,
+) -> u32
+    ensures { λ r. ⌜ r ≡ checkScheduleCall (now (current .entry)) (now (previous .entry)) (now (message .entry)) received ⌝ }
+{
+    let mut verdicts = [0u8; SLOTS];
+    cb_check_slots(current, previous, message, received, &mut verdicts)
 }

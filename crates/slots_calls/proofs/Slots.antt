@@ -1,6 +1,5 @@
--- Laws of the loop that tells all slots, and of what its numbers leave a C caller with.
-use Rattle.laws.proofs.Base.{_≡_, refl, sym, ap, _∙_, Bool, true, false, cond, List, [], _∷_, _++_, ℕ, _+_, _*_, _<_, add-one, arith}
-use Rattle.laws.proofs.Base.{ltb, length, getD, take, set, take-suc-set, take-all, ltb-true, eq-eqb, ne-eqb}
+-- Laws of the numbers of all slots, and of what they leave a C caller with.
+use Rattle.laws.proofs.Base.{_≡_, refl, sym, ap, _∙_, Bool, true, false, cond, List, ℕ, _+_, _*_, _<_, arith, ltb, length, getD, ltb-true, eq-eqb, ne-eqb}
 use Rattle.laws.specs.Ruled.{ruled}
 use Rattle.laws.specs.Upto.{each}
 use Rattle.laws.proofs.Outcome.{Outcome, refuses, passes, outcome}
@@ -25,25 +24,12 @@ use defs.Paper.{packedShown, packedSlot, toldAll, slotsCall}
 use defs.Inner.{packedBy, Shows}
 
 -- a slot's number at its place is that of the slot
-packed-slot : (m p : List ℕ) (e : ℕ) → Shows m p e → (i : ℕ) → packedBy m e i (getD p i 0) ≡ packedSlot m i
+pub packed-slot : (m p : List ℕ) (e : ℕ) → Shows m p e → (i : ℕ) → packedBy m e i (getD p i 0) ≡ packedSlot m i
 packed-slot m p e s i = rw (← s .ends) (go (ltb i e) refl)
   where
     go : (b : Bool) → ltb i e ≡ b → cond (ltb i e) (packedShown (record { new = new m i; told = toldBy m p i })) 0 ≡ cond (ltb i e) (packedShown (record { new = new m i; told = tells m i })) 0
     go true q = rw (s .shows i (ltb-true i e q))
     go false q = rw q
-
--- the loop over the slots: at its start, a turn, and its end
-pub slots-start : (f : ℕ → ℕ) (o : List ℕ) → take 0 o ≡ each f 0
-unfolding each
-slots-start f o = refl
-
-module _ (m p : List ℕ) (e : ℕ) (s : Shows m p e) (o : List ℕ) (i : ℕ) (done : take i o ≡ each (packedSlot m) i) where
-  pub slots-turn : (x : ℕ) → x ≡ packedBy m e i (getD p i 0) → i < length o → take (i + 1) (set o i x) ≡ each (packedSlot m) (i + 1)
-  unfolding each
-  slots-turn x q l = rw add-one (take-suc-set o i x l ∙ (λ j. done j ++ ((q ∙ packed-slot m p e s i) j ∷ [])))
-
-  pub slots-end : i ≡ 48 → length o ≡ 48 → o ≡ each (packedSlot m) 48
-  slots-end q l = sym (take-all i o (omega arith)) ∙ done ∙ ap (each (packedSlot m)) q
 
 -- what the call leaves
 module _ (m : List ℕ) (received : ℕ) where

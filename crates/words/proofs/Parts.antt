@@ -53,7 +53,7 @@ find-none ((k, w) ∷ t) n e h =
     rw (ne-eqb n k (λ q. omega (arith, leb-true k 50 (few .0)))) (find-none t n (few .1) h)
 
 -- no words are put
-behind-none : (at : ℕ) (t : List ℕ) → record { end = at; text = t } ≡ behind [] at t
+pub behind-none : (at : ℕ) (t : List ℕ) → record { end = at; text = t } ≡ behind [] at t
 unfolding behind
 behind-none at t = go (leb (at + 0) (length t))
   where

@@ -1,4 +1,4 @@
--- The words of each number that refuses.
+-- The words of each number that refuses, and of each rule that a slot can break.
 use mathlib.Core.Bool.{cond}
 use mathlib.Core.List.{List, [], _∷_}
 use Prim.Native.Nat.{ℕ}
@@ -50,3 +50,17 @@ find ((k, w) ∷ t) n = cond (eqb n k) (ascii w) (find t n)
 -- 01 Numbers given: the words of a number
 abbrev pub words : ℕ → List ℕ
 words n = find table n
+
+-- 01 Truthful: the rules of its list in words, as they are said of a slot that breaks them
+abbrev pub rules : List (ℕ × String)
+rules =
+    (1, "no first transmission of its page, nor advised")
+    ∷ (2, "no repeat of its first slot, nor advised or optional")
+    ∷ (3, "planned optional, but not told as optional")
+    ∷ (4, "planned advised, but not told as advised")
+    ∷ (5, "its new bit is wrong")
+    ∷ []
+
+-- 01 Truthful: the words of a rule
+abbrev pub ruleWords : ℕ → List ℕ
+ruleWords n = find rules n

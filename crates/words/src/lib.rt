@@ -1,8 +1,8 @@
-// The refusals of the documents' table of numbers in words, for whoever does not have the table at hand.
+// The refusals of the documents' table of numbers, and the rules that a slot can break, in words, for whoever does not have them at hand.
 ghost use mathlib.Core.Path.{_≡_};
 ghost use Rattle.refusals.specs.Number.{numberOf};
 ghost use Rattle.lines.specs.Paper.{behind};
-ghost use Rattle.words.specs.Paper.{words};
+ghost use Rattle.words.specs.Paper.{words, ruleWords};
 ghost use Rattle.words.specs.Inner.{allWords};
 use refusals::Refusal;
 
@@ -116,4 +116,30 @@ fn put_numbered(number: u8, all: &[u8], text: &mut [u8], at: usize) -> usize
     let from = starts[number as usize];
     let end = starts[number as usize + 1];
     lines::put(&all[from..end], text, at)
+}
+
+// Puts the words of a rule that a slot breaks; a number that is no rule has none.
+pub fn put_rule(rule: u8, text: &mut [u8], at: usize) -> usize
+    ensures { λ r. ⌜ record { end = r; text = now (text .exit) } ≡ behind (ruleWords rule) at (now (text .entry)) ⌝ }
+{
+    if rule == 1 {
+        return lines::put(b"no first transmission of its page, nor advised", text, at);
+    }
+    if rule == 2 {
+        return lines::put(
+            b"no repeat of its first slot, nor advised or optional",
+            text,
+            at,
+        );
+    }
+    if rule == 3 {
+        return lines::put(b"planned optional, but not told as optional", text, at);
+    }
+    if rule == 4 {
+        return lines::put(b"planned advised, but not told as advised", text, at);
+    }
+    if rule == 5 {
+        return lines::put(b"its new bit is wrong", text, at);
+    }
+    at
 }

@@ -1,16 +1,16 @@
 -- `cbcheck::list_all` meets its contract. The invariant: state, number and text are those that the log so far leaves.
 use Rattle.laws.proofs.Base.{sym, ap, _∙_, _-_, arith, length, length-take-le, needs, not-false}
 use Rattle.checker_plans.specs.Coded.{plansOf}
-use Rattle.checker.specs.Inner.{checkBeside}
 use Rattle.logs.proofs.Turns.{Going, going-start, may-list, goes-higher, turn-told, turn-going}
 use Rattle.cbcheck.specs.Paper.{lineOf}
+use Rattle.cbcheck.specs.Inner.{freshBeside}
 use Rattle.cbcheck.proofs.list_all as own
 use own.Statement.{statement}
 use own.Tie as tie
 
 abbrev Inv-loop : tie.InvT-loop
 Inv-loop plans program name fd state₀ out₀ log₀ message₀ number₀ end₀ state out log message number end =
-    Going (lineOf (checkBeside (plansOf plans))) 146432 state out log message number end
+    Going (lineOf (freshBeside (plansOf plans))) 146432 state out log message number end
 
 abbrev μ-loop : tie.MeasureT-loop
 μ-loop plans program name fd state₀ out₀ log₀ message₀ number₀ end₀ state out log message number end = 1000000000000000000 - number
@@ -63,7 +63,7 @@ list-all-spec =
     tie.close
     (tie.spec
     Inv-loop μ-loop
-    (λ c. let s = c .before .before .before .before in going-start (lineOf (checkBeside (plansOf (s .args .plans)))) 146432 (s .pre) (search needs) (search needs))
+    (λ c. let s = c .before .before .before .before in going-start (lineOf (freshBeside (plansOf (s .args .plans)))) 146432 (s .pre) (search needs) (search needs))
     (search needs) array-share-prefix-log
     (λ c. sym (length-take-le _ _ (array-share-prefix-log (c .before)))) (search needs)
     list-requires slice-reshare-prefix-write-chunk

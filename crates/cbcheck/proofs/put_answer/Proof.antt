@@ -11,9 +11,13 @@ returns c = rw (ne-eqb (c .before .before .before .args .returned % 256) 7 (c .i
 
 returns-2 : tie.Need-returns-2
 returns-2 c =
-    let checked = c .before .before .before .before in
-    let a = checked .before .before .before .before .args in
-    rw (eq-eqb (a .returned % 256) 7 (checked .before .if1 .left), ← (checked .check-beside .ensures)) (c .before .before .put-checking .ensures)
+    let checked = c .before .before .before .before .before .before in
+    let a = checked .before .before .before .before .before .args in
+    rw (eq-eqb (a .returned % 256) 7 (checked .before .before .if1 .left), ← (checked .check-slots .ensures)) (c .before .before .put-checking .ensures)
 
 pub put-answer-spec : {M : Type 1} → statement M
-put-answer-spec = tie.close (tie.spec returns (search needs) (search needs) (search needs) (search needs) returns-2)
+put-answer-spec =
+    tie.close
+    (tie.spec
+    returns (search needs) (search needs) (search needs) (search needs)
+    (search needs) (search needs) returns-2)

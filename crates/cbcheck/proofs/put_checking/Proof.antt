@@ -19,5 +19,5 @@ put-checking-spec =
     tie.close
     (tie.spec
     (search needs) (search needs) (search needs) (search needs)
-    (search needs) (search needs) (search needs) returns (search needs)
-    (λ c. rw (c .before .before .before .before .before .checking .given .1) (c .before .before .put-refused .ensures)))
+    (search needs) (search needs) (search needs) (search needs) returns (search needs)
+    (λ c. rw (c .before .before .before .before .before .before .checking .given .1, ← (c .before .before .before .before .rule-of .ensures)) (c .before .before .put-refused .ensures)))

@@ -1,4 +1,4 @@
--- `cbcheck::put_reason` meets its contract: the slot between two words, or the words of the refusal.
+-- `cbcheck::put_reason` meets its contract: the slot and the rule that it breaks, or the words of the refusal.
 use Rattle.laws.proofs.Base.{sym, _∙_, needs, not-true, not-false}
 use Rattle.lines.specs.Paper.{ascii}
 use Rattle.lines.proofs.Texts.{and-then, and-last}
@@ -16,16 +16,19 @@ returns c =
 returns-2 : tie.Need-returns-2
 unfolding reason ascii
 returns-2 c =
-    let third = c .before .before in
+    let fourth = c .before .before in
+    let third = fourth .before .before .before .before in
     let second = third .before .before .before .before .before in
     let first = second .before .before .before .before in
     let i = first .before .before .before in
     rw (sym (i .before .names-untrue .ensures) ∙ not-false _ (i .if1 .left))
-    (and-then _ _ _ _ (first .put .ensures) (and-then _ _ _ _ (second .put-number .ensures) (and-last _ _ _ (third .put2 .ensures))))
+    (and-then _ _ _ _ (first .put .ensures)
+    (and-then _ _ _ _ (second .put-number .ensures)
+    (and-then _ _ _ _ (third .put2 .ensures) (and-last _ _ _ (fourth .put-rule .ensures)))))
 
 pub put-reason-spec : {M : Type 1} → statement M
 put-reason-spec =
     tie.close
     (tie.spec
     (search needs) (search needs) (search needs) returns (search needs) (search needs)
-    (search needs) (search needs) (search needs) (search needs) returns-2)
+    (search needs) (search needs) (search needs) (search needs) (search needs) returns-2)

@@ -16,7 +16,7 @@ returns c =
     let a = named .before .before .before .before .args in
     rw (ne-eqb _ 0 (numberOf-positive (a .refusal)))
     (and-others (numbers _ _ _) _ _ _ (rw (named .before .before .number .ensures) at (named .put-numbers .ensures))
-    (and-others (reason _ _) _ _ _ (why .put-reason .ensures) (and-last _ _ _ (end .put-octet .ensures))))
+    (and-others (reason _ _ _) _ _ _ (why .put-reason .ensures) (and-last _ _ _ (end .put-octet .ensures))))
 
 pub put-refused-spec : {M : Type 1} → statement M
 put-refused-spec =

@@ -1,9 +1,10 @@
 -- `slots_calls::tell` meets its contract: the slots before the loop's are told.
-use Rattle.laws.proofs.Base.{_≡_, _≤_, _-_, arith, length, take, length-set, needs}
+use Rattle.laws.proofs.Base.{_≡_, _∙_, _≤_, _-_, arith, length, take, length-set, needs}
 use Rattle.laws.specs.Upto.{each}
+use Rattle.laws.proofs.Upto.{each-start, each-turn, each-end}
 use Rattle.slots_calls.specs.Paper.{packedSlot}
 use Rattle.slots_calls.proofs as own
-use own.Slots.{slots-start, slots-turn, slots-end}
+use own.Slots.{packed-slot}
 use own.tell.Statement.{statement}
 use own.tell.Tie as tie
 
@@ -16,7 +17,7 @@ abbrev μ-loop : tie.MeasureT-loop
 loop-holds : tie.Need-loop-holds Inv-loop μ-loop
 loop-holds c =
     let a = c .before .before .args in
-    (search needs, c .before .before .pre .0, slots-start (packedSlot (a .message .now)) (a .slots .now))
+    (search needs, c .before .before .pre .0, each-start (packedSlot (a .message .now)) (a .slots .now))
 
 loop-again : tie.Need-loop-again Inv-loop μ-loop
 loop-again c =
@@ -24,14 +25,14 @@ loop-again c =
     let b = c .before .before .before .before .before in (
       search needs,
       simp length-set (omega arith),
-      slots-turn (b .args .message .now) (b .args .t2) (b .args .end) (b .pre .1) (l .slots) (l .i) (l .inv .2) _ (c .packed-at .ensures) (omega arith),
+      each-turn (packedSlot (b .args .message .now)) (l .slots) (l .i) (l .inv .2) _ (c .packed-at .ensures ∙ packed-slot (b .args .message .now) (b .args .t2) (b .args .end) (b .pre .1) (l .i)) (omega arith),
     )
 
 returns : tie.Need-returns Inv-loop μ-loop
 returns c =
     let l = c .before .loop in
     let b = c .before .before .before .before in
-    slots-end (b .args .message .now) (b .args .t2) (b .args .end) (b .pre .1) (l .slots) (l .i) (l .inv .2) (omega arith) (l .inv .1)
+    each-end (packedSlot (b .args .message .now)) (l .slots) (l .i) (l .inv .2) 48 (omega arith) (l .inv .1)
 
 pub tell-spec : {M : Type 1} → statement M
 tell-spec =
