@@ -1,4 +1,4 @@
-/* Schedules beside plans in C without proofs: what cb_write_schedule, cb_check_schedule, cb_decide and cb_enter are measured
+/* Schedules beside plans in C without proofs: what cb_write_schedule, cb_check_schedule, cb_check_slots, cb_decide and cb_enter are measured
  * beside. */
 #include "plain_plan.h"
 
@@ -162,6 +162,62 @@ uint32_t plain_check_schedule(const uint8_t *current, size_t current_len, const 
             return 40 + 256 * (slot + 1);
     }
     return 0;
+}
+
+/* Which rule a slot breaks first, 0 for none, by the same. */
+static uint8_t failing_rule(const uint8_t *page, unsigned slot, unsigned lowest, bool before, bool new, unsigned code)
+{
+    bool leads = page[0] == PAGE && lowest == slot;
+    bool repeats = page[0] == PAGE && lowest != slot;
+    bool told, right;
+
+    if (code >= FIRST) {
+        told = leads && code == (FIRST | low15(page));
+        right = new != before;
+    } else if (code < REPEATS) {
+        told = repeats && code == lowest + 1;
+        right = new != before;
+    } else if (code == ADVISED) {
+        told = page[0] != 0;
+        right = new;
+    } else {
+        told = page[0] == 0 || repeats;
+        right = !new;
+    }
+    if (!told)
+        return leads ? 1 : repeats ? 2 : page[0] == 0 ? 3 : 4;
+    return right ? 0 : 5;
+}
+
+uint32_t plain_check_slots(const uint8_t *current, size_t current_len, const uint8_t *previous, size_t previous_len,
+                           const uint8_t *message, size_t message_len, size_t received, uint8_t *verdicts, size_t verdicts_len)
+{
+    uint64_t words[SLOTS], words_before[SLOTS + 1];
+    struct plain_table table;
+    unsigned count, before, untrue = 0;
+
+    if (verdicts_len != SLOTS)
+        return 15;
+    uint32_t number = read_plans(current, current_len, previous, previous_len, &count, &before);
+    if (number != 0)
+        return number;
+    number = plain_read_slots(message, message_len, received, &table);
+    if (number != 0)
+        return number;
+    if (table.end != count)
+        return 40;
+    words_of(current, count, words);
+    words_of(previous, before, words_before);
+    memset(verdicts, 0, SLOTS);
+    for (unsigned slot = 0; slot < count; slot++) {
+        const uint8_t *page = entry(current, slot);
+        unsigned lowest = lowest_slot(words, words[slot]);
+        bool had = page[0] == PAGE && has_page(words_before, before, words[slot]);
+        verdicts[slot] = failing_rule(page, slot, lowest, had, table.new[slot], table.code[slot]);
+        if (verdicts[slot] != 0 && untrue == 0)
+            untrue = slot + 1;
+    }
+    return untrue == 0 ? 0 : 40 + 256 * untrue;
 }
 
 uint32_t plain_decide(bool known, const uint8_t *message, size_t message_len, size_t received, size_t slot,

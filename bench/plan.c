@@ -1,6 +1,6 @@
 /*
- * cb_write_schedule, cb_check_schedule, cb_decide and cb_enter beside plain C: a program of measure.h. Lengths are slots of
- * a plan.
+ * cb_write_schedule, cb_check_schedule, cb_check_slots, cb_decide and cb_enter beside plain C: a program of measure.h.
+ * Lengths are slots of a plan.
  *
  * What is timed are the plans of plans.h, the messages that are written from these, and decisions for a slot with a repeat
  * that isn't held, of a page that is the last of 64 wanted ones, and the entering of that page.
@@ -15,7 +15,7 @@
 
 enum { CALLS = 200000, INPUTS = 512, WANTED = 64 };
 enum { PLAN_ROOM = CB_PLAN + 18, ROOM = 112, WANTED_ROOM = WANTED + 4 };
-enum call { WRITE_SCHEDULE, CHECK_SCHEDULE, DECIDE, ENTER };
+enum call { WRITE_SCHEDULE, CHECK_SCHEDULE, CHECK_SLOTS, DECIDE, ENTER };
 
 static unsigned slots;
 static uint8_t currents[INPUTS][CB_PLAN], previous[INPUTS][CB_PLAN], messages[INPUTS][CB_OUTPUT];
@@ -122,6 +122,14 @@ static void check_call(uint64_t *row, int at, unsigned long *seen)
     if (a != plain_check_schedule(current, length, before, length_before, message, message_length, received))
         differ("plan", "checking", at);
     seen[CB_NUMBER(a)]++;
+    size_t places = one_in(row, 32) ? draw(row) % ROOM : CB_SLOTS;
+    for (size_t i = 0; i < ROOM; i++)
+        rattle[i] = plain[i] = (uint8_t)draw(row);
+    a = cb_check_slots(current, length, before, length_before, message, message_length, received, rattle, places);
+    b = plain_check_slots(current, length, before, length_before, message, message_length, received, plain, places);
+    if (a != b || memcmp(rattle, plain, sizeof plain) != 0)
+        differ("plan", "checking slots", at);
+    seen[CB_NUMBER(a)]++;
     check_decision(row, at, message, message_length, received, current, seen);
 }
 
@@ -131,7 +139,7 @@ static long check(unsigned long *seen)
 
     for (int i = 0; i < CALLS; i++)
         check_call(&row, i, seen);
-    return 4 * CALLS;
+    return 5 * CALLS;
 }
 
 static void prepare(size_t length, bool by_rattle)
@@ -161,7 +169,7 @@ static void run_enter(bool rattle, int i)
 
 static uint32_t run_call(enum call call, bool rattle, int i)
 {
-    static uint8_t out[CB_OUTPUT];
+    static uint8_t out[CB_OUTPUT], verdicts[CB_SLOTS];
     size_t length = file_length(slots), before = file_length(slots / 2);
 
     if (call == WRITE_SCHEDULE)
@@ -170,6 +178,9 @@ static uint32_t run_call(enum call call, bool rattle, int i)
     if (call == CHECK_SCHEDULE)
         return (rattle ? cb_check_schedule : plain_check_schedule)(currents[i], length, previous[i], before,
                                                                    messages[i], CB_OUTPUT, CB_OUTPUT);
+    if (call == CHECK_SLOTS)
+        return (rattle ? cb_check_slots : plain_check_slots)(currents[i], length, previous[i], before, messages[i], CB_OUTPUT,
+                                                             CB_OUTPUT, verdicts, sizeof verdicts);
     return (rattle ? cb_decide : plain_decide)(true, messages[i], CB_OUTPUT, CB_OUTPUT, slots, wanted[i], WANTED, 0);
 }
 
@@ -189,7 +200,8 @@ static void pass(int call, bool rattle)
 int main(int argc, char **argv)
 {
     static const char *const calls[] = {
-        [WRITE_SCHEDULE] = "write_schedule", [CHECK_SCHEDULE] = "check_schedule", [DECIDE] = "decide", [ENTER] = "enter", NULL,
+        [WRITE_SCHEDULE] = "write_schedule", [CHECK_SCHEDULE] = "check_schedule", [CHECK_SLOTS] = "check_slots",
+        [DECIDE] = "decide", [ENTER] = "enter", NULL,
     };
     static const uint8_t answers[] = {0, 15, 16, 18, 20, 21, 22, 23, 24, 30, 31, 32, 34, 35, 36, 37, 40, 41, 42};
     static const struct subject subject = {

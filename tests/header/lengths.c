@@ -95,10 +95,11 @@ static void hold_schedules(void)
     static const uint8_t message[CB_OUTPUT] = {1, 2, 0, 0, 0, 0, 0, 0, 0x80, 1, 1}, plan[12] = {'C', 'B', 'P', 0, 1, 1, 1};
     static const uint16_t wanted[1] = {1};
     static uint32_t slots[CB_SLOTS];
-    static uint8_t out[CB_OUTPUT];
+    static uint8_t out[CB_OUTPUT], verdicts[CB_SLOTS];
 
     fill((uint8_t *)slots, sizeof slots);
     fill(out, sizeof out);
+    fill(verdicts, sizeof verdicts);
     HOLD(cb_read_schedule(message, CB_OUTPUT + HIGH, 22), CB_MESSAGE_LENGTH);
     HOLD(cb_slots(message, CB_OUTPUT + HIGH, 22, slots, CB_SLOTS), CB_MESSAGE_LENGTH);
     HOLD(cb_slots(message, CB_OUTPUT, 22, slots, CB_SLOTS + HIGH), CB_OUTPUT_LENGTH);
@@ -110,11 +111,16 @@ static void hold_schedules(void)
     HOLD(cb_check_schedule(plan, sizeof plan + HIGH, plan, sizeof plan, message, CB_OUTPUT, 22), CB_PLAN_LENGTH);
     HOLD(cb_check_schedule(plan, sizeof plan, plan, sizeof plan + HIGH, message, CB_OUTPUT, 22), CB_PLAN_LENGTH);
     HOLD(cb_check_schedule(plan, sizeof plan, plan, sizeof plan, message, CB_OUTPUT + HIGH, 22), CB_MESSAGE_LENGTH);
+    HOLD(cb_check_slots(plan, sizeof plan + HIGH, plan, sizeof plan, message, CB_OUTPUT, 22, verdicts, CB_SLOTS), CB_PLAN_LENGTH);
+    HOLD(cb_check_slots(plan, sizeof plan, plan, sizeof plan + HIGH, message, CB_OUTPUT, 22, verdicts, CB_SLOTS), CB_PLAN_LENGTH);
+    HOLD(cb_check_slots(plan, sizeof plan, plan, sizeof plan, message, CB_OUTPUT + HIGH, 22, verdicts, CB_SLOTS), CB_MESSAGE_LENGTH);
+    HOLD(cb_check_slots(plan, sizeof plan, plan, sizeof plan, message, CB_OUTPUT, 22, verdicts, CB_SLOTS + HIGH), CB_OUTPUT_LENGTH);
     HOLD(CB_COUNT(cb_decide(true, message, CB_OUTPUT + HIGH, 22, 2, wanted, 0, 0)), CB_READ);
     HOLD(cb_decide(true, message, CB_OUTPUT, 22, 2, wanted, HIGH, 0), CB_WANTED_COUNT);
     HOLD(cb_enter(true, message, CB_OUTPUT + HIGH, 22, 2, 0), 1u << 1);
     HOLD_FILLED(slots);
     HOLD_FILLED(out);
+    HOLD_FILLED(verdicts);
 }
 
 bool lengths_wrong(void)

@@ -64,6 +64,11 @@ static const struct {
     NUMBER(CB_PLAN_KIND, 36),
     NUMBER(CB_PLAN_STRAY, 37),
     NUMBER(CB_UNTRUE, 40),
+    NUMBER(CB_RULE_LOWEST, 1),
+    NUMBER(CB_RULE_LATER, 2),
+    NUMBER(CB_RULE_OPTIONAL, 3),
+    NUMBER(CB_RULE_ADVISED, 4),
+    NUMBER(CB_RULE_NEW, 5),
     NUMBER(CB_SLOT_NUMBER, 41),
     NUMBER(CB_WANTED_COUNT, 42),
     NUMBER(CB_PAGE_OVER_TOTAL, 50),
@@ -716,6 +721,19 @@ static void check_schedule(void)
     hold_number(CB_COUNT(returned));
 }
 
+static void check_slots(void)
+{
+    struct octets current = take_octets(), previous = take_octets(), message = take_octets();
+    cb_length received = take_number();
+    struct octets verdicts = lent(take_number());
+    uint64_t returned = CALL(cb_check_slots, current.at, current.len, previous.at, previous.len,
+                                              message.at, message.len, received, verdicts.at, verdicts.len);
+
+    hold_number(CB_NUMBER(returned));
+    hold_number(CB_COUNT(returned));
+    HOLD_LEFT(verdicts);
+}
+
 static void decide(void)
 {
     bool known = take_number() != 0;
@@ -746,7 +764,7 @@ static const struct {
 } kinds[] = {
     {'N', start}, {'I', intake}, {'Q', sequence}, {'V', texts}, {'B', write_blocks}, {'T', write_text},
     {'R', read_text}, {'C', content}, {'H', read_header}, {'S', read_schedule}, {'G', description}, {'L', all_slots},
-    {'P', read_plan}, {'W', write_schedule}, {'K', check_schedule}, {'D', decide}, {'E', enter},
+    {'P', read_plan}, {'W', write_schedule}, {'K', check_schedule}, {'U', check_slots}, {'D', decide}, {'E', enter},
     {'J', start_collector}, {'M', collect}, {'O', pages_in_a_row},
 };
 

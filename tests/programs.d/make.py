@@ -188,9 +188,9 @@ def schedules():
     kinds = [
         true,
         # slot 40 is told as a repeat of slot 2
-        (blocks(*message(1, good[:39] + [(1, b"\x02")] + good[40:])), 40, 40, "slot 40 is not told as planned"),
+        (blocks(*message(1, good[:39] + [(1, b"\x02")] + good[40:])), 40, 40, "slot 40: no repeat of its first slot, nor advised or optional"),
         # the new bit of slot 33 is 0: its description, a repeat of slot 1, stands last
-        (blocks(*message(1, good[:32] + [(0, good[32][1])] + good[33:])), 40, 33, "slot 33 is not told as planned"),
+        (blocks(*message(1, good[:32] + [(0, good[32][1])] + good[33:])), 40, 33, "slot 33: its new bit is wrong"),
         # a message of 47 slots
         (blocks(*message(7, good[:47])), 40, 0, "End is not the plan's number of slots"),
         # type 01

@@ -6,7 +6,7 @@ use std::{env, fs};
 
 const ALL: &str = "libcsobvarit.a"; // the archive with all entries; where it is there, it alone is linked
 
-const ENTRIES: [&str; 17] = [
+const ENTRIES: [&str; 18] = [
     "cb_start",
     "cb_intake",
     "cb_write_blocks",
@@ -24,6 +24,7 @@ const ENTRIES: [&str; 17] = [
     "cb_read_header",
     "cb_start_collector",
     "cb_collect",
+    "cb_check_slots",
 ];
 
 fn main() {

@@ -87,6 +87,7 @@ int main(void)
     static const uint8_t piece[CB_PIECE] = {0x30};
     static uint16_t text[CB_TEXT], wanted[CB_MOST_WANTED];
     static uint32_t slots[CB_SLOTS];
+    static uint8_t verdicts[CB_SLOTS];
 
     for (size_t i = 0; i < CB_TEXT; i++)
         text[i] = 0x394; /* DELTA, of the highest code points */
@@ -109,6 +110,7 @@ int main(void)
     SHOW(cb_description, 2, LENT(message), 88, 47);
     SHOW(cb_read_plan, 1, LENT(current));
     SHOW(cb_check_schedule, 6, LENT(current), LENT(previous), LENT(message), 88);
+    SHOW(cb_check_slots, 6, LENT(current), LENT(previous), LENT(message), 88, LENT(verdicts));
     SHOW(cb_decide, 4, 1, LENT(message), 88, CB_SLOTS, LENT(wanted), 0);
     SHOW(cb_enter, 0, 1, LENT(message), 88, CB_SLOTS, 0);
     return 0;

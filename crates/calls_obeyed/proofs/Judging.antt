@@ -1,14 +1,14 @@
 -- What the call that checks slot by slot returns and leaves follows from what the checker answers.
-use Rattle.laws.proofs.Base.{_≡_, refl, sym, ap, _∙_, List, _⊎_, inl, inr, ⊎-elim, ℕ, suc, _%_, _/_, _≤_, _<_, arith, ltb, getD, length}
-use Rattle.laws.proofs.Base.{ltb-true, lt-ltb, eq-eqb, ne-eqb}
+use Rattle.laws.proofs.Base.{_≡_, refl, sym, ap, _∙_, List, _⊎_, inl, inr, ⊎-elim, ℕ, _%_, _/_, _<_, arith, ltb, length}
+use Rattle.laws.proofs.Base.{ltb-true, lt-ltb, eq-eqb}
 use Rattle.laws.specs.Ruled.{ruled}
 use Rattle.laws.proofs.Ruled.{NoneHolds, Other, Ruling, refuses, passes, ruling, ruled-passes, ruled-none, unrefused, unless0-numbered}
-use Rattle.schedule.specs.Paper.{end, shown}
+use Rattle.schedule.specs.Paper.{end}
 use Rattle.plan.specs.Paper.{lowestFault}
 use Rattle.plan.proofs.Answers.{fault-low}
 use Rattle.plan_read.specs.Paper.{PlanRead, listed, refusal, goodFile, readPlan, faults}
 use Rattle.checker.specs.Paper.{Checked, refusedAt, SlotsChecked, unjudged, check, checkSlots}
-use Rattle.checker_truth.specs.Claims.{Names, end-differs, slot-untrue, BySlot, SlotsJudged, Judged}
+use Rattle.checker_truth.specs.Claims.{Names, end-differs, slot-untrue, BySlot, SlotsJudged}
 use Rattle.checker_truth.proofs.Accepted.{accepted-exactly}
 use Rattle.checker_truth.proofs.Judged.{slots-judged}
 use Rattle.plan_calls.specs.Paper.{fileFaults, filesEntry, checkedBeside, slotsBesideFiles, checkScheduleCall, checkSlotsCall}

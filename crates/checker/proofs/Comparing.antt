@@ -1,5 +1,5 @@
 -- What is answered of a message and left of its slots, told from the places of its descriptions.
-use Rattle.laws.proofs.Base.{_≡_, refl, true, false, cond, eqb, ltb, eq-eqb, ne-eqb, sym, ap, _∙_, not, List, map, ℕ, suc, _≤_, _<_, arith, getD, List·getD-map}
+use Rattle.laws.proofs.Base.{_≡_, true, eqb, ltb, eq-eqb, ne-eqb, sym, ap, _∙_, not, List, map, ℕ, suc, _≤_, _<_, arith, getD, List·getD-map}
 use Rattle.laws.proofs.Base.{ltb-true, le-ltb, lt-ltb}
 use Rattle.laws.specs.Upto.{lowest, each}
 use Rattle.laws.proofs.Lowest.{lowest-within}

@@ -1,12 +1,11 @@
 -- What may be told of a slot by what the plans say of it.
-use Rattle.laws.proofs.Base.{_≡_, refl, ap, _∙_, true, false, cond, not, List, ℕ, suc, _≤_, _<_, arith, eqb, ltb, length, eqb-true, eq-eqb, lt-ltb, ltb-true, sym, getD}
-use Rattle.laws.specs.Ruled.{ruled}
+use Rattle.laws.proofs.Base.{_≡_, ap, _∙_, true, false, not, List, ℕ, suc, _≤_, _<_, arith, eqb, ltb, length, eqb-true, eq-eqb, lt-ltb, ltb-true, sym, getD}
 use Rattle.laws.specs.Upto.{lowest, each}
 use Rattle.laws.proofs.Lowest.{lowest-agree}
 use Rattle.laws.proofs.Ruled.{ruled-map}
 use Rattle.laws.proofs.Tests.{true-or-false}
 use Rattle.laws.proofs.Upto.{each-at, each-agree}
-use Rattle.schedule.specs.Paper.{Told, first, again, optional, advised, Shown, shown, end}
+use Rattle.schedule.specs.Paper.{Told, first, again, optional, advised, Shown, shown}
 use Rattle.plan.specs.Paper.{Plan, planNumber, plansEntry, entryAt}
 use Rattle.plan_slots.specs.Inner.{nonePlanned, saidAt, allPlanned}
 use Rattle.plan_slots.specs.Paper.{Planned, plannedAt}
@@ -16,8 +15,8 @@ use Rattle.checker_slots.specs.Paper.{failingRule}
 use Rattle.checker_slots.proofs.Rules.{rule-true}
 use Rattle.checker_plans.specs.Inner.{beside}
 use Rattle.checker.specs as defs
-use defs.Paper.{SlotsChecked, isTrue, untrue, ruleAt, verdict, faults, unjudged, judged, check, checkSlots}
-use defs.Inner.{untrueTo, ruleTo, verdictTo, judgedTo, compared, slotsBeside}
+use defs.Paper.{SlotsChecked, isTrue, untrue, ruleAt, faults, unjudged, judged, check, checkSlots}
+use defs.Inner.{untrueTo, ruleTo, judgedTo, compared, slotsBeside}
 
 module _ (c p : Plan) (i : ℕ) where
   -- of a slot planned with no page, no description and no new bit is judged by a page

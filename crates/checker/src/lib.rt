@@ -9,7 +9,7 @@ ghost use Rattle.plan_slots.specs.Coded.{plannedOf};
 ghost use Rattle.checker_plans.specs.Coded.{plansOf};
 ghost use Rattle.checker.specs.Paper.{check};
 ghost use Rattle.checker.specs.Inner.{breaks, compared, slotsBeside};
-ghost use Rattle.checker.specs.Coded.{ruleBy, checkedOf};
+ghost use Rattle.checker.specs.Coded.{ruleFrom, ruleBy, checkedOf};
 use checker_plans::Plans;
 use plan::Plan;
 use plan::Verdict;
@@ -25,16 +25,16 @@ pub enum Checking {
     Refused(Refusal, usize),
 }
 
-// Which rule fails first at slot i, counted from 0, at its place, by what the plans say of all; 0 for none, and past the count.
-fn judge(all: [Planned; SLOTS], message: &[u8], places: [u8; SLOTS], count: usize, i: usize) -> u8
+// Which rule fails first at slot i, counted from 0, by the place of its description and what the plans say of it; 0 for none, and
+// past the count.
+fn judge(said: Planned, message: &[u8], at: usize, count: usize, i: usize) -> u8
     requires { ⌜ i < 48 ⌝ }
-    ensures { λ r. ⌜ r ≡ ruleBy all (now (message .entry)) places count i ⌝ }
+    ensures { λ r. ⌜ r ≡ ruleFrom said (now (message .entry)) at count i ⌝ }
 {
     if i >= count {
         return 0;
     }
-    let slot = schedule::shown(message, i, places[i] as usize);
-    let said = all[i];
+    let slot = schedule::shown(message, i, at);
     checker_slots::failing_rule(said, i + 1, slot)
 }
 
@@ -51,7 +51,8 @@ fn judge_each(
 {
     let mut i = 0;
     while i < SLOTS {
-        verdicts[i] = judge(all, message, places, count, i);
+        let said = all[i];
+        verdicts[i] = judge(said, message, places[i] as usize, count, i);
         i += 1;
     }
 }

@@ -1,5 +1,5 @@
 -- Laws of the rules that fail.
-use Rattle.laws.proofs.Base.{_≡_, refl, Bool, true, false, cond, _&&_, Bool·beq, ℕ, suc, eqb}
+use Rattle.laws.proofs.Base.{_≡_, refl, Bool, true, false, cond, _&&_, Bool·beq, ℕ, eqb}
 use Rattle.schedule.specs.Paper.{Shown}
 use Rattle.plan_slots.specs.Paper.{Planned}
 use Rattle.checker_slots.specs.Paper.{leads, repeats, mayTell, newFor, trueBy, failingRule}

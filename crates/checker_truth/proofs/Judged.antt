@@ -1,11 +1,11 @@
 -- What is left of each slot by a check slot by slot.
-use Rattle.laws.proofs.Base.{_≡_, refl, sym, ap, _∙_, Bool, true, false, cond, not, _&&_, Bool·beq, false≢true, List, _⊎_, inl, inr, ⊎-elim, ℕ, suc, _<_, arith}
+use Rattle.laws.proofs.Base.{_≡_, refl, sym, ap, _∙_, Bool, true, false, cond, Bool·beq, false≢true, List, _⊎_, inl, inr, ⊎-elim, ℕ, suc, _<_, arith}
 use Rattle.laws.proofs.Base.{_≤_, subst, eqb, eqb-true, eqb-false, eq-eqb, ne-eqb, lt-ltb, le-ltb, length, getD}
 use Rattle.laws.specs.Ruled.{ruled}
 use Rattle.laws.specs.Upto.{lowest, each}
 use Rattle.laws.proofs.Ruled.{Other, Ruling, refuses, passes, ruling, unrefused}
 use Rattle.laws.proofs.Upto.{each-at, each-length}
-use Rattle.laws.proofs.Tests.{true-or-false, beq-true, beq-refl, both}
+use Rattle.laws.proofs.Tests.{true-or-false, beq-true, beq-refl}
 use Rattle.schedule.specs.Paper.{Told, first, again, optional, advised, Shown, shown, end}
 use Rattle.plan.specs.Paper.{Plan, planNumber, plansEntry, entryAt}
 use Rattle.plan.proofs.GoodPlan.{kind-few, good-counted}
@@ -14,7 +14,7 @@ use Rattle.plan_slots.proofs.Lowest.{leading}
 use Rattle.checker_slots.specs.Paper.{leads, repeats, mayTell, newFor, ruleFor, failingRule}
 use Rattle.checker.specs.Paper.{Checked, SlotsChecked, untrue, verdict, unjudged, judged, faults, ruleAt, check, checkSlots}
 use Rattle.checker.proofs.Telling.{slots-checked}
-use Rattle.checker_truth.specs.Claims.{BySlot, SlotsJudged, JudgesSlots, LowestSlot, LaterSlot, PlannedOptional, PlannedAdvised, NewBit, TrueAt, Judged, all-hold, lowest-fails, later-fails, optional-fails, advised-fails, new-fails}
+use Rattle.checker_truth.specs.Claims.{BySlot, SlotsJudged, JudgesSlots, LowestSlot, LaterSlot, NewBit, Judged, all-hold, lowest-fails, later-fails, optional-fails, advised-fails, new-fails}
 use Rattle.checker_truth.proofs.TrueAt.{leads-is, repeats-is, may-tells, tells-may, lowest-tells, later-tells, optional-tells, advised-tells, right-new}
 use Rattle.checker_truth.proofs.Accepted.{others-0, others-40, answered-0, answered-40}
 

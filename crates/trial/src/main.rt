@@ -173,8 +173,20 @@ fn told_by(letter: u8, line: &[u8]) -> usize {
         b'G' => slots::description(line),
         b'D' => slots::decision(line),
         b'E' => slots::entry(line),
-        b'N' | b'V' | b'B' | b'T' | b'R' | b'H' | b'J' | b'M' | b'O' | b'L' | b'P' | b'W' | b'K' =>
-            NO_VALUE,
+        b'N'
+        | b'V'
+        | b'B'
+        | b'T'
+        | b'R'
+        | b'H'
+        | b'J'
+        | b'M'
+        | b'O'
+        | b'L'
+        | b'P'
+        | b'W'
+        | b'K'
+        | b'U' => NO_VALUE,
         _ => UNREAD,
     }
 }

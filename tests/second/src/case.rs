@@ -20,9 +20,10 @@ pub enum Entry {
     ReadHeader,
     StartCollector,
     Collect,
+    CheckSlots,
 }
 
-pub const ENTRIES: [Entry; 17] = [
+pub const ENTRIES: [Entry; 18] = [
     Entry::Start,
     Entry::Intake,
     Entry::WriteBlocks,
@@ -40,6 +41,7 @@ pub const ENTRIES: [Entry; 17] = [
     Entry::ReadHeader,
     Entry::StartCollector,
     Entry::Collect,
+    Entry::CheckSlots,
 ];
 
 impl Entry {
@@ -62,6 +64,7 @@ impl Entry {
             Entry::ReadHeader => "cb_read_header",
             Entry::StartCollector => "cb_start_collector",
             Entry::Collect => "cb_collect",
+            Entry::CheckSlots => "cb_check_slots",
         }
     }
 
@@ -88,6 +91,7 @@ impl Entry {
                 let numbers = &["call", "collector length", "output length", "received"];
                 (numbers, &["collector", "output", "page"], "")
             }
+            Entry::CheckSlots => (&["received", "verdicts length"], &["current", "previous", "message"], ""),
         }
     }
 

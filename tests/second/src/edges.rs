@@ -6,19 +6,20 @@ use crate::blocks::{BLOCK, FILL, MESSAGE};
 use crate::case::{Case, Entry};
 use crate::extension;
 use crate::intake::STATE;
-use crate::invent::CARRIED;
+use crate::invent::{with_verdicts, CARRIED};
 use crate::late_faults;
 use crate::plan::{self, Page, Plan};
 use crate::schedule::{Description, Told, SLOTS};
 use crate::sender::lay;
 use crate::several_pages;
 use crate::side::LENT;
+use crate::slot_verdicts;
 use crate::text::{pack, CHARACTERS, HEADER};
 use crate::zero_parameter;
 
 /// The edge cases of an entry.
 pub fn cases(entry: Entry) -> Vec<Case> {
-    [stored_first(entry), extension::cases(entry), blank_cells::cases(entry)].concat()
+    [stored_first(entry), extension::cases(entry), blank_cells::cases(entry), not_stored(entry)].concat()
 }
 
 /// The edge cases of an entry but for those of document 02's Nos. 5 and 6, which are stored in other files and last.
@@ -41,7 +42,17 @@ pub fn stored_first(entry: Entry) -> Vec<Case> {
         Entry::ReadHeader => [headers(), zero_parameter::headers()].concat(),
         Entry::StartCollector => several_pages::starts(),
         Entry::Collect => several_pages::collected(),
+        Entry::CheckSlots => slot_verdicts::judged(),
     }
+}
+
+/// Edge cases that aren't stored, to keep the files small: all of the checker's are edges slot by slot too.
+fn not_stored(entry: Entry) -> Vec<Case> {
+    if entry != Entry::CheckSlots {
+        return vec![];
+    }
+    let checked = stored_first(Entry::CheckSchedule).into_iter().map(with_verdicts);
+    checked.chain(slot_verdicts::judged_besides()).collect()
 }
 
 /// Octets that are all different from their neighbours.

@@ -83,6 +83,18 @@ fn plan_faults(list: usize) -> Vec<(u8, Fault)> {
     ]
 }
 
+/// The checker's faults, of the plans in the first two lists and the message in the third. // 01 Order
+fn checker_faults() -> Vec<(u8, Fault)> {
+    [
+        plan_faults(0),
+        plan_faults(1),
+        vec![(35, Fault::NoSlots)],
+        reader_faults(2, 0),
+        vec![(40, Fault::EndDiffers), (40, Fault::SlotUntrue)],
+    ]
+    .concat()
+}
+
 /// The faults of an entry, each with its number, in the order in which they are refused. Entering refuses nothing:
 /// its numbers are those by which the schedule is refused, and 0 is a slot under which nothing is entered. // 01 Order
 pub fn faults(entry: Entry) -> Vec<(u8, Fault)> {
@@ -125,14 +137,7 @@ pub fn faults(entry: Entry) -> Vec<(u8, Fault)> {
             vec![(35, Fault::NoSlots), (21, Fault::Begin), (34, Fault::TooLong)],
         ]
         .concat(),
-        Entry::CheckSchedule => [
-            plan_faults(0),
-            plan_faults(1),
-            vec![(35, Fault::NoSlots)],
-            reader_faults(2, 0),
-            vec![(40, Fault::EndDiffers), (40, Fault::SlotUntrue)],
-        ]
-        .concat(),
+        Entry::CheckSchedule => checker_faults(),
         Entry::Decide => vec![(41, Fault::Slot), (42, Fault::WantedTooMany)],
         Entry::Enter => [vec![(0, Fault::Slot)], reader_faults(0, 1), vec![(24, Fault::RepeatOfNoFirst(0))]].concat(),
         Entry::Slots => {
@@ -148,6 +153,7 @@ pub fn faults(entry: Entry) -> Vec<(u8, Fault)> {
             (18, Fault::Received(3)),
             (50, Fault::PageOverTotal),
         ],
+        Entry::CheckSlots => [vec![(15, Fault::Length(1, SLOTS))], checker_faults()].concat(),
     }
 }
 
@@ -624,6 +630,31 @@ fn lie(random: &mut Random, told: &mut [Told]) {
         match random.below(4) {
             0 | 1 => told[at].new = !told[at].new,
             _ => told[at].description = some_description(random, &told[..at]),
+        }
+    }
+}
+
+/// Untruth at a slot, often: another new bit, another description or both. A first transmission is often another only in
+/// one of its bits.
+fn lie_at(random: &mut Random, told: &mut [Told], at: usize) {
+    let kind = random.below(6);
+    if kind < 3 {
+        told[at].new = !told[at].new;
+    }
+    if kind > 1 {
+        told[at].description = match told[at].description {
+            Description::First(low) if random.once_in(2) => Description::First(low ^ 1 << random.below(15)),
+            _ => some_description(random, &told[..at]),
+        };
+    }
+}
+
+/// Another description for each repeat that no longer names a first transmission, so that a reader takes all of them.
+fn mend(random: &mut Random, told: &mut [Told]) {
+    for at in 0..told.len() {
+        let Description::Repeat(named) = told[at].description else { continue };
+        if told[named as usize - 1].description.width() == 1 {
+            told[at].description = some_description(random, &told[..at]);
         }
     }
 }
@@ -1152,6 +1183,7 @@ pub fn sound_by(entry: Entry, random: &mut Random, most: usize, reading: Reading
             Case::new(entry, &[], &[if random.once_in(2) { &collector } else { &any }], &[])
         }
         Entry::Collect => single_collecting(random),
+        Entry::CheckSlots => with_verdicts(checked(random, most, false, reading)),
     }
 }
 
@@ -1164,9 +1196,15 @@ fn sound_description(random: &mut Random, most: usize) -> Case {
 }
 
 fn sound_writing(random: &mut Random, most: usize) -> Case {
+    let plans = some_plans(random, most);
+    writing(random, &plans)
+}
+
+/// A plan of a slot at least, and one before it that shares pages with it.
+fn some_plans(random: &mut Random, most: usize) -> Plans {
     let current = some_plan(random, 1, most);
     let previous = some_previous(random, &current, most);
-    writing(random, &[current, previous])
+    [current, previous]
 }
 
 fn writing(random: &mut Random, [current, previous]: &Plans) -> Case {
@@ -1177,9 +1215,7 @@ fn writing(random: &mut Random, [current, previous]: &Plans) -> Case {
 /// A message that is true of the plans as they are read, or one that lies at a slot or two.
 fn checked(random: &mut Random, most: usize, lies: bool, reading: Reading) -> Case {
     loop {
-        let current = some_plan(random, 1, most);
-        let previous = some_previous(random, &current, most);
-        let plans = [current, previous];
+        let plans = some_plans(random, most);
         let mut told = some_truth(random, &reading(&plans));
         if lies {
             lie(random, &mut told);
@@ -1209,6 +1245,30 @@ fn checked_forms(random: &mut Random, most: usize) -> Case {
         }
         if let Some(case) = checking(random, &plans, &told) {
             return case;
+        }
+    }
+}
+
+/// A checker's case as one of the call that tells each slot. // 01 The plan
+pub fn with_verdicts(case: Case) -> Case {
+    Case { entry: Entry::CheckSlots, numbers: vec![case.numbers[0], SLOTS as u64], ..case }
+}
+
+/// Plans beside a message that is true of them, or that would be by the octet as sent, with untruth at any number of its
+/// slots, so that several rules fail at once.
+fn judged(random: &mut Random, plans: fn(&mut Random, usize) -> Plans, most: usize) -> Case {
+    loop {
+        let plans = plans(random, most);
+        let reading: Reading = random.pick(&[Plans::clone, Plans::clone, by_octets]);
+        let mut told = some_truth(random, &reading(&plans));
+        let (slots, any) = (told.len(), random.within(1, told.len()));
+        for _ in 0..random.pick(&[0, 1, 2, any, any, slots]) {
+            let at = random.below(slots);
+            lie_at(random, &mut told, at);
+        }
+        mend(random, &mut told);
+        if let Some(case) = checking(random, &plans, &told) {
+            return with_verdicts(case);
         }
     }
 }
@@ -1291,6 +1351,7 @@ fn near(entry: Entry, random: &mut Random, most: usize) -> Case {
     match entry {
         Entry::CheckSchedule => checked(random, most, true, by_octets),
         Entry::Collect => near_collecting(random),
+        Entry::CheckSlots => judged(random, some_plans, most),
         _ => sound(entry, random, most),
     }
 }
@@ -1304,6 +1365,7 @@ pub fn formed(entry: Entry, random: &mut Random, most: usize) -> Case {
             writing(random, &plans)
         }
         Entry::CheckSchedule => checked_forms(random, most),
+        Entry::CheckSlots => judged(random, formed_plans, most),
         _ => near(entry, random, most),
     }
 }
@@ -1322,7 +1384,7 @@ pub fn paired(entry: Entry, random: &mut Random, most: usize) -> Case {
 /// text, characters of the extension table.
 pub fn any(entry: Entry, random: &mut Random, most: usize) -> Case {
     match entry {
-        Entry::ReadPlan | Entry::WriteSchedule | Entry::CheckSchedule if random.once_in(2) => {
+        Entry::ReadPlan | Entry::WriteSchedule | Entry::CheckSchedule | Entry::CheckSlots if random.once_in(2) => {
             any_formed(entry, random, most)
         }
         Entry::WriteText | Entry::ReadText if random.once_in(2) => any_paired(entry, random, most),
@@ -1458,7 +1520,7 @@ pub fn clip(case: &mut Case) {
         Entry::Description => &[u64::MAX, u64::MAX, 63],
         Entry::WriteSchedule => &[u64::MAX, 511],
         Entry::Decide | Entry::Enter => &[1, u64::MAX, u64::MAX, u64::MAX],
-        Entry::Slots => &[u64::MAX, 511],
+        Entry::Slots | Entry::CheckSlots => &[u64::MAX, 511],
         Entry::Collect => &[1, 4095, 4095, u64::MAX],
         _ => &[],
     };

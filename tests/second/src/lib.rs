@@ -22,6 +22,7 @@ pub mod sender;
 pub mod several_pages;
 pub mod shrink;
 pub mod side;
+pub mod slot_verdicts;
 pub mod stored;
 pub mod text;
 pub mod zero_parameter;

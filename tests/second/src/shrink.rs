@@ -86,7 +86,7 @@ fn drop_slot(file: &mut Vec<u8>, slot: usize) {
 /// A case with the End of its schedule message one less, and a checker's with the plan's count one less too.
 fn without_last_slot(case: &Case) -> Option<Case> {
     let message = match case.entry {
-        Entry::CheckSchedule => 2,
+        Entry::CheckSchedule | Entry::CheckSlots => 2,
         Entry::ReadSchedule | Entry::Description | Entry::Decide | Entry::Enter | Entry::Slots => 0,
         _ => return None,
     };
@@ -96,7 +96,7 @@ fn without_last_slot(case: &Case) -> Option<Case> {
     }
     let mut case = case.clone();
     let last = end as usize - 1;
-    if case.entry == Entry::CheckSchedule {
+    if matches!(case.entry, Entry::CheckSchedule | Entry::CheckSlots) {
         if !is_plan(&case.lists[0]) || case.lists[0][5] != end {
             return None;
         }

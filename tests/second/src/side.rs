@@ -2,7 +2,7 @@
 
 use crate::blocks::{write_blocks, Kind};
 use crate::case::{Case, Entry};
-use crate::checker::{check_schedule, Finding};
+use crate::checker::{check_schedule, check_slots, Finding};
 use crate::collector::{collect, start_collector, Collected};
 use crate::decision::{decide, enter};
 use crate::intake::{intake, start, Answer};
@@ -44,6 +44,14 @@ pub trait Side {
     fn read_header(&self, page: &mut [u8]) -> u64;
     fn start_collector(&self, collector: &mut [u8]) -> u64;
     fn collect(&self, collector: &mut [u8], page: &mut [u8], received: usize, output: &mut [u8]) -> u64;
+    fn check_slots(
+        &self,
+        current: &mut [u8],
+        previous: &mut [u8],
+        message: &mut [u8],
+        received: usize,
+        verdicts: &mut [u8],
+    ) -> u64;
 }
 
 /// This implementation.
@@ -60,6 +68,15 @@ fn packed(result: Result<usize, Refusal>) -> u64 {
 /// number + 256 × the entry that it names. // 02 No. 1
 fn refused(refusal: Refusal) -> u64 {
     refusal.number() as u64 + 256 * refusal.entry() as u64
+}
+
+/// number + 256 × the slot that 40 names, or the entry. // 01 Numbers given, 02 No. 1
+fn found(result: Result<Finding, Refusal>) -> u64 {
+    match result {
+        Ok(Finding::True) => 0,
+        Ok(Finding::Untrue(slot)) => 40 + 256 * slot as u64,
+        Err(refusal) => refused(refusal),
+    }
 }
 
 /// number + 2^8 × Begin + 2^16 × End, both 0 with a refusal. // 01 Order
@@ -124,11 +141,7 @@ impl Side for Ours {
     }
 
     fn check_schedule(&self, current: &mut [u8], previous: &mut [u8], message: &mut [u8], received: usize) -> u64 {
-        match check_schedule(read_plan(current), read_plan(previous), message, received) {
-            Ok(Finding::True) => 0,
-            Ok(Finding::Untrue(slot)) => 40 + 256 * slot as u64,
-            Err(refusal) => refused(refusal),
-        }
+        found(check_schedule(read_plan(current), read_plan(previous), message, received))
     }
 
     fn decide(
@@ -173,6 +186,17 @@ impl Side for Ours {
             Ok(Collected::HandedOut(pages)) => 256 * pages as u64,
             Err(refusal) => refusal.number() as u64,
         }
+    }
+
+    fn check_slots(
+        &self,
+        current: &mut [u8],
+        previous: &mut [u8],
+        message: &mut [u8],
+        received: usize,
+        verdicts: &mut [u8],
+    ) -> u64 {
+        found(check_slots(read_plan(current), read_plan(previous), message, received, verdicts))
     }
 }
 
@@ -227,12 +251,12 @@ pub fn run(case: &Case, side: &impl Side) -> Outcome {
     Outcome { returned, octets: lists.concat(), words, slots }
 }
 
-/// The octets of output that a case lends.
+/// The octets of output, or for verdicts, that a case lends.
 pub fn output_length(case: &Case) -> usize {
     match case.entry {
         Entry::WriteBlocks => case.number(2),
         Entry::WriteText => case.number(4),
-        Entry::WriteSchedule => case.number(1),
+        Entry::WriteSchedule | Entry::CheckSlots => case.number(1),
         _ => 0,
     }
 }
@@ -281,6 +305,7 @@ fn call(case: &Case, side: &impl Side, lent: &mut Lent) -> Vec<u64> {
         Entry::Slots => side.slots(list(), n(0), slots),
         Entry::ReadHeader => side.read_header(list()),
         Entry::StartCollector => side.start_collector(list()),
+        Entry::CheckSlots => side.check_slots(list(), list(), list(), n(0), out),
     }]
 }
 

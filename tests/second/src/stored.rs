@@ -58,6 +58,7 @@ pub fn files() -> Vec<(&'static str, Vec<String>)> {
         ("slots.txt", lines(Entry::Slots, 80)),
         ("header.txt", lines(Entry::ReadHeader, 80)),
         ("collector.txt", [lines(Entry::StartCollector, 4), lines(Entry::Collect, 16), rows(10)].concat()),
+        ("slot_verdicts.txt", [lines(Entry::CheckSlots, 70), formed_lines(Entry::CheckSlots, 40)].concat()),
     ]
 }
 
@@ -131,12 +132,13 @@ pub fn lines(to: &mut impl io::Write, seed: u64, time: Duration) -> io::Result<(
     to.flush()
 }
 
-/// Each fault three times, and each pair of faults once.
+/// Each fault three times, but once where the checker's file has it already, and each pair of faults once.
 pub fn fault_sets(entry: Entry) -> Vec<Vec<Fault>> {
     let all = choices(entry);
+    let times = if entry == Entry::CheckSlots { 1 } else { 3 };
     let mut sets = Vec::new();
     for (at, &fault) in all.iter().enumerate() {
-        sets.extend(vec![vec![fault]; 3]);
+        sets.extend(vec![vec![fault]; times]);
         sets.extend(all[at + 1..].iter().map(|&later| vec![fault, later]));
     }
     sets
@@ -239,6 +241,7 @@ pub fn line(case: &Case) -> String {
         Entry::StartCollector => ("J", start_collector_fields(case)),
         Entry::Collect if case.numbers[0] == 0 => return row_line(&row_of(case)),
         Entry::Collect => ("M", collect_fields(case)),
+        Entry::CheckSlots => ("U", verdict_fields(case)),
     };
     format!("{letter} {}", fields.join(" "))
 }
@@ -259,6 +262,7 @@ pub fn case_of(line: &str) -> Option<Case> {
         "E" => (Entry::Enter, &[1, 3, 4, 5], &[2], &[]),
         "L" => (Entry::Slots, &[2, 3], &[1], &[]),
         "H" => (Entry::ReadHeader, &[], &[1], &[]),
+        "U" => (Entry::CheckSlots, &[4, 5], &[1, 2, 3], &[]),
         "J" => return Some(Case::new(Entry::StartCollector, &[], &[&from_runs(fields[1])?], &[])),
         "M" => {
             let number = |at: usize| u64::from_str_radix(fields[at], 16).ok();
@@ -405,6 +409,14 @@ fn collect_fields(case: &Case) -> Vec<String> {
     let returned = Ours.collect(&mut collector, &mut given(case, 2), case.number(3), &mut output);
     let taken = vec![runs(before), list(case, 2), number(case, 3), number(case, 2)];
     [taken, vec![low(returned), high(returned), after(before, &collector, runs), left_runs(&output)]].concat()
+}
+
+fn verdict_fields(case: &Case) -> Vec<String> {
+    let (mut current, mut previous, mut message) = (given(case, 0), given(case, 1), given(case, 2));
+    let mut verdicts = lent(case);
+    let returned = Ours.check_slots(&mut current, &mut previous, &mut message, case.number(0), &mut verdicts);
+    let lists = vec![list(case, 0), list(case, 1), list(case, 2)];
+    [lists, vec![number(case, 0), number(case, 1), low(returned), high(returned), left(&verdicts)]].concat()
 }
 
 /// A number of a case as a field.

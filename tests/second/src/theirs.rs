@@ -43,6 +43,7 @@ entries! {
     cb_read_header(*const u8, usize) -> u64;
     cb_start_collector(*mut u8, usize) -> u32;
     cb_collect(*mut u8, usize, *const u8, usize, usize, *mut u8, usize) -> u32;
+    cb_check_slots(*const u8, usize, *const u8, usize, *const u8, usize, usize, *mut u8, usize) -> u32;
 }
 
 /// The archives.
@@ -68,6 +69,7 @@ pub fn has(entry: Entry) -> bool {
         Entry::ReadHeader => linked::cb_read_header::CALL.is_some(),
         Entry::StartCollector => linked::cb_start_collector::CALL.is_some(),
         Entry::Collect => linked::cb_collect::CALL.is_some() && linked::cb_start_collector::CALL.is_some(),
+        Entry::CheckSlots => linked::cb_check_slots::CALL.is_some(),
     }
 }
 
@@ -160,5 +162,18 @@ impl Side for Theirs {
     fn collect(&self, collector: &mut [u8], page: &mut [u8], received: usize, output: &mut [u8]) -> u64 {
         let (c, p, o) = (collector.len(), page.len(), output.len());
         call!(cb_collect(collector.as_mut_ptr(), c, page.as_ptr(), p, received, output.as_mut_ptr(), o))
+    }
+
+    fn check_slots(
+        &self,
+        current: &mut [u8],
+        previous: &mut [u8],
+        message: &mut [u8],
+        received: usize,
+        verdicts: &mut [u8],
+    ) -> u64 {
+        let (c, p, m, v) = (current.len(), previous.len(), message.len(), verdicts.len());
+        let (current, previous, message) = (current.as_ptr(), previous.as_ptr(), message.as_ptr());
+        call!(cb_check_slots(current, c, previous, p, message, m, received, verdicts.as_mut_ptr(), v))
     }
 }

@@ -5,9 +5,11 @@ use std::collections::BTreeSet;
 use std::time::Duration;
 
 use second::case::{octets, Case, Entry, ENTRIES};
+use second::checker::{holds, RULES};
 use second::collector::{is_proper, place_of, COLLECTOR};
 use second::compare::{compare, differ};
 use second::invent::{any, faults, paired, put, sound};
+use second::plan::read_plan;
 use second::random::Random;
 use second::refusal::number_of;
 use second::schedule::{read_schedule, SLOTS};
@@ -104,6 +106,7 @@ fn stored_results_cover_every_number() {
     assert_eq!(numbers("H ", 2), BTreeSet::from([0, 16]));
     assert_eq!(numbers("J ", 2), BTreeSet::from([0, 8]));
     assert_eq!(numbers("M ", 5), BTreeSet::from([0, 1, 8, 15, 16, 18, 50]));
+    assert_eq!(numbers("U ", 6), plan.into_iter().chain(reader).chain([15, 35, 40]).collect());
 }
 
 /// The pages that stored lines of a letter hand out; `first` is the field of the first number, and each call of a line
@@ -143,7 +146,7 @@ fn stored_results_name_entries_from_the_first_to_the_last() {
     let files = files();
     let [kinds, strays] = named(&files, "P ", 2);
     assert!((1..=48).all(|entry| kinds.contains(&entry) || strays.contains(&entry)));
-    for (letter, at) in [("P ", 2), ("W ", 5), ("K ", 5)] {
+    for (letter, at) in [("P ", 2), ("W ", 5), ("K ", 5), ("U ", 6)] {
         for entries in named(&files, letter, at) {
             assert!([1, 2, 3, 24, 48].iter().all(|entry| entries.contains(entry)), "{letter}: {entries:?}");
             assert!(entries.iter().all(|entry| (1..=48).contains(entry)), "{letter}: {entries:?}");
@@ -204,7 +207,8 @@ fn a_case_is_read_back_from_its_text() {
 
 /// This implementation, but for a decision that compares 16 bits, a reader of text and one of slots that touch memory
 /// with a refusal, a repeat entered under its own slot, a serial number taken for an identifier, entries of a plan
-/// counted from 0, pages compared by the octet as sent, and a collector in which the later copy of a page stays.
+/// counted from 0, pages compared by the octet as sent, a collector in which the later copy of a page stays, and verdicts
+/// that tell the last rule that fails.
 struct Wrong;
 
 impl Side for Wrong {
@@ -292,6 +296,24 @@ impl Side for Wrong {
         }
         returned
     }
+    fn check_slots(
+        &self,
+        current: &mut [u8],
+        previous: &mut [u8],
+        message: &mut [u8],
+        received: usize,
+        verdicts: &mut [u8],
+    ) -> u64 {
+        let returned = Ours.check_slots(current, previous, message, received, verdicts);
+        if returned & 0xFF == 40 && returned > 256 {
+            let (current, previous) = (read_plan(current).unwrap(), read_plan(previous).unwrap());
+            for told in read_schedule(message, received).unwrap().told {
+                let last = RULES.into_iter().rev().find(|&rule| !holds(rule, &current, &previous, told));
+                verdicts[told.slot - 1] = last.map_or(0, |rule| rule as u8);
+            }
+        }
+        returned
+    }
 }
 
 #[test]
@@ -341,6 +363,14 @@ fn a_later_copy_that_stays_is_found() {
     let case = compared.difference.expect("a difference");
     assert_eq!(case.calls(), 1, "{}", case.text());
     assert!((1..=15).filter(|&number| case.lists[0][place_of(number)] != 0).count() == 1, "{}", case.text());
+}
+
+#[test]
+fn a_later_rule_told_is_found() {
+    let compared = compare(&[Entry::CheckSlots], 26, Duration::from_secs(20), &Ours, &Wrong);
+    let case = compared.difference.expect("a difference");
+    let (current, message) = (&case.lists[0], &case.lists[2]);
+    assert_eq!((current.len(), message[1], run(&case, &Ours).returned[0]), (12, 1, 40 + 256), "{}", case.text());
 }
 
 #[test]

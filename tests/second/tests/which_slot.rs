@@ -240,7 +240,7 @@ fn of_plans(case: &Case) -> Option<u64> {
 #[test]
 fn no_refusal_but_36_and_37_names_an_entry_and_none_is_33() {
     let mut random = Random::new(13);
-    for entry in [Entry::ReadPlan, Entry::WriteSchedule, Entry::CheckSchedule] {
+    for entry in [Entry::ReadPlan, Entry::WriteSchedule, Entry::CheckSchedule, Entry::CheckSlots] {
         for _ in 0..20_000 {
             let case = any(entry, &mut random, 48);
             let returned = run(&case, &Ours).returned[0];

@@ -8,11 +8,11 @@ use own.Statement.{statement}
 use own.Tie as tie
 
 abbrev Inv-loop : tie.InvT-loop
-Inv-loop all message places count verdicts₀ i₀ verdicts i =
+Inv-loop message count verdicts₀ all places i₀ verdicts i =
     (i ≤ 48) × (length verdicts ≡ 48) × (take i verdicts ≡ each (ruleBy all message places count) i)
 
 abbrev μ-loop : tie.MeasureT-loop
-μ-loop all message places count verdicts₀ i₀ verdicts i = 48 - i
+μ-loop message count verdicts₀ all places i₀ verdicts i = 48 - i
 
 loop-holds : tie.Need-loop-holds Inv-loop μ-loop
 loop-holds c =
@@ -21,7 +21,7 @@ loop-holds c =
 
 loop-again : tie.Need-loop-again Inv-loop μ-loop
 loop-again c =
-    let l = c .before .before .loop in
+    let l = c .before .before .before .loop in
     (search needs, simp length-set (omega arith), each-turn _ (l .verdicts) (l .i) (l .inv .2) _ (c .judge .ensures) (omega arith))
 
 returns : tie.Need-returns Inv-loop μ-loop
@@ -33,5 +33,6 @@ pub judge-each-spec : {M : Type 1} → statement M
 judge-each-spec =
     tie.close
     (tie.spec
-    Inv-loop μ-loop loop-holds (λ c κs. search needs) (λ c. search needs)
+    Inv-loop μ-loop loop-holds (λ c. search needs) (λ c. search needs) (λ c. search needs)
+    (λ c. search needs) (λ c κs. search needs) (λ c. search needs)
     (λ c. search needs) (λ c. search needs) loop-again (λ c. search needs) returns)

@@ -1,5 +1,5 @@
 -- `plan_calls::cb_check_schedule` meets its contract: what the call that judges each slot returns.
-use Rattle.laws.proofs.Base.{refl, ap, _∙_, List, ℕ, replicate, needs}
+use Rattle.laws.proofs.Base.{refl, ap, _∙_, replicate, needs}
 use Rattle.calls.specs.Paper.{CallLeft}
 use Rattle.plan_calls.proofs as own
 use own.Answers.{slots-returned}

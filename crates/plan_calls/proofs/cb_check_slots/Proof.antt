@@ -1,7 +1,6 @@
 -- `plan_calls::cb_check_slots` meets its contract: the files, then the checker's answer, packed, and the verdicts that it leaves.
-use Rattle.laws.proofs.Base.{_≡_, ap, _∙_, _≤_, arith, needs}
+use Rattle.laws.proofs.Base.{_≡_, ap, _∙_, arith, needs}
 use Rattle.plan.specs.Coded.{planOf}
-use Rattle.checker.specs.Paper.{SlotsChecked}
 use Rattle.checker.specs.Inner.{slotsBeside}
 use Rattle.checker.specs.Coded.{checkedOf}
 use Rattle.checker_plans.specs.Inner.{Plans, beside}

@@ -1,5 +1,5 @@
 -- `plan_calls::packed_checking` meets its contract: the slot that comes with an answer is small.
-use Rattle.laws.proofs.Base.{_≡_, sym, ap, _<_, _≤_, arith, needs}
+use Rattle.laws.proofs.Base.{sym, ap, _<_, _≤_, arith, needs}
 use Rattle.checker.specs.declared.Checking.{Checking}
 use Rattle.checker.specs.Coded.{checkedOf}
 use Rattle.plan_calls.specs.Paper.{packedChecked}

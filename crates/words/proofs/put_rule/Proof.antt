@@ -1,7 +1,7 @@
 -- `words::put_rule` meets its contract: what is put are the words of the rule.
-use Rattle.laws.proofs.Base.{ap, _∙_, List, ℕ, sym, ne-eqb, needs}
-use Rattle.lines.specs.Paper.{ascii, behind}
-use Rattle.words.specs.Paper.{find, ruleWords}
+use Rattle.laws.proofs.Base.{ne-eqb, needs}
+use Rattle.lines.specs.Paper.{ascii}
+use Rattle.words.specs.Paper.{find}
 use Rattle.words.proofs as own
 use own.Parts.{behind-none}
 use own.put_rule.Statement.{statement}
