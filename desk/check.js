@@ -15,8 +15,8 @@ const CHECK_RULES = new Map([
     [CB.RULE_LATER, 'a later slot of a page has to be told as a repeat of its first slot, or as advised or optional'],
     [CB.RULE_OPTIONAL, 'a slot planned as optional has to be told as optional'],
     [CB.RULE_ADVISED, 'a slot planned as advised has to be told as advised'],
-    [CB.RULE_NEW, 'advised has the mark new, optional lacks it, and a first transmission or a repeat has it exactly if the ' +
-        'previous plan lacks the page'],
+    [CB.RULE_NEW, 'the mark new is wrong: advised has it, optional lacks it, and a first transmission or a repeat has it ' +
+        'exactly if the previous plan lacks the page'],
 ]);
 const CHECK_SLICE = CB.PIECE * 4096; // octets of a log that are taken in between two looks at the page
 const CHECK_PAUSE = 16;              // milliseconds of judging between two looks at the page
@@ -413,7 +413,7 @@ class CheckPart {
                 ['Planned', slot <= planned ? plannedWords(state.current, slot) : unplanned],
                 ['Told', said],
                 ['Our writer', our === said ? 'the same' : our, our === said ? 'note' : ''],
-                ['Verdict', !judged ? 'not judged' : rule === 0 ? '✓ true' : `✗ ${RULES.get(rule)}: ${CHECK_RULES.get(rule)}`],
+                ['Verdict', !judged ? 'not judged' : rule === 0 ? '✓ true' : `✗ ${CHECK_RULES.get(rule)}`],
             ]);
             row.className = !judged ? '' : rule === 0 ? 'check-true' : 'check-untrue';
             rows.push(row);

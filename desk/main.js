@@ -107,7 +107,10 @@ async function startDesk() {
     };
     const desk = new Desk(calls, frameElement('status'), show);
     guardPage(desk);
-    startTabs(show);
+    startTabs((part) => {
+        if (part !== desk.part) desk.say(''); // what was said belongs to the part that is left
+        show(part);
+    });
     show(desk.restore(location.hash));
     for (const [part, start] of PARTS) void startPart(part, () => start(desk));
     document.querySelector('main')?.removeAttribute('aria-busy');

@@ -243,7 +243,9 @@ class TextPart {
         }
         for (const kind of /** @type {const} */ (['page', 'blocks'])) {
             anElement(`text-save-${kind}`).addEventListener('click', () => {
-                if (this.made) saveFile(`${this.made.name}.${kind}`, this.made[kind]);
+                if (!this.made) return;
+                saveFile(`${this.made.name}.${kind}`, this.made[kind]);
+                this.desk.say(`${this.made.name}.${kind} is saved, ${this.made[kind].length} octets.`);
             });
         }
     }
@@ -277,21 +279,22 @@ class TextPart {
         const text = this.#text();
         const judged = judgeText(this.desk.calls, text);
         const header = headerTyped(this.desk.calls, state);
+        const written = header && judged.number === 0 ? writePage(this.desk.calls, text, header) : undefined;
         this.#showJudged(judged);
         this.#showBad(judged);
-        this.#showMade(header && judged.number === 0 ? writePage(this.desk.calls, text, header) : undefined);
+        anElement('text-shown').hidden = judged.number !== 0;
+        if (judged.number === 0) this.#showPanel(written?.page ?? judged.page);
+        this.#showMade(written);
         anElement('text-lacking').hidden = judged.number !== 0 || header !== undefined;
     }
 
     /** @param {Judged} judged */
     #showJudged(judged) {
-        const { number, page, room } = judged;
+        const { number, room } = judged;
         elementOf('text-meter', HTMLMeterElement).value = CB.TEXT - room;
         anElement('text-room').textContent = roomWords(judged);
         anElement('text-refused').textContent = number === 0 ? '' : refusal(number);
         this.typed.setAttribute('aria-invalid', String(number !== 0));
-        anElement('text-shown').hidden = number !== 0;
-        if (number === 0) this.#showPanel(page);
     }
 
     /**

@@ -17,8 +17,8 @@ RULES = {
     2: 'a later slot of a page has to be told as a repeat of its first slot, or as advised or optional',
     3: 'a slot planned as optional has to be told as optional',
     4: 'a slot planned as advised has to be told as advised',
-    5: 'advised has the mark new, optional lacks it, and a first transmission or a repeat has it exactly if the previous plan '
-       'lacks the page',
+    5: 'the mark new is wrong: advised has it, optional lacks it, and a first transmission or a repeat has it exactly if the '
+       'previous plan lacks the page',
 }
 ROWS = """
 return [...document.querySelectorAll('#check-rows tr')].map((row) => [...row.children].map((cell) => cell.textContent));
@@ -174,7 +174,7 @@ def test_a_message_for_each_rule(page):
         for place, cells in enumerate(page.run(SLOTS), 1):
             assert cells[:2] == [str(place), planned[place - 1]], cells
             if place == slot:
-                assert cells[2:] == [words, ours[place - 1], f'✗ {LISTED[rule]}: {RULES[rule]}'], cells
+                assert cells[2:] == [words, ours[place - 1], f'✗ {RULES[rule]}'], cells
             else:
                 assert cells[2:] == [ours[place - 1], 'the same', '✓ true'], cells
         page.click('#check-untrue')

@@ -289,34 +289,43 @@ def test_a_hundred_megabytes(page):
     times = 100_000_000 // len(part) + 1
     path = big_log(page, part, times)
     start(page)
-    idle = idle_gap(page)
-    page.find('#log-file').send_keys(path)
-    page.wait(lambda: page.text('#log-name') == 'big.log', 'big.log taken in', 60)
+    page.run(WATCH)
+    idle = least_gap(page, lambda: time.sleep(2))
+    gap = least_gap(page, lambda: take_big(page, path))
     seconds = float(re.search(r'within ([\d.]+) s', page.text('#log-summary')).group(1))
-    gap = page.run('return window.gap')
     print(f'tests/desk: {page.browser}: log: {os.path.getsize(path):,} octets in {seconds:.2f} s; the page stood still for '
           f'{gap:.0f} ms at most, and for {idle:.0f} ms with nothing to do')
     answers = [line.split()[1] for line in written('cblist', part).decode().splitlines()[1:]]
     pieces = len(answers) * times
     assert counts(page) == {'all': pieces, **{answer: answers.count(answer) * times for answer in set(answers)}}
-    assert seconds < 12 and gap < 200 + idle, (seconds, gap)
-    look_through_millions(page, pieces, idle)
+    assert seconds < 12 and gap < 200, (seconds, gap)
+    gap = least_gap(page, lambda: look_through_millions(page, pieces))
+    print(f'tests/desk: {page.browser}: log: going about in {pieces:,} rows, the page stood still for {gap:.0f} ms at most')
+    assert gap < 200, gap
     cancel(page, path)
     os.remove(path)
 
 
-def idle_gap(page):
-    """The longest that the page stands still by itself, on a machine that has other things to do."""
-    page.run(WATCH)
-    time.sleep(2)
-    idle = page.run('return window.gap')
-    page.run('window.gap = 0')
-    return idle
+def least_gap(page, use):
+    """The longest that the page stands still while it is used: a busy machine makes it longer, so the best of three counts."""
+    gaps = []
+    while len(gaps) < 3 and min(gaps, default=200) >= 200:
+        page.run('window.gap = 0')
+        use()
+        gaps.append(page.run('return window.gap'))
+    return min(gaps)
 
 
-def look_through_millions(page, pieces, idle):
+def take_big(page, path):
+    """Has the log taken in, after another."""
+    take(page, 'cblist.log', sample('cblist'))
+    page.find('#log-file').send_keys(path)
+    page.wait(lambda: page.text('#log-name') == 'big.log', 'big.log taken in', 60)
+
+
+def look_through_millions(page, pieces):
     """Rows at the end and in the middle, by keys, by the scroll bar, by the wheel and by number."""
-    page.run('window.gap = 0')
+    page.click('#log-answers input[value=all]')
     page.press('#log-rows', 'END')
     page.wait(lambda: chosen(page) == f'{pieces:,}', 'the last row')
     page.press(None, 'PAGE_UP', 'ARROW_UP')
@@ -342,9 +351,6 @@ def look_through_millions(page, pieces, idle):
         page.wait(lambda: chosen(page) != '' and page.text('#log-details') != '', f'the last of {view}')
     page.click('#log-answers input[value="1"]')
     page.wait(lambda: listed(page), 'the rows of an answer')
-    gap = page.run('return window.gap')
-    print(f'tests/desk: {page.browser}: log: going about in {pieces:,} rows, the page stood still for {gap:.0f} ms at most')
-    assert gap < 200 + idle, gap
 
 
 def cancel(page, path):
