@@ -6,8 +6,7 @@
 //
 // Left out are comparisons that end a loop or choose between two values, because a few of them can be changed without an effect:
 // in loops that fill memory of which no more is read than is written after, in loops that look once more at a plan that was found
-// good, and in limits that hold anyway. One has an effect that no stored result shows: cb_intake looks at every octet behind the
-// blocks that a state holds, and no stored result has a state with a wrong one there.
+// good, and in limits that hold anyway.
 import { readFileSync, writeFileSync } from 'node:fs';
 import { join } from 'node:path';
 import { fileURLToPath } from 'node:url';

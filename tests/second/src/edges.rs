@@ -26,7 +26,7 @@ pub fn cases(entry: Entry) -> Vec<Case> {
 pub fn stored_first(entry: Entry) -> Vec<Case> {
     match entry {
         Entry::Start => vec![Case::new(entry, &[], &[&[0; STATE]], &[]), Case::new(entry, &[], &[&[]], &[])],
-        Entry::Intake => intake(),
+        Entry::Intake => [intake(), improper_states()].concat(),
         Entry::WriteBlocks => blocks(),
         Entry::WriteText => [writing(), zero_parameter::texts(), late_faults::texts()].concat(),
         Entry::ReadText => [reading(), zero_parameter::readings()].concat(),
@@ -65,10 +65,7 @@ fn intake() -> Vec<Case> {
     let states = [(0, 0), (1, 1), (1, 2), (1, 3), (2, 1), (2, 2), (2, 3)];
     let mut cases = Vec::new();
     for (kind, taken) in states {
-        let mut state = vec![FILL; STATE];
-        state[2..2 + 22 * taken].copy_from_slice(&counted(22 * taken));
-        state[..2].copy_from_slice(&[kind, taken as u8]);
-        state.resize(CARRIED, LENT);
+        let state = seeming(kind, taken);
         for code in [0, 1, 2, 3, 4, 7, 8, 9, 14, 15] {
             for mark in [0x20, 0x30] {
                 let piece = [vec![mark | code], counted(22)].concat();
@@ -77,6 +74,37 @@ fn intake() -> Vec<Case> {
         }
     }
     cases
+}
+
+/// States that no call leaves, each with a piece that would complete the message that it seems to hold: another octet than 2B
+/// behind the blocks, a kind that is none, a kind without blocks, blocks without a kind, and a fourth block. // 01 Intake
+fn improper_states() -> Vec<Case> {
+    let mut states = Vec::new();
+    for (kind, taken) in [(1, 1), (1, 2), (1, 3), (2, 1), (2, 2), (2, 3)] {
+        let behind = 2 + 22 * taken;
+        for place in [behind, behind + (STATE - behind) / 2, STATE - 1] {
+            let mut state = seeming(kind, taken);
+            state[place] = FILL ^ 1;
+            states.push((state, taken));
+        }
+    }
+    for (kind, taken) in [(3, 1), (3, 2), (255, 3), (0, 1), (0, 3), (1, 0), (2, 0), (3, 0), (1, 4), (2, 4)] {
+        states.push((seeming(kind, taken), taken));
+    }
+    let last = |taken: usize| [vec![0x30 | taken as u8 & 3], counted(22)].concat();
+    let case = |(state, taken): &(Vec<u8>, usize)| {
+        Case::new(Entry::Intake, &[1, 90, 88], &[state, &[LENT; CARRIED], &last(*taken)], &[])
+    };
+    states.iter().map(case).collect()
+}
+
+/// A state of a kind with so many blocks taken, and 2B behind them.
+fn seeming(kind: u8, taken: usize) -> Vec<u8> {
+    let mut state = vec![FILL; STATE];
+    state[2..2 + 22 * taken].copy_from_slice(&counted(22 * taken));
+    state[..2].copy_from_slice(&[kind, taken as u8]);
+    state.resize(CARRIED, LENT);
+    state
 }
 
 /// Used octets about each block. // 01 Blocks
