@@ -58,7 +58,8 @@ const [element, text] = arguments;
 const transfer = new DataTransfer();
 transfer.setData('text/plain', text);
 element.focus();
-const event = new ClipboardEvent('paste', { bubbles: true, cancelable: true, composed: true, clipboardData: transfer });
+const clipboard = { clipboardData: transfer, dataType: 'text/plain', data: text }; // Firefox takes the last two
+const event = new ClipboardEvent('paste', { bubbles: true, cancelable: true, composed: true, ...clipboard });
 if (element.dispatchEvent(event)) document.execCommand('insertText', false, text);
 """
 INPUT = """
@@ -308,7 +309,7 @@ class Page:
             lines = file.read()
             self.seen = file.tell()
         return [f'console: {line}' for line in lines.splitlines()
-                if re.match(r'console\.error|JavaScript error: (file|blob):', line)]
+                if re.match(r'console\.error: ["(\[{]|JavaScript error: (file|blob):', line)]
 
 
 def run_test(page, name, test):
