@@ -228,11 +228,4 @@ def test_the_address_keeps_what_is_typed(page):
 def test_nothing_is_lost_where_it_is_narrow(page):
     entries = [sent(n % 20, 0x32 + n % 3) for n in range(46)] + FIVE[:2]
     start(page, entries, wanted='32+33', lost='2,3,40')
-    for width in (1280, 640, 360):
-        page.size(width, 800)
-        wide = page.run('return [document.documentElement.scrollWidth, document.documentElement.clientWidth]')
-        assert wide[0] <= wide[1], wide
-        page.picture(f'board-{width}')
-    page.dark()
-    page.size(1280, 800)
-    page.picture('board-dark')
+    page.fits('board')

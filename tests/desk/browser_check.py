@@ -309,11 +309,4 @@ def test_long_logs_leave_the_page_alive(page):
 def test_nothing_is_lost_where_it_is_narrow(page):
     start(page)
     take(page, 'sample.log', os.path.join(SAMPLE, 'stdin'), '10 schedules')
-    for width in (1280, 640, 360):
-        page.size(width, 800)
-        wide = page.run('return [document.documentElement.scrollWidth, document.documentElement.clientWidth]')
-        assert wide[0] <= wide[1], wide
-        page.picture(f'check-{width}')
-    page.dark()
-    page.size(1280, 800)
-    page.picture('check-dark')
+    page.fits('check')

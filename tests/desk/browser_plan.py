@@ -350,15 +350,7 @@ def test_one_part_that_fails_leaves_the_others(page):
 def test_widths_colours_and_paper(page):
     page.click('#plan-sample')
     page.fill(field(1, 'serial'), 'xyz')
-    for name, width, height, dark in [('light', 1280, 900, False), ('dark', 1280, 900, True), ('double', 640, 450, False),
-                                      ('narrow', 360, 740, False), ('narrow-dark', 360, 740, True)]:
-        page.size(width, height)
-        page.dark(dark)
-        page.picture(f'plan-{name}')
-        if page.browser == 'chromium':
-            assert page.run('return document.documentElement.scrollWidth') <= width, f'{name} is wider than {width} px'
-    page.dark(False)
-    page.size(1280, 900)
+    page.fits('plan')
     page.media('print')
     if page.browser == 'chromium':
         assert page.text('h1') == 'Csobvarit desk: Plan' and not page.find('#tabs').is_displayed()

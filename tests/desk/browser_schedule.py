@@ -174,14 +174,7 @@ def test_the_picture_of_the_slots(page):
 
 def test_widths_colours_and_paper(page):
     show(page, own_pages(48, 32), FIVE, 12)
-    for name, width, height, dark in [('light', 1280, 900, False), ('dark', 1280, 900, True), ('double', 640, 450, False),
-                                      ('narrow', 360, 740, False)]:
-        page.size(width, height)
-        page.dark(dark)
-        page.picture(f'schedule-{name}')
-        if page.browser == 'chromium':
-            assert page.run('return document.documentElement.scrollWidth') <= width, f'{name} is wider than {width} px'
-    page.dark(False)
+    page.fits('schedule')
     page.size(718, 1000)
     page.media('print')
     if page.browser == 'chromium':

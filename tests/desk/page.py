@@ -12,6 +12,7 @@ tests/desk/browser_PART.py defines functions test_...(page), which run in their 
         page.wait(lambda: 'Refused by 32' in page.text('#check-said'), 'the refusal')
         assert page.download('plan.cbp') == b'...'          # a file that the page saved, by its name
         page.size(360, 800); page.dark(); page.picture('check-short')   # target/desk/pictures/check-short-chromium.png
+        page.fits('check')                                  # nothing is too wide, wide or narrow; with pictures, one of them dark
 
 Besides: page.open('#...') opens it anew with that address, page.find and page.all give selenium's elements, page.value what a
 field holds, page.run(script, ...) what JavaScript returns, page.address() the address behind the #, page.media('print') how it
@@ -264,6 +265,18 @@ class Page:
         else:
             self.driver.save_full_page_screenshot(path)
         return path
+
+    def fits(self, part):
+        """Holds that nothing is wider than what is seen of the page, at several widths, and takes a picture of each."""
+        for name, width, height, dark in [('light', 1280, 900, False), ('dark', 1280, 900, True), ('double', 640, 450, False),
+                                          ('narrow', 360, 740, False)]:
+            self.size(width, height)
+            self.dark(dark)
+            self.picture(f'{part}-{name}')
+            wide = self.run('return [document.documentElement.scrollWidth, document.documentElement.clientWidth]')
+            assert wide[0] <= wide[1], f'{name}: {wide[0]} of {wide[1]} px'
+        self.dark(False)
+        self.size(1280, 900)
 
     def pdf(self, name):
         """Prints the page, and gives the path."""
