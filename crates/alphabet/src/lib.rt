@@ -1,4 +1,6 @@
 // The default alphabet of GSM 03.38 and its extension: code points of septets and septets of code points, each by a table.
+#![tactic(auto)]
+
 pub mod tables;
 
 ghost use Rattle.std.specs.Prelude.{◌≡◌, ◌-◌, ◌<◌};

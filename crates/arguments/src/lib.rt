@@ -1,9 +1,11 @@
 // What a program's arguments ask for.
+#![tactic(auto)]
+
 ghost use Rattle.std.specs.Prelude.{◌≡◌};
 ghost use Rattle.arguments.specs.Paper.{help_asked, asked_by};
 
 // What a program's arguments ask for.
-#[derive(Drop)]
+#[derive(Clone, Copy)]
 pub enum Asked {
     Work,
     Help,

@@ -1,4 +1,6 @@
 // What the intake by value and the one on lent memory share: kinds of messages, proper states, and where a piece goes.
+#![tactic(auto)]
+
 ghost use Rattle.std.specs.Prelude.{◌≡◌, drop};
 ghost use Rattle.block.specs.Paper.{kind_number, all_blank, proper};
 ghost use Rattle.block.specs.Inner.{place_of, state_with};
@@ -14,7 +16,7 @@ pub const BLOCK: usize = 23;
 pub const BLOCKS: usize = 92;
 
 // 000 3.4, 3.5: what a message is.
-#[derive(Drop)]
+#[derive(Clone, Copy)]
 pub enum Kind {
     Page,
     Schedule,
@@ -71,7 +73,7 @@ pub fn is_proper(kind: u8, taken: u8, octets: &[u8]) -> bool
 }
 
 // Where a piece goes: nowhere, to the beginning of a message, or next. The flag: it completes the message.
-#[derive(Drop)]
+#[derive(Clone, Copy)]
 pub enum Place {
     None(Refusal),
     First(Kind, bool),

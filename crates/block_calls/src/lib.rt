@@ -1,4 +1,6 @@
 // The entry for C that writes a page or a schedule message as blocks.
+#![tactic(auto)]
+
 ghost use Rattle.std.specs.Prelude.{◌≡◌};
 ghost use Rattle.block.specs.Coded.{kind_of};
 ghost use Rattle.block_calls.specs.Paper.{kind_if, blocks_call};
@@ -17,13 +19,7 @@ fn kind_of(schedule: bool) -> Kind
 }
 
 // Writes a page or a schedule message as four blocks: the number.
-#[unsafe(no_mangle)]
-pub extern "C" fn cb_write_blocks(
-    message: &[u8],
-    schedule: bool,
-    used: usize,
-    out: &mut [u8],
-) -> u32
+pub fn cb_write_blocks(message: &[u8], schedule: bool, used: usize, out: &mut [u8]) -> u32
     ensures { record { returned = result; memory = out.new } ≡ blocks_call message.now schedule used out.old }
 {
     let kind = kind_of(schedule);

@@ -1,4 +1,6 @@
 // The intake by value: blocks taken in one at a time.
+#![tactic(auto)]
+
 ghost use Rattle.std.specs.Prelude.{◌≡◌};
 ghost use Rattle.refusals.specs.Number.{number_of};
 ghost use Rattle.block.specs.Paper.{added, step, start as start_of};
@@ -10,7 +12,7 @@ use refusals::Refusal;
 use sizes::{CONTENT, FILLER, MESSAGE};
 
 // A message of which some blocks are taken: kind 0 for none, 1 for a page, 2 for a schedule.
-#[derive(Drop)]
+#[derive(Clone, Copy)]
 pub struct State {
     pub kind: u8,
     pub taken: u8,
@@ -29,7 +31,7 @@ pub fn start() -> State
 }
 
 // What the intake answers to a piece: a message complete, a block taken, or a refusal.
-#[derive(Drop)]
+#[derive(Clone, Copy)]
 pub enum Answer {
     Page,
     Schedule,
@@ -38,7 +40,7 @@ pub enum Answer {
 }
 
 // The answer, the octets received and the message where it is complete, and the state afterwards.
-#[derive(Drop)]
+#[derive(Clone, Copy)]
 pub struct Reply {
     pub answer: Answer,
     pub received: usize,
@@ -90,7 +92,7 @@ fn add(kind: u8, taken: u8, octets: [u8; MESSAGE], piece: &[u8], last: bool) -> 
 {
     let mut whole = octets;
     let at = CONTENT * taken as usize;
-    bytes::copy(&piece[1..], &mut whole[at..at + CONTENT]);
+    octets::copy(&piece[1..], &mut whole[at..at + CONTENT]);
     if !last {
         return Reply {
             answer: Answer::Taken,

@@ -1,4 +1,6 @@
 // Messages cut into blocks.
+#![tactic(auto)]
+
 ghost use Rattle.std.specs.Prelude.{◌≡◌, ◌<◌, ◌≤◌};
 ghost use Rattle.block.specs.Paper.{sequence_code};
 ghost use Rattle.block.specs.Coded.{kind_of};
@@ -10,7 +12,7 @@ use refusals::Refusal;
 use sizes::{CONTENT, MESSAGE};
 
 // What the block writer answers.
-#[derive(Drop)]
+#[derive(Clone, Copy)]
 pub enum Sent {
     Done,
     Refused(Refusal),
@@ -35,7 +37,7 @@ pub fn write_blocks(message: &[u8], kind: Kind, used: usize, out: &mut [u8]) -> 
     let mut i = 0;
     while i < 4 {
         out[BLOCK * i] = block_type(kind, used, i);
-        bytes::copy(
+        octets::copy(
             &message[CONTENT * i..CONTENT * i + CONTENT],
             &mut out[BLOCK * i + 1..BLOCK * i + BLOCK],
         );

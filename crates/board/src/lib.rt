@@ -1,4 +1,6 @@
 // What a board does at a slot: read or skip.
+#![tactic(auto)]
+
 ghost use Rattle.std.specs.Prelude.{◌≡◌, ◌&&◌, not, false, ◌≤◌, ◌<◌, length};
 ghost use Rattle.schedule.specs.Paper.{false_repeat};
 ghost use Rattle.schedule.specs.Coded.{told_of};
@@ -19,13 +21,13 @@ use sizes::SLOTS;
 pub const WANTED: usize = 64;
 
 // The identifiers that are wanted; those past the count mean nothing.
-#[derive(Drop)]
+#[derive(Clone, Copy)]
 pub struct Wanted {
     pub count: usize,
     pub ids: [MessageId; WANTED],
 }
 
-#[derive(Drop)]
+#[derive(Clone, Copy)]
 pub enum Decision {
     Read,
     Skip,

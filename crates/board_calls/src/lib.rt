@@ -1,4 +1,6 @@
 // The entry for C by which a board decides for a slot.
+#![tactic(auto)]
+
 ghost use Rattle.std.specs.Prelude.{◌≡◌};
 ghost use Rattle.board_calls.specs.Paper.{decide_call};
 
@@ -6,8 +8,7 @@ use board::Decision;
 use board_held::Held;
 
 // Reads or skips a slot: number + 256 × (1 read, 0 skip).
-#[unsafe(no_mangle)]
-pub extern "C" fn cb_decide(
+pub fn cb_decide(
     known: bool,
     message: &[u8],
     received: usize,

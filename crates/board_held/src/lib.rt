@@ -1,4 +1,6 @@
 // The set of slots whose pages a board holds, and the slot that a page is entered under.
+#![tactic(auto)]
+
 ghost use Rattle.std.specs.Prelude.{◌≡◌};
 ghost use Rattle.schedule.specs.Coded.{told_of, read_of};
 ghost use Rattle.board_held.specs.Paper.{is_held, enter, entry_for, entered_under};
@@ -9,11 +11,11 @@ use schedule::{Description, Reading};
 use sizes::{MESSAGE, SLOTS};
 
 // The slots whose pages are held: slot n in bit n - 1, and the bits from 48 on mean nothing.
-#[derive(Drop)]
+#[derive(Clone, Copy)]
 pub struct Held(pub u64);
 
 // A schedule message and the octets received of it, where there is one.
-#[derive(Drop)]
+#[derive(Clone, Copy)]
 pub struct Schedule {
     pub known: bool,
     pub message: [u8; MESSAGE],

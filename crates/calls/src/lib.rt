@@ -1,1 +1,2 @@
 // How calls for C hand numbers and lent memory back. No code of its own.
+#![tactic(auto)]

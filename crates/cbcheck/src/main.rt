@@ -1,4 +1,6 @@
 // Checks the schedule messages of a log of blocks from a file or standard input beside two plan files, a line for each: cbcheck CURRENT PREVIOUS [FILE].
+#![tactic(auto)]
+
 ghost use Rattle.std.specs.Prelude.{◌≡◌, ◌≤◌, ◌<◌, ◌++◌, length, take};
 ghost use Rattle.refusals.specs.Number.{number_of};
 ghost use Rattle.block.specs.Paper.{start};

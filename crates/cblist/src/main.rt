@@ -1,4 +1,6 @@
 // Lists a log of blocks from a file or standard input: the number of each, the intake's answer, and the octets received.
+#![tactic(auto)]
+
 ghost use Rattle.std.specs.Prelude.{◌≡◌, ◌/◌, ◌%◌, ◌≤◌, ◌<◌, length, take};
 ghost use Rattle.firmware.specs.Paper.{lent, held_in};
 ghost use Rattle.block.specs.Paper.{start};

@@ -1,4 +1,6 @@
 // Shows the pages of a log of blocks from a file or standard input: a line for each, with its text, or its content in hex.
+#![tactic(auto)]
+
 ghost use Rattle.std.specs.Prelude.{◌≡◌, true, ◌+◌, ◌*◌, ◌≤◌, ◌<◌, length, take};
 ghost use Rattle.sizes.specs.Paper.{whole_blocks};
 ghost use Rattle.block.specs.Paper.{start};

@@ -1,4 +1,6 @@
 // Writes the four blocks of the schedule message of a plan file, beside the plan file before it: cbwrite CURRENT PREVIOUS BEGIN.
+#![tactic(auto)]
+
 ghost use Rattle.std.specs.Prelude.{◌≡◌, min};
 ghost use Rattle.block_writer.specs.Coded.{sent_of};
 ghost use Rattle.plan.specs.Coded.{plan_of};
@@ -15,7 +17,7 @@ use sender::Sending;
 use sizes::MESSAGE;
 
 // Begin as an argument tells it.
-#[derive(Drop)]
+#[derive(Clone, Copy)]
 enum Begin {
     Number(usize),
     NoNumber,

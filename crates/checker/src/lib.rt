@@ -1,4 +1,6 @@
 // Schedule messages checked against a plan and the plan before it.
+#![tactic(auto)]
+
 ghost use Rattle.std.specs.Prelude.{◌≡◌, ◌<◌, map, length};
 ghost use Rattle.laws.specs.Upto.{lowest as lowest_of, each};
 ghost use Rattle.plan.specs.Coded.{plan_of};
@@ -17,7 +19,7 @@ use sizes::SLOTS;
 
 // What the checker answers: the message is true, or it is refused, with the slot that 40 names, or whose entry 36 and 37 name; with other
 // refusals the slot is 0.
-#[derive(Drop)]
+#[derive(Clone, Copy)]
 pub enum Checking {
     True,
     Refused(Refusal, usize),

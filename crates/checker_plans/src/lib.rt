@@ -1,4 +1,6 @@
 // What the current plan and the previous one say, judged and found once for any number of messages.
+#![tactic(auto)]
+
 ghost use Rattle.std.specs.Prelude.{◌≡◌};
 ghost use Rattle.refusals.specs.Number.{number_of};
 ghost use Rattle.plan.specs.Coded.{plan_of};
@@ -11,7 +13,7 @@ use refusals::Refusal;
 use sizes::SLOTS;
 
 // What two plans say: whether they are good and the current one has slots, and if so its count and what is said of each slot.
-#[derive(Drop)]
+#[derive(Clone, Copy)]
 pub struct Plans {
     pub verdict: Verdict,
     pub count: usize,

@@ -1,4 +1,6 @@
 // Which rule of truth a slot of a schedule message breaks, if any, by what two plans say of it.
+#![tactic(auto)]
+
 ghost use Rattle.std.specs.Prelude.{◌≡◌};
 ghost use Rattle.schedule.specs.Coded.{told_of, shown_of};
 ghost use Rattle.plan_slots.specs.Coded.{planned_of};

@@ -1,4 +1,6 @@
 // Messages of several pages, collected in memory that the caller lends: 1,340 octets of collector, and as many of output.
+#![tactic(auto)]
+
 ghost use Rattle.std.specs.Prelude.{◌≡◌, ◌++◌, ◌-◌, ◌≤◌, ◌<◌, length, take};
 ghost use Rattle.collector.specs.Paper.{page_number, page_total, page_place, blanks, start, begun, is_of, goes_on, put, with_page, settled, moved, collected, start_call, collect_call};
 ghost use Rattle.collector.specs.Coded.{number_of_answer, pages_of_answer};
@@ -20,7 +22,7 @@ const HELD: usize = 89;
 pub const COLLECTOR: usize = 1340;
 
 // What came of a page that was given to a collector.
-#[derive(Drop)]
+#[derive(Clone, Copy)]
 pub enum Answer {
     // All pages of its message are there, so many.
     HandedOut(u8),
@@ -30,8 +32,7 @@ pub enum Answer {
 }
 
 // Makes a collector as it must be before the first page.
-#[unsafe(no_mangle)]
-pub extern "C" fn cb_start_collector(collector: &mut [u8]) -> u32
+pub fn cb_start_collector(collector: &mut [u8]) -> u32
     ensures { record { number = result; collector = collector.new } ≡ start_call collector.old }
 {
     if collector.len() != COLLECTOR {
@@ -42,13 +43,7 @@ pub extern "C" fn cb_start_collector(collector: &mut [u8]) -> u32
 }
 
 // Takes a page; a message that it makes whole is written to output.
-#[unsafe(no_mangle)]
-pub extern "C" fn cb_collect(
-    collector: &mut [u8],
-    page: &[u8],
-    received: usize,
-    output: &mut [u8],
-) -> u32
+pub fn cb_collect(collector: &mut [u8], page: &[u8], received: usize, output: &mut [u8]) -> u32
     ensures { record { returned = result; collector = collector.new; output = output.new } ≡ collect_call collector.old page.now received output.old }
 {
     let answer = collect(collector, page, received, output);
@@ -87,7 +82,7 @@ pub fn collect(collector: &mut [u8], page: &[u8], received: usize, output: &mut 
 }
 
 // The pages that a proper collector holds.
-#[derive(Drop)]
+#[derive(Clone, Copy)]
 enum Pages {
     Improper,
     Held(usize),
@@ -210,9 +205,9 @@ fn put_page(collector: &mut [u8], i: usize, page: &[u8], received: u8)
     ensures { collector.new ≡ put collector.old i page.now received }
 {
     let mut held = [received; HELD];
-    bytes::copy(&page[..MESSAGE], &mut held[1..]);
+    octets::copy(&page[..MESSAGE], &mut held[1..]);
     let at = FRONT + HELD * i;
-    bytes::copy(&held, &mut collector[at..at + HELD]);
+    octets::copy(&held, &mut collector[at..at + HELD]);
 }
 
 // Copies a whole message to output, and leaves the collector as at start.
@@ -221,7 +216,7 @@ fn hand_out(collector: &mut [u8], total: usize, output: &mut [u8])
     ensures { (collector.new ≡ start) × (output.new ≡ take (page_place total) collector.old ++ blanks (15 - total)) }
 {
     let end = FRONT + HELD * total;
-    bytes::copy(&collector[..end], output);
+    octets::copy(&collector[..end], &mut output[..end]);
     blank_pages(output, total);
     clear(collector);
 }
@@ -239,7 +234,7 @@ fn empty(collector: &mut [u8], front: [u8; FRONT])
     requires { length collector.old ≡ 1340 }
     ensures { collector.new ≡ front ++ blanks 15 }
 {
-    bytes::copy(&front, collector);
+    octets::copy(&front, &mut collector[..FRONT]);
     blank_pages(collector, 0);
 }
 
@@ -253,7 +248,7 @@ fn blank_pages(memory: &mut [u8], from: usize)
     let mut i = from;
     while i < PAGES {
         let at = FRONT + HELD * i;
-        bytes::copy(&blank, &mut memory[at..at + HELD]);
+        octets::copy(&blank, &mut memory[at..at + HELD]);
         i += 1;
     }
 }

@@ -1,4 +1,6 @@
 // The descriptions of a lent schedule message, given one after the other.
+#![tactic(auto)]
+
 ghost use Rattle.std.specs.Prelude.{◌≡◌};
 ghost use Rattle.schedule_given.specs.Coded.{given_of};
 ghost use Rattle.descriptions.specs.Paper.{passed, stepped, ordered};
@@ -10,35 +12,35 @@ use schedule_given::Given;
 use sizes::SLOTS;
 
 // A slot by its number.
-#[derive(Drop)]
+#[derive(Clone, Copy)]
 pub struct Numbered {
     pub number: usize,
     pub slot: Slot,
 }
 
 // How many slots are given, or a refusal.
-#[derive(Drop)]
+#[derive(Clone, Copy)]
 pub enum Counted {
     Count(usize),
     Refused(Refusal),
 }
 
 // All that the description reader gives, in the message's order.
-#[derive(Drop)]
+#[derive(Clone, Copy)]
 pub struct Ordered {
     pub answer: Counted,
     pub given: [Numbered; SLOTS],
 }
 
 // What a call gives, and the place that it leaves.
-#[derive(Drop)]
+#[derive(Clone, Copy)]
 pub struct Stepped {
     pub given: Given,
     pub place: usize,
 }
 
 // The lent message, the octets received of it, and how many of its descriptions are given already.
-#[derive(Drop)]
+#[derive(Clone, Copy)]
 pub struct Descriptions<'a> {
     pub message: &'a [u8],
     pub received: usize,

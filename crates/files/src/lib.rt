@@ -1,4 +1,6 @@
 // Files that a program's arguments name, opened and read; text written; and what the system refused, said on standard error.
+#![tactic(auto)]
+
 ghost use Rattle.std.specs.Prelude.{◌≡◌, true, ◌≤◌, length};
 ghost use Rattle.lines.specs.Paper.{all_behind};
 ghost use Rattle.files.specs.Paper.{faulty};
@@ -10,14 +12,14 @@ use libc::{STDIN_FILENO, STDOUT_FILENO};
 pub const NAMES: usize = 4200;
 
 // A file opened for reading, with the length of its name; or none.
-#[derive(Drop)]
+#[derive(Clone, Copy)]
 pub enum Opened {
     File(i32, usize),
     Nothing,
 }
 
 // What reading a file gave: so many octets before its end or that of the memory, or before a fault.
-#[derive(Drop)]
+#[derive(Clone, Copy)]
 pub enum Filled {
     Octets(usize),
     Fault(usize),

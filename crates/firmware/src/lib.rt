@@ -1,4 +1,6 @@
 // The intake for C firmware, on memory that it lends: 90 octets of state, a piece, 88 octets of output.
+#![tactic(auto)]
+
 ghost use Rattle.std.specs.Prelude.{◌≡◌, ◌++◌, ◌*◌, length, take, drop, replicate};
 ghost use Rattle.refusals.specs.Number.{number_of};
 ghost use Rattle.block.specs.Paper.{start, added, filled, step};
@@ -13,8 +15,7 @@ use sizes::{CONTENT, FILLER, MESSAGE};
 pub const STATE: usize = 90;
 
 // Makes a state as it must be before the first piece.
-#[unsafe(no_mangle)]
-pub extern "C" fn cb_start(state: &mut [u8]) -> u32
+pub fn cb_start(state: &mut [u8]) -> u32
     ensures { record { number = result; state = state.new } ≡ start_call state.old }
 {
     if state.len() == STATE {
@@ -25,8 +26,7 @@ pub extern "C" fn cb_start(state: &mut [u8]) -> u32
 }
 
 // Takes in one piece; a message that it completes is written to output.
-#[unsafe(no_mangle)]
-pub extern "C" fn cb_intake(state: &mut [u8], piece: &[u8], output: &mut [u8]) -> u32
+pub fn cb_intake(state: &mut [u8], piece: &[u8], output: &mut [u8]) -> u32
     ensures { record { returned = result; state = state.new; output = output.new } ≡ intake_call state.old piece.now output.old }
 {
     if output.len() != MESSAGE {
@@ -115,9 +115,9 @@ fn put(state: &mut [u8], taken: u8, piece: &[u8])
     ensures { drop 2 state.new ≡ filled (take (22 * taken) (drop 2 state.old) ++ drop 1 piece.now) }
 {
     let mut content = [0u8; CONTENT];
-    bytes::copy(&piece[1..], &mut content);
+    octets::copy(&piece[1..], &mut content);
     let at = 2 + CONTENT * taken as usize;
-    bytes::copy(&content, &mut state[at..at + CONTENT]);
+    octets::copy(&content, &mut state[at..at + CONTENT]);
 }
 
 // Copies the message to output, and leaves the state as after start.
@@ -125,6 +125,6 @@ fn hand_out(state: &mut [u8], output: &mut [u8])
     requires { (length state.old ≡ 90) × (length output.old ≡ 88) }
     ensures { (state.new ≡ lent start) × (output.new ≡ drop 2 state.old) }
 {
-    bytes::copy(&state[2..], output);
+    octets::copy(&state[2..], output);
     clear(state);
 }

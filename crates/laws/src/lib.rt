@@ -1,1 +1,2 @@
 // Definitions and laws that several rooms share. No code of its own.
+#![tactic(auto)]

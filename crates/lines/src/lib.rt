@@ -1,4 +1,6 @@
 // Text put behind other text: octets, numbers in decimal and in hex.
+#![tactic(auto)]
+
 ghost use Rattle.std.specs.Prelude.{◌≡◌, [], ◌∷◌, ◌+◌, ◌<◌, leb};
 ghost use Rattle.lines.specs.Paper.{decimal, marked, hex_digit, hexadecimal, behind, all_behind};
 

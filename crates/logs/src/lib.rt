@@ -1,4 +1,6 @@
 // Logs read and written in chunks, and where a piece of one ends.
+#![tactic(auto)]
+
 ghost use Rattle.std.specs.Prelude.{◌≡◌, true, ◌+◌, ◌/◌, ◌≤◌, min, length};
 ghost use Rattle.block.specs.Paper.{start};
 ghost use Rattle.firmware.specs.Paper.{lent};
@@ -15,7 +17,7 @@ pub const WHOLE: usize = 23552;
 pub const LAST: u64 = 1000000000000000000;
 
 // How a chunk ends: the log may go on behind it, it is the last, or a read failed.
-#[derive(Drop)]
+#[derive(Clone, Copy)]
 pub enum Ending {
     More,
     Last,
@@ -23,7 +25,7 @@ pub enum Ending {
 }
 
 // A chunk that was read: how many octets it has, the number of the piece behind it, and how it ends.
-#[derive(Drop)]
+#[derive(Clone, Copy)]
 pub struct Chunk {
     pub octets: usize,
     pub next: u64,

@@ -1,4 +1,6 @@
 // Octets unpacked into septets: the same number, its digits to base 256 and to base 128.
+#![tactic(auto)]
+
 ghost use Rattle.std.specs.Prelude.{◌≡◌, ◌+◌, ◌/◌, ◌<◌, ◌≤◌, length, get_or};
 ghost use Rattle.laws.specs.Radix.{value, digits};
 ghost use Rattle.packing.specs.Inner.{Word, unpacked_into};

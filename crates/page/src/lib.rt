@@ -1,4 +1,6 @@
 // A page's header, what its parameter is read as, the key that pages are the same by, and the part of its content that was received.
+#![tactic(auto)]
+
 ghost use Rattle.std.specs.Prelude.{◌≡◌, ◌+◌, ◌*◌};
 ghost use Rattle.page.specs.Paper.{header, header_octets, parameter_read, handed_part, handed_number};
 ghost use Rattle.page.specs.Coded.{key_of, heading_of, name_of, number_of_handing, part_of};
@@ -7,15 +9,15 @@ use refusals::Refusal;
 use sizes::{MESSAGE, whole_blocks};
 
 // A serial number.
-#[derive(Drop)]
+#[derive(Clone, Copy)]
 pub struct Serial(pub u16);
 
 // A message identifier, which no serial number stands for.
-#[derive(Drop)]
+#[derive(Clone, Copy)]
 pub struct MessageId(pub u16);
 
 // What the six header octets say.
-#[derive(Drop)]
+#[derive(Clone, Copy)]
 pub struct Header {
     pub serial: Serial,
     pub id: MessageId,
@@ -24,7 +26,7 @@ pub struct Header {
 }
 
 // What tells a page from others.
-#[derive(Drop)]
+#[derive(Clone, Copy)]
 pub struct PageName {
     pub serial: Serial,
     pub id: MessageId,
@@ -32,7 +34,7 @@ pub struct PageName {
 }
 
 // Whether a part was handed back.
-#[derive(Drop)]
+#[derive(Clone, Copy)]
 pub enum Handing {
     Handed,
     Refused(Refusal),

@@ -1,4 +1,6 @@
 // The entries for C that read a page's header, and tell whether its content can be handed back.
+#![tactic(auto)]
+
 ghost use Rattle.std.specs.Prelude.{◌≡◌};
 ghost use Rattle.page_calls.specs.Paper.{header_call, content_call};
 
@@ -7,8 +9,7 @@ use refusals::Refusal;
 use sizes::MESSAGE;
 
 // Reads a page's header: number + 2^8 × scheme + 2^16 × serial + 2^32 × identifier + 2^48 × parameter.
-#[unsafe(no_mangle)]
-pub extern "C" fn cb_read_header(page: &[u8]) -> u64
+pub fn cb_read_header(page: &[u8]) -> u64
     ensures { result ≡ header_call page.now }
 {
     if page.len() != MESSAGE {
@@ -20,8 +21,7 @@ pub extern "C" fn cb_read_header(page: &[u8]) -> u64
 }
 
 // Whether the content of what was received of a page can be handed back: the number.
-#[unsafe(no_mangle)]
-pub extern "C" fn cb_content(page: &[u8], received: usize) -> u32
+pub fn cb_content(page: &[u8], received: usize) -> u32
     ensures { result ≡ content_call page.now received }
 {
     let answer = page::content_answer(page, received);

@@ -1,4 +1,6 @@
 // Plans held by value, and whether they are good.
+#![tactic(auto)]
+
 ghost use Rattle.std.specs.Prelude.{◌≡◌, ◌≤◌, take};
 ghost use Rattle.refusals.specs.Number.{number_of};
 ghost use Rattle.plan.specs.Paper.{free, empty, bad, fault_of, plan_answer, plans_answer};
@@ -10,7 +12,7 @@ use refusals::Refusal;
 use sizes::SLOTS;
 
 // A slot as planned: kind 0 for optional, 1 for advised, 2 for a page.
-#[derive(Drop)]
+#[derive(Clone, Copy)]
 pub struct Entry {
     pub kind: u8,
     pub parameter: u8,
@@ -19,14 +21,14 @@ pub struct Entry {
 }
 
 // The slots as planned; entries past the count mean nothing.
-#[derive(Drop)]
+#[derive(Clone, Copy)]
 pub struct Plan {
     pub count: usize,
     pub entries: [Entry; SLOTS],
 }
 
 // What is said of a plan: it is good, or it is refused, with the number of the entry that 36 and 37 name; with other refusals that is 0.
-#[derive(Drop)]
+#[derive(Clone, Copy)]
 pub enum Verdict {
     Good,
     Refused(Refusal, u8),

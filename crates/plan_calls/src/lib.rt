@@ -1,4 +1,6 @@
 // The entries for C that take plans, as files: they read them, and write and check schedule messages beside them.
+#![tactic(auto)]
+
 ghost use Rattle.std.specs.Prelude.{◌≡◌, cond, ◌≤◌, eqb};
 ghost use Rattle.refusals.specs.Number.{number_of};
 ghost use Rattle.calls.specs.Paper.{in_one};
@@ -13,8 +15,7 @@ use sender::Sending;
 use sizes::{MESSAGE, SLOTS};
 
 // Reads a plan file: number + 256 × count, or the entry that the number names.
-#[unsafe(no_mangle)]
-pub extern "C" fn cb_read_plan(file: &[u8]) -> u32
+pub fn cb_read_plan(file: &[u8]) -> u32
     ensures { result ≡ plan_call file.now }
 {
     let reading = plan_read::read_plan(file);
@@ -43,13 +44,7 @@ fn first_refusal(current: Verdict, previous: Verdict) -> Verdict
 }
 
 // Writes the schedule message of a plan file, beside the file before it: number + 256 × used octets, or the entry that the number names.
-#[unsafe(no_mangle)]
-pub extern "C" fn cb_write_schedule(
-    current: &[u8],
-    previous: &[u8],
-    begin: usize,
-    out: &mut [u8],
-) -> u32
+pub fn cb_write_schedule(current: &[u8], previous: &[u8], begin: usize, out: &mut [u8]) -> u32
     ensures { record { returned = result; memory = out.new } ≡ write_schedule_call current.now previous.now begin out.old }
 {
     if out.len() != MESSAGE {
@@ -84,8 +79,7 @@ fn packed_checking(checking: Checking) -> u32
 }
 
 // Checks a schedule message beside two plan files, slot by slot: number + 256 × slot, or the entry that the number names.
-#[unsafe(no_mangle)]
-pub extern "C" fn cb_check_slots(
+pub fn cb_check_slots(
     current: &[u8],
     previous: &[u8],
     message: &[u8],
@@ -113,13 +107,7 @@ pub extern "C" fn cb_check_slots(
 }
 
 // Checks a schedule message beside two plan files: number + 256 × slot, or the entry that the number names.
-#[unsafe(no_mangle)]
-pub extern "C" fn cb_check_schedule(
-    current: &[u8],
-    previous: &[u8],
-    message: &[u8],
-    received: usize,
-) -> u32
+pub fn cb_check_schedule(current: &[u8], previous: &[u8], message: &[u8], received: usize) -> u32
     ensures { result ≡ check_schedule_call current.now previous.now message.now received }
 {
     let mut verdicts = [0u8; SLOTS];

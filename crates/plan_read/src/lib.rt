@@ -1,4 +1,6 @@
 // Plan files read.
+#![tactic(auto)]
+
 ghost use Rattle.std.specs.Prelude.{◌≡◌, ◌++◌, ◌+◌, ◌*◌, ◌-◌, ◌≤◌, length, get_or, drop, replicate};
 ghost use Rattle.refusals.specs.Number.{number_of};
 ghost use Rattle.page.specs.Paper.{octet};
@@ -20,7 +22,7 @@ pub const FRONT: usize = 6;
 pub const ENTRY: usize = 6;
 
 // What reading a plan file gives; with a refusal the plan is empty.
-#[derive(Drop)]
+#[derive(Clone, Copy)]
 pub struct Reading {
     pub verdict: Verdict,
     pub plan: Plan,

@@ -1,4 +1,6 @@
 // What a plan and the plan before it say of each slot.
+#![tactic(auto)]
+
 ghost use Rattle.std.specs.Prelude.{◌≡◌, map, ◌≤◌, min, eqb, length};
 ghost use Rattle.laws.specs.Search.{some, first_from};
 ghost use Rattle.plan.specs.Coded.{entry_of, entries_of, plan_of};
@@ -10,7 +12,7 @@ use plan::{Entry, Plan};
 use sizes::SLOTS;
 
 // What the plans say of a slot; where it is planned with no page, all but the kind is 0 or false.
-#[derive(Drop)]
+#[derive(Clone, Copy)]
 pub struct Planned {
     pub kind: u8,
     // the low 15 bits of the page's identifier

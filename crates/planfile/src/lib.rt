@@ -1,4 +1,6 @@
 // Plan files that a program's arguments name. What is wrong with one is said in a line on standard error.
+#![tactic(auto)]
+
 ghost use Rattle.std.specs.Prelude.{◌≡◌};
 ghost use Rattle.plan.specs.Paper.{plan_number};
 ghost use Rattle.plan.specs.Coded.{plan_of};
@@ -9,7 +11,7 @@ use plan::{Plan, Verdict};
 use refusals::Refusal;
 
 // A plan, and whether its file could be read and was not refused; the plan is empty otherwise.
-#[derive(Drop)]
+#[derive(Clone, Copy)]
 pub struct Taken {
     pub good: bool,
     pub plan: Plan,

@@ -1,4 +1,6 @@
 // Lines on standard error that say what refused something.
+#![tactic(auto)]
+
 ghost use Rattle.std.specs.Prelude.{◌≡◌};
 ghost use Rattle.refusals.specs.Number.{number_of};
 ghost use Rattle.lines.specs.Paper.{all_behind};

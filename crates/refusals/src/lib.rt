@@ -1,8 +1,10 @@
 // The refusals of the documents' table of numbers, each with its number.
+#![tactic(auto)]
+
 ghost use Rattle.std.specs.Prelude.{◌≡◌};
 ghost use Rattle.refusals.specs.Number.{number_of};
 
-#[derive(Drop)]
+#[derive(Clone, Copy)]
 pub enum Refusal {
     // piece not 23 octets
     PieceLength,

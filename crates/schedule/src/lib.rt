@@ -1,4 +1,6 @@
 // Schedule messages read: their header, their new bits, and what stands at an octet.
+#![tactic(auto)]
+
 ghost use Rattle.std.specs.Prelude.{◌≡◌, ◌≤◌, length};
 ghost use Rattle.laws.specs.Upto.{some_below};
 ghost use Rattle.schedule.specs.Paper.{octet_at, end as end_of, new as new_of, bounded, new_past, short, told};
@@ -12,7 +14,7 @@ use sizes::{MESSAGE, SLOTS, whole_blocks};
 pub const HEADER: usize = 8;
 
 // What a message tells of a slot.
-#[derive(Drop)]
+#[derive(Clone, Copy)]
 pub enum Description {
     // a first transmission, by the low 15 bits of its identifier
     First(u16),
@@ -22,14 +24,14 @@ pub enum Description {
     Advised,
 }
 
-#[derive(Drop)]
+#[derive(Clone, Copy)]
 pub struct Slot {
     pub new: bool,
     pub description: Description,
 }
 
 // What the reader answers: Begin and End, or a refusal.
-#[derive(Drop)]
+#[derive(Clone, Copy)]
 pub enum Reading {
     Read(usize, usize),
     Refused(Refusal),

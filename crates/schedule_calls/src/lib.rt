@@ -1,4 +1,6 @@
 // The entries for C that read a schedule message, Begin and End or one description; and descriptions as numbers.
+#![tactic(auto)]
+
 ghost use Rattle.std.specs.Prelude.{◌≡◌};
 ghost use Rattle.schedule.specs.Coded.{told_of};
 ghost use Rattle.schedule_calls.specs.Paper.{code_of, schedule_call, description_call};
@@ -19,8 +21,7 @@ pub fn code(description: Description) -> u32
 }
 
 // Reads a schedule message: number + 2^8 × Begin + 2^16 × End.
-#[unsafe(no_mangle)]
-pub extern "C" fn cb_read_schedule(message: &[u8], received: usize) -> u32
+pub fn cb_read_schedule(message: &[u8], received: usize) -> u32
     ensures { result ≡ schedule_call message.now received }
 {
     let answer = schedule_places::read_schedule(message, received);
@@ -31,8 +32,7 @@ pub extern "C" fn cb_read_schedule(message: &[u8], received: usize) -> u32
 }
 
 // Gives the description that stands after `place` others: number + 2^8 × slot + 2^16 × new bit + 2^32 × code.
-#[unsafe(no_mangle)]
-pub extern "C" fn cb_description(message: &[u8], received: usize, place: usize) -> u64
+pub fn cb_description(message: &[u8], received: usize, place: usize) -> u64
     ensures { result ≡ description_call message.now received place }
 {
     let answer = schedule_given::description_at(message, received, place);

@@ -1,4 +1,6 @@
 // The description that a schedule message has after a given number of others, with its slot.
+#![tactic(auto)]
+
 ghost use Rattle.std.specs.Prelude.{◌≡◌, true, false, ◌<◌, ◌≤◌, length};
 ghost use Rattle.laws.specs.Upto.{count};
 ghost use Rattle.schedule.specs.Paper.{end as end_of, grouped, slot_of, given};
@@ -9,7 +11,7 @@ use refusals::Refusal;
 use schedule::{Reading, Slot};
 
 // What the description reader answers: a slot by its number, no more, or a refusal.
-#[derive(Drop)]
+#[derive(Clone, Copy)]
 pub enum Given {
     Next(usize, Slot),
     NoMore,

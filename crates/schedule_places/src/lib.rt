@@ -1,4 +1,6 @@
 // Where the description of each slot of a schedule message starts.
+#![tactic(auto)]
+
 ghost use Rattle.std.specs.Prelude.{◌≡◌, ◌≤◌, length};
 ghost use Rattle.laws.specs.Upto.{some_below};
 ghost use Rattle.schedule.specs.Paper.{place as place_of, base, is_first, false_repeat, read};
@@ -12,7 +14,7 @@ use schedule::{Description, HEADER, Reading};
 use sizes::SLOTS;
 
 // Where the description of each slot starts, with the reader's answer; 0 for a slot that is not told of.
-#[derive(Drop)]
+#[derive(Clone, Copy)]
 pub struct Placed {
     pub answer: Reading,
     pub places: [u8; SLOTS],
@@ -95,7 +97,7 @@ fn new_bits(message: &[u8]) -> u64
 }
 
 // The place after a group of descriptions, or the refusal.
-#[derive(Drop)]
+#[derive(Clone, Copy)]
 enum Reach {
     To(usize),
     Refused(Refusal),
@@ -133,7 +135,7 @@ fn find_group(
 }
 
 // A description with the place after it, or one that passes the received octets.
-#[derive(Drop)]
+#[derive(Clone, Copy)]
 enum Step {
     Took(Description, usize),
     Past,

@@ -1,4 +1,6 @@
 // Schedule messages written from a plan and the plan before it.
+#![tactic(auto)]
+
 ghost use Rattle.std.specs.Prelude.{◌≡◌, ℕ, ◌≤◌, ◌<◌};
 ghost use Rattle.schedule.specs.Coded.{shown_of};
 ghost use Rattle.plan.specs.Coded.{plan_of};
@@ -17,7 +19,7 @@ use sizes::{MESSAGE, SLOTS};
 
 // What the writer answers: the octets that the message uses, or a refusal, with the number of the entry that 36 and 37 name; with other
 // refusals that is 0.
-#[derive(Drop)]
+#[derive(Clone, Copy)]
 pub enum Sending {
     Written(usize),
     Refused(Refusal, u8),

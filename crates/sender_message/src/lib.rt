@@ -1,4 +1,6 @@
 // Schedule messages that tell some slots: header, new bits, descriptions, 2B.
+#![tactic(auto)]
+
 ghost use Rattle.std.specs.Prelude.{◌≡◌, cond, ◌&&◌, [], ◌∷◌, ◌++◌, ◌+◌, ◌≤◌, ◌<◌, length};
 ghost use Rattle.std.proofs.lemmas.List.Edits.{sets};
 ghost use Rattle.sender_message.specs.Paper.{octets_of, octets_of_all, group, descriptions, new_bits, bitmap_of, used_part, write_message};
@@ -12,7 +14,7 @@ use sizes::{FILLER, MESSAGE, SLOTS};
 const ROOM: usize = 104;
 
 // What the writer answers: the used octets, or a refusal.
-#[derive(Drop)]
+#[derive(Clone, Copy)]
 pub enum Writing {
     Written(usize),
     Refused(Refusal),
@@ -137,6 +139,6 @@ pub fn write_message(slots: [Slot; SLOTS], count: usize, begin: usize, out: &mut
     if used > MESSAGE {
         return Writing::Refused(Refusal::DescriptionsTooLong);
     }
-    bytes::copy(&octets[..MESSAGE], out);
+    octets::copy(&octets[..MESSAGE], out);
     Writing::Written(used)
 }

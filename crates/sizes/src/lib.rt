@@ -1,4 +1,6 @@
 // The sizes that pages and schedule messages share, and which numbers of octets can be received of them.
+#![tactic(auto)]
+
 ghost use Rattle.std.specs.Prelude.{◌≡◌};
 ghost use Rattle.sizes.specs.Paper.{whole_blocks};
 

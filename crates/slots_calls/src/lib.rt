@@ -1,4 +1,6 @@
 // The entry for C that tells all slots of a schedule message in one reading.
+#![tactic(auto)]
+
 ghost use Rattle.std.specs.Prelude.{◌≡◌, length};
 ghost use Rattle.laws.specs.Upto.{each};
 ghost use Rattle.slots_calls.specs.Paper.{packed_slot, slots_call};
@@ -34,8 +36,7 @@ fn tell(message: &[u8], places: [u8; SLOTS], end: usize, slots: &mut [u32])
 }
 
 // Tells all slots of a schedule message, each as code + 2^16 × new bit: number + 2^8 × Begin + 2^16 × End.
-#[unsafe(no_mangle)]
-pub extern "C" fn cb_slots(message: &[u8], received: usize, slots: &mut [u32]) -> u32
+pub fn cb_slots(message: &[u8], received: usize, slots: &mut [u32]) -> u32
     ensures { record { returned = result; memory = slots.new } ≡ slots_call message.now received slots.old }
 {
     if slots.len() != SLOTS {

@@ -1,4 +1,6 @@
 // The entries for C that write and read text: numbers come back packed.
+#![tactic(auto)]
+
 ghost use Rattle.std.specs.Prelude.{◌≡◌};
 ghost use Rattle.text_calls.specs.Paper.{write_call, read_call};
 
@@ -7,8 +9,7 @@ use text_reader::Got;
 use text_writer::Written;
 
 // Writes a page of text: number + 256 × used octets.
-#[unsafe(no_mangle)]
-pub extern "C" fn cb_write_text(
+pub fn cb_write_text(
     serial: u16,
     identifier: u16,
     scheme: u8,
@@ -33,8 +34,7 @@ pub extern "C" fn cb_write_text(
 }
 
 // Reads the text of what was received of a page: number + 256 × characters.
-#[unsafe(no_mangle)]
-pub extern "C" fn cb_read_text(page: &[u8], received: usize, text: &mut [u16]) -> u32
+pub fn cb_read_text(page: &[u8], received: usize, text: &mut [u16]) -> u32
     ensures { record { returned = result; memory = text.new } ≡ read_call page.now received text.old }
 {
     let answer = text_reader::read_text(page, received, text);

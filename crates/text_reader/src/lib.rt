@@ -1,4 +1,6 @@
 // Text of the default alphabet and its extension read out of a page.
+#![tactic(auto)]
+
 mod reading;
 
 ghost use Rattle.std.specs.Prelude.{◌≡◌, ◌≤◌, length, replicate};
@@ -11,7 +13,7 @@ use refusals::Refusal;
 use text::PLACES;
 
 // The number of characters that were read.
-#[derive(Drop)]
+#[derive(Clone, Copy)]
 pub enum Got {
     Characters(usize),
     Refused(Refusal),

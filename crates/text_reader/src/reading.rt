@@ -4,7 +4,7 @@ ghost use Rattle.alphabet.specs.Paper.{alphabet, code_point};
 ghost use Rattle.text_reader.specs.Inner.{Next, Read, Readable, Remain, escaping};
 
 // A character, whether 1B stood before its septet, and the place after it.
-#[derive(Drop)]
+#[derive(Clone, Copy)]
 struct Decoded {
     point: u16,
     escaped: bool,

@@ -6,7 +6,7 @@ ghost use Rattle.text_writer.specs.Inner.{Addable, AddableAll, Spellable, Textua
 use text::PLACES;
 
 // An octet that is being filled: the bits that it has, what the lowest bit of the next septet counts in it, and its place.
-#[derive(Drop)]
+#[derive(Clone, Copy)]
 struct Filling {
     held: u32,
     weight: u32,

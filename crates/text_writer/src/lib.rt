@@ -1,4 +1,6 @@
 // Text of the default alphabet and its extension written into a page: looked through first, and then packed character by character.
+#![tactic(auto)]
+
 mod filling;
 
 ghost use Rattle.std.specs.Prelude.{◌≡◌, false, not, length};
@@ -15,14 +17,14 @@ use sizes::MESSAGE;
 use text::PLACES;
 
 // The used octets of a page that was written.
-#[derive(Drop)]
+#[derive(Clone, Copy)]
 pub enum Written {
     Used(usize),
     Refused(Refusal),
 }
 
 // What looking through a text finds: a character that neither table has, or how many septets there are.
-#[derive(Drop)]
+#[derive(Clone, Copy)]
 enum Found {
     Foreign,
     Septets(usize),
@@ -138,7 +140,7 @@ fn put_page(table: &[u8; 938], heading: Header, text: &[u16], count: usize, page
     ensures { page.new ≡ page_octets (heading_of heading) text.now }
 {
     let head = page::header_octets(heading);
-    bytes::copy(&head, page);
+    octets::copy(&head, &mut page[..6]);
     filling::pack(table, text, count, &mut page[6..]);
 }
 

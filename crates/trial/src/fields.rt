@@ -17,14 +17,14 @@ const NO_DIGIT: u8 = 16;
 const FULL: u64 = 0x0FFF_FFFF_FFFF_FFFF;
 
 // A number that was read, and the place after it.
-#[derive(Drop)]
+#[derive(Clone, Copy)]
 pub(crate) struct Number {
     pub(crate) value: u64,
     pub(crate) next: usize,
 }
 
 // A list that was read, as the number of its elements, and the place after it.
-#[derive(Drop)]
+#[derive(Clone, Copy)]
 pub(crate) struct List {
     pub(crate) count: usize,
     pub(crate) next: usize,

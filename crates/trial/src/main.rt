@@ -3,6 +3,8 @@
 //
 // Each argument names a file of results, one to a line, in the format of tests/second/README.md, "Stored results". An empty
 // line and one that starts with # hold no result.
+#![tactic(auto)]
+
 mod fields;
 mod pages;
 mod pieces;

@@ -14,7 +14,7 @@ const STATE: usize = 90;
 const STATE_FIELD: usize = 181;
 
 // A state, and the place after what a line tells before it.
-#[derive(Drop)]
+#[derive(Clone, Copy)]
 struct Left {
     state: State,
     next: usize,

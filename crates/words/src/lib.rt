@@ -1,4 +1,6 @@
 // The refusals of the documents' table of numbers, and the rules that a slot can break, in words, for whoever does not have them at hand.
+#![tactic(auto)]
+
 ghost use Rattle.std.specs.Prelude.{◌≡◌};
 ghost use Rattle.refusals.specs.Number.{number_of};
 ghost use Rattle.lines.specs.Paper.{behind};
