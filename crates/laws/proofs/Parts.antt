@@ -4,16 +4,9 @@ use Rattle.laws.proofs.Base.{◌<◌, get_or, list_get_d_append, get_or-append-a
 use Rattle.laws.proofs.Base.{suc-min-suc, arith, length, take, drop, replicate, length-append, length-drop, drop_of_length-le, take-length, length-take-le, take-nil}
 use borrow.Rule.Slice.PartMut.{mid_of, put_mid, Post-is, mid_len}
 
--- a source that is copied over memory of its length is what stands there
-pub copy_whole : (d s y : List ℕ) → length d ≤ length s → y ≡ take (length s) s ++ drop (length s) d → y ≡ s
-copy_whole d s y h q = q ∙ rw (take-length s, drop_of_length-le d h) (append-nil s)
-
 -- a source that is copied over a whole part stands there when the part is back
-pub put_copy : (a e : ℕ) (d s y : List ℕ) → a ≤ e → e ≤ length d → length s ≡ e - a
-    → y ≡ take (length s) s ++ drop (length s) (mid_of a (e - a) d) → put_mid a (e - a) d y ≡ take a d ++ (s ++ drop e d)
-put_copy a e d s y h g n q =
-    let long : length (mid_of a (e - a) d) ≤ length s = omega (arith, mid_len a e d g) in
-    rw (copy_whole (mid_of a (e - a) d) s y long q, Post-is a e d h)
+pub put_copy : (a e : ℕ) (d s y : List ℕ) → a ≤ e → e ≤ length d → y ≡ s → put_mid a (e - a) d y ≡ take a d ++ (s ++ drop e d)
+put_copy a e d s y h g q = rw (q, Post-is a e d h)
 
 -- the whole keeps its length where the part keeps its own
 pub length_part : (a k : ℕ) (d y : List ℕ) → a + k ≤ length d → length y ≡ length (take k (drop a d)) → length (take a d ++ (y ++ drop k (drop a d))) ≡ length d

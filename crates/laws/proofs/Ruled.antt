@@ -51,6 +51,7 @@ numbers f (t ∷ ts) = f t.1 && numbers f ts
 
 module _ (f : ℕ → Bool) where
   pub among_passes : (ts : List (Bool × ℕ)) → numbers f ts ≡ true → (n : ℕ) → Among n ts → f n ≡ true
+  among_passes [] e n x = elim x [ ]
   among_passes (t ∷ ts) e n (inl q) = rw q (both (f t.1) (numbers f ts) e).0
   among_passes (t ∷ ts) e n (inr a) = among_passes ts (both (f t.1) (numbers f ts) e).1 n a
 
