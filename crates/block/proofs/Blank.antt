@@ -24,6 +24,9 @@ module _ (xs : List ℕ) (i : ℕ) where
     pub all_blank_other : (get_or xs i 0 ≡ 0x2b → ⊥) → t ≡ (false && all_blank (drop (i + 1) xs))
     all_blank_other x = (rw (ne_eqb (get_or xs i 0) 0x2b x) at front) ∙ and-false b
 
+-- what a step of a walk over the octets needs
+pub ruleset blank_steps = (all_blank_same, all_blank_other)
+
 -- octets that are all 2B are a repeat of it
 pub all_blank_is : (xs : List ℕ) → all_blank xs ≡ true → xs ≡ replicate (length xs) 0x2b
 unfolding all_blank

@@ -1,18 +1,12 @@
 -- Laws of a message that is filled up with 2B, and of one block more in it.
 use Rattle.laws.proofs.Base.{◌≡◌, sym, ◌∙◌, List, ◌++◌, append_assoc, ℕ, ◌+◌, ◌*◌, ◌-◌, ◌≤◌, arith, length, take, drop, replicate, length-append, length-take, length-drop, drop-drop, take_all}
 use borrow.Rule.Slice.PartMut.{mid_of, put_mid}
-use Rattle.laws.proofs.Parts.{copy_whole, put_copy, drop_replicate}
+use Rattle.laws.proofs.Parts.{put_copy, drop_replicate}
 use Rattle.block.specs.Paper.{filled}
 
 -- what is lent from a place on is the rest
 pub rest_of : (a : ℕ) (s : List ℕ) → mid_of a (length s - a) s ≡ drop a s
 rest_of a s = take_all (length s - a) (drop a s) (simp length-drop (omega arith))
-
--- a rest that is copied over memory of its length is what stands there
-pub copied_rest : (a n : ℕ) (s d y : List ℕ) → length s ≡ a + n → length d ≡ n
-    → y ≡ take (length (mid_of a (length s - a) s)) (mid_of a (length s - a) s) ++ drop (length (mid_of a (length s - a) s)) d → y ≡ drop a s
-copied_rest a n s d y long size q =
-    rw (rest_of a s) at (copy_whole d (mid_of a (length s - a) s) y (rw (rest_of a s) (simp length-drop (omega arith))) q)
 
 module _ (t : ℕ) (o p : List ℕ) (room : t ≤ 3) (long : length o ≡ 88) (whole : length p ≡ 23)
     (rest : drop (22 * t) o ≡ replicate (88 - 22 * t) 0x2b) where
@@ -26,9 +20,5 @@ module _ (t : ℕ) (o p : List ℕ) (room : t ≤ 3) (long : length o ≡ 88) (w
       rw (tail, size) (sym (append_assoc (take (22 * t) o) (drop 1 p) (replicate (88 - 22 * t - 22) 0x2b)))
 
   -- the same for a content that is copied over the part lent
-  pub filled_copy : (y : List ℕ)
-      → y ≡ take (length (mid_of 1 (length p - 1) p)) (mid_of 1 (length p - 1) p) ++ drop (length (mid_of 1 (length p - 1) p)) (mid_of (22 * t) (22 * t + 22 - 22 * t) o)
-      → put_mid (22 * t) (22 * t + 22 - 22 * t) o y ≡ filled (take (22 * t) o ++ drop 1 p)
-  filled_copy y q =
-      let size : length (mid_of 1 (length p - 1) p) ≡ 22 * t + 22 - 22 * t = rw (rest_of 1 p) (simp length-drop (omega arith)) in
-      put_copy (22 * t) (22 * t + 22) o (mid_of 1 (length p - 1) p) y (omega arith) (omega arith) size q ∙ rw (rest_of 1 p) filled_next
+  pub filled_copy : (y : List ℕ) → y ≡ drop 1 p → put_mid (22 * t) (22 * t + 22 - 22 * t) o y ≡ filled (take (22 * t) o ++ drop 1 p)
+  filled_copy y q = put_copy (22 * t) (22 * t + 22) o (drop 1 p) y (omega arith) (omega arith) q ∙ filled_next

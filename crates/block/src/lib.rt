@@ -33,6 +33,7 @@ pub fn kind_number(kind: Kind) -> u8
 }
 
 // Whether octets are all 2B from the given one on. The whole rest is looked at, so that the loop has no early way out.
+#[tactic(auto, using(crate::proofs::Blank::blank_steps))]
 fn is_blank(octets: &[u8], from: usize) -> bool
     ensures { result ≡ all_blank (drop from octets.now) }
 {
@@ -48,6 +49,7 @@ fn is_blank(octets: &[u8], from: usize) -> bool
 }
 
 // Whether a state is one that start and intake leave.
+#[tactic(auto, using(std::proofs::lemmas::Bool::Decides::nat_tests), unfolding(crate::specs::Paper::proper))]
 pub fn is_proper(kind: u8, taken: u8, octets: &[u8]) -> bool
     ensures { result ≡ proper (state_with kind taken octets.now) }
 {
@@ -80,6 +82,7 @@ pub enum Place {
     Next(bool),
 }
 
+#[tactic(auto, using(std::proofs::lemmas::Bool::Decides::nat_tests), unfolding(crate::specs::Inner::place_of))]
 pub fn place_of(taken: u8, piece: &[u8]) -> Place
     ensures { placed result ≡ place_of taken piece.now }
 {
