@@ -5,7 +5,7 @@ ROOT = os.path.join(os.path.dirname(os.path.abspath(__file__)), '..', '..')
 
 # What stands in backquotes and is no name of ours: the client's documents by number, the C library, tools, what is shown or
 # typed, and forms of the language.
-FOREIGN = re.compile(r'0[\d.]+( .*)?|memcmp|copy_from_slice|read|write|close|rt|python3|CBP|hex|\\[nr]|PROGRAM --help|[A-Z]=.*|let \.\. else')
+FOREIGN = re.compile(r'0[\d.]+( .*)?|memcmp|copy_from_slice|rattle-kit-5b-plain|read|write|close|rt|python3|CBP|hex|\\[nr]|PROGRAM --help|[A-Z]=.*|let \.\. else')
 
 
 class Tree:
@@ -68,7 +68,7 @@ class Source:
         self.statements = {}  # by file: the text of each definition, record and signature
         self.declared = {}    # by file: the names of these, and of fields and constructors
         self.theorems = {}    # by file and name: the signature
-        self.names = set(self.needs)
+        self.names = {*self.needs, tree.text('KIT').strip()}
         for path in tree.match('crates/*/src/*.rt'):
             self.read_code(path.split('/')[1], tree.text(path))
         for path in tree.match('crates/*/specs/*.antt', 'crates/*/proofs/*.antt'):
