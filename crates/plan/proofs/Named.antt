@@ -1,5 +1,5 @@
 -- The entry that is named is the lowest bad one, and nothing else differs from document 01.
-use Rattle.laws.proofs.Base.{◌≡◌, refl, sym, ap, ◌∙◌, subst, Bool, true, false, false≢true, cond, not, ◌||◌, List, ◌⊎◌, inl, inr, ⊎_elim, ℕ, ◌-◌, ◌≤◌, arith, ltb, eqb, get_or}
+use Rattle.laws.proofs.Base.{◌≡◌, refl, sym, ap, ◌∙◌, subst, Bool, true, false, false≢true, cond, not, ◌||◌, List, inl, inr, ⊎_elim, ℕ, ◌-◌, ◌≤◌, arith, ltb, eqb, get_or}
 use Rattle.laws.proofs.Base.{ne_eqb, eqb-true, eqb-false, ltb-true, ltb-false, not-true, length-take, get_or-take}
 use Rattle.laws.specs.Search.{some}
 use Rattle.laws.proofs.Search.{Found, none_passes, first_passes, searched, some_found, found_some}
