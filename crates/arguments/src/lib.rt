@@ -4,12 +4,25 @@
 ghost use Rattle.std.specs.Prelude.{◌≡◌};
 ghost use Rattle.arguments.specs.Paper.{help_asked, asked_by};
 
+use std::env::FillError;
+use std::rt::Env;
+
 // What a program's arguments ask for.
 #[derive(Clone, Copy)]
 pub enum Asked {
     Work,
     Help,
     Usage,
+}
+
+// How many arguments a program has, its name included.
+pub fn count(rt: &impl Env) -> usize {
+    for i in 0..usize::MAX {
+        if let Err(FillError::NotPresent) = rt.arg(i, &mut []) {
+            return i;
+        }
+    }
+    usize::MAX
 }
 
 // Whether the one argument of a program is --help.

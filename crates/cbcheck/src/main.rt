@@ -18,26 +18,29 @@ use arguments::Asked;
 use checker::Checking;
 use checker_plans::Plans;
 use files::Opened;
-use libc::STDERR_FILENO;
 use refusals::Refusal;
 use sizes::{MESSAGE, SLOTS};
+use std::io::{Input, Print, Read};
+use std::rt::{Env, Files};
 
 // Room for the longest line of each piece of a chunk.
 const ROOM: usize = 146432;
 
-fn main() {
+fn main(rt: HostRuntime) {
     let mut word = io::buffer();
-    let length = os::arg(1, &mut word);
-    let asked = arguments::asked_for(os::arg_count(), &word[..length], 3, 4);
+    let length = rt.arg(1, &mut word).unwrap_or(0);
+    let asked = arguments::asked_for(arguments::count(&rt), &word[..length], 3, 4);
     match asked {
-        Asked::Work => check_named(),
-        Asked::Help => say_help(),
-        Asked::Usage => say_usage(),
+        Asked::Work => check_named(&rt, &rt.stdout(), &rt.stderr()),
+        Asked::Help => say_help(&rt.stdout(), &rt.stderr()),
+        Asked::Usage => say_usage(&rt.stderr()),
     }
 }
 
-fn say_help() {
+fn say_help(output: &impl Print, errors: &impl Print) {
     files::write_text(
+        output,
+        errors,
         b"cbcheck",
         b"usage: cbcheck CURRENT PREVIOUS [FILE]\n\
         Checks the schedule messages of a log of blocks, FILE or standard input, beside two plan files, a line for each message.\n\
@@ -47,40 +50,50 @@ fn say_help() {
     );
 }
 
-fn say_usage() {
-    io::write_all(
-        STDERR_FILENO,
-        b"cbcheck: usage: cbcheck CURRENT PREVIOUS [FILE]\n",
-    );
+fn say_usage(errors: &impl Print) {
+    let _ = errors.write_all(b"cbcheck: usage: cbcheck CURRENT PREVIOUS [FILE]\n");
 }
 
 // Checks the log that the third argument names, or standard input, beside the plan files that the first two name.
-fn check_named() {
-    let current = planfile::take(b"cbcheck", b"the current plan: ", 1);
+fn check_named<R: Env + Files + Input>(rt: &R, output: &impl Print, errors: &impl Print) {
+    let current = planfile::take(rt, errors, b"cbcheck", b"the current plan: ", 1);
     if !current.good {
         return;
     }
-    let previous = planfile::take(b"cbcheck", b"the previous plan: ", 2);
+    let previous = planfile::take(rt, errors, b"cbcheck", b"the previous plan: ", 2);
     if !previous.good {
         return;
     }
     let plan = current.plan;
     let older = previous.plan;
-    check_log(checker_plans::beside(plan, older));
+    check_log(rt, output, errors, checker_plans::beside(plan, older));
 }
 
-fn check_log(plans: Plans) {
+fn check_log<R: Env + Files + Input>(
+    rt: &R,
+    output: &impl Print,
+    errors: &impl Print,
+    plans: Plans,
+) {
     let mut name = io::buffer();
-    let opened = files::open_log(b"cbcheck", 3, &mut name);
-    if let Opened::File(fd, length) = opened {
-        list_opened(plans, &name[..length], fd);
+    let opened = files::open_log(rt, errors, b"cbcheck", 3, &mut name);
+    if let Opened::File(mut file, length) = opened {
+        list_opened(output, errors, plans, &name[..length], &mut file);
     }
 }
 
-fn list_opened(plans: Plans, name: &[u8], fd: i32) {
+fn list_opened(
+    output: &impl Print,
+    errors: &impl Print,
+    plans: Plans,
+    name: &[u8],
+    file: &mut impl Read,
+) {
     let mut state = logs::started();
     let mut out = lines_buffer();
-    list_all(plans, b"cbcheck", name, fd, &mut state, &mut out);
+    list_all(
+        output, errors, plans, b"cbcheck", name, file, &mut state, &mut out,
+    );
 }
 
 // Room for the lines of a chunk.
@@ -92,10 +105,12 @@ fn lines_buffer() -> [u8; ROOM]
 
 // Checks a log to its end, chunk after chunk. The lines and the state are left as after the last chunk; answers the length of its lines.
 fn list_all(
+    output: &impl Print,
+    errors: &impl Print,
     plans: Plans,
     program: &[u8],
     name: &[u8],
-    fd: i32,
+    file: &mut impl Read,
     state: &mut [u8],
     out: &mut [u8],
 ) -> usize
@@ -107,10 +122,10 @@ fn list_all(
     let mut number: u64 = 1;
     let mut end = 0;
     while number < logs::LAST {
-        let chunk = logs::read_chunk(program, name, fd, number, &mut log);
+        let chunk = logs::read_chunk(errors, program, name, file, number, &mut log);
         let octets = chunk.octets;
         end = list(plans, state, number, &log[..octets], &mut message, out);
-        if !logs::write_chunk(program, chunk, &out[..end]) {
+        if !logs::write_chunk(output, errors, program, chunk, &out[..end]) {
             return end;
         }
         number = chunk.next;

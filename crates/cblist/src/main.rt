@@ -12,22 +12,25 @@ ghost use Rattle.cblist.specs.Paper.{line, line_of, lines};
 
 use arguments::Asked;
 use files::Opened;
-use libc::STDERR_FILENO;
 use sizes::MESSAGE;
+use std::io::{Input, Print, Read};
+use std::rt::{Env, Files};
 
-fn main() {
+fn main(rt: HostRuntime) {
     let mut word = io::buffer();
-    let length = os::arg(1, &mut word);
-    let asked = arguments::asked_for(os::arg_count(), &word[..length], 1, 2);
+    let length = rt.arg(1, &mut word).unwrap_or(0);
+    let asked = arguments::asked_for(arguments::count(&rt), &word[..length], 1, 2);
     match asked {
-        Asked::Work => list_named(),
-        Asked::Help => say_help(),
-        Asked::Usage => say_usage(),
+        Asked::Work => list_named(&rt, &rt.stdout(), &rt.stderr()),
+        Asked::Help => say_help(&rt.stdout(), &rt.stderr()),
+        Asked::Usage => say_usage(&rt.stderr()),
     }
 }
 
-fn say_help() {
+fn say_help(output: &impl Print, errors: &impl Print) {
     files::write_text(
+        output,
+        errors,
         b"cblist",
         b"usage: cblist [FILE]\n\
         Lists a log of blocks, FILE or standard input: 23 octets are a block, and a shorter tail is a piece too.\n\
@@ -37,29 +40,37 @@ fn say_help() {
     );
 }
 
-fn say_usage() {
-    io::write_all(STDERR_FILENO, b"cblist: usage: cblist [FILE]\n");
+fn say_usage(errors: &impl Print) {
+    let _ = errors.write_all(b"cblist: usage: cblist [FILE]\n");
 }
 
 // Lists the log that the argument names, or standard input.
-fn list_named() {
+fn list_named<R: Env + Files + Input>(rt: &R, output: &impl Print, errors: &impl Print) {
     let mut name = io::buffer();
-    let opened = files::open_log(b"cblist", 1, &mut name);
-    if let Opened::File(fd, length) = opened {
-        list_opened(&name[..length], fd);
+    let opened = files::open_log(rt, errors, b"cblist", 1, &mut name);
+    if let Opened::File(mut file, length) = opened {
+        list_opened(output, errors, &name[..length], &mut file);
     }
 }
 
-fn list_opened(name: &[u8], fd: i32) {
+fn list_opened(output: &impl Print, errors: &impl Print, name: &[u8], file: &mut impl Read) {
     let mut state = logs::started();
     let mut text = io::large_buffer();
-    if files::write_text(b"cblist", b"block answer octets\n") {
-        list_all(b"cblist", name, fd, &mut state, &mut text);
+    if files::write_text(output, errors, b"cblist", b"block answer octets\n") {
+        list_all(output, errors, b"cblist", name, file, &mut state, &mut text);
     }
 }
 
 // Lists a log to its end, chunk after chunk. The text and the state are left as after the last chunk; answers the length of its lines.
-fn list_all(program: &[u8], name: &[u8], fd: i32, state: &mut [u8], text: &mut [u8]) -> usize
+fn list_all(
+    output: &impl Print,
+    errors: &impl Print,
+    program: &[u8],
+    name: &[u8],
+    file: &mut impl Read,
+    state: &mut [u8],
+    text: &mut [u8],
+) -> usize
     requires { (state.old ≡ lent start) × (length text.old ≡ 65536) }
     ensures { Continues line_of state.new text.new result }
 {
@@ -68,10 +79,10 @@ fn list_all(program: &[u8], name: &[u8], fd: i32, state: &mut [u8], text: &mut [
     let mut number: u64 = 1;
     let mut end = 0;
     while number < logs::LAST {
-        let chunk = logs::read_chunk(program, name, fd, number, &mut log);
+        let chunk = logs::read_chunk(errors, program, name, file, number, &mut log);
         let octets = chunk.octets;
         end = list(state, number, &log[..octets], &mut message, text);
-        if !logs::write_chunk(program, chunk, &text[..end]) {
+        if !logs::write_chunk(output, errors, program, chunk, &text[..end]) {
             return end;
         }
         number = chunk.next;

@@ -15,28 +15,31 @@ ghost use Rattle.cbtext.specs.Inner.{Handed, line_for};
 
 use arguments::Asked;
 use files::Opened;
-use libc::STDERR_FILENO;
 use page::{MessageId, Serial};
 use sizes::MESSAGE;
+use std::io::{Input, Print, Read};
+use std::rt::{Env, Files};
 use text::PLACES;
 use text_reader::Got;
 
 // Room for the longest line of each piece of a chunk.
 const ROOM: usize = 366592;
 
-fn main() {
+fn main(rt: HostRuntime) {
     let mut word = io::buffer();
-    let length = os::arg(1, &mut word);
-    let asked = arguments::asked_for(os::arg_count(), &word[..length], 1, 2);
+    let length = rt.arg(1, &mut word).unwrap_or(0);
+    let asked = arguments::asked_for(arguments::count(&rt), &word[..length], 1, 2);
     match asked {
-        Asked::Work => list_named(),
-        Asked::Help => say_help(),
-        Asked::Usage => say_usage(),
+        Asked::Work => list_named(&rt, &rt.stdout(), &rt.stderr()),
+        Asked::Help => say_help(&rt.stdout(), &rt.stderr()),
+        Asked::Usage => say_usage(&rt.stderr()),
     }
 }
 
-fn say_help() {
+fn say_help(output: &impl Print, errors: &impl Print) {
     files::write_text(
+        output,
+        errors,
         b"cbtext",
         b"usage: cbtext [FILE]\n\
         Shows the pages of a log of blocks, FILE or standard input, a line for each page that is complete.\n\
@@ -46,8 +49,8 @@ fn say_help() {
     );
 }
 
-fn say_usage() {
-    io::write_all(STDERR_FILENO, b"cbtext: usage: cbtext [FILE]\n");
+fn say_usage(errors: &impl Print) {
+    let _ = errors.write_all(b"cbtext: usage: cbtext [FILE]\n");
 }
 
 // Room for the lines of a chunk.
@@ -58,22 +61,30 @@ fn lines_buffer() -> [u8; ROOM]
 }
 
 // Shows the log that the argument names, or standard input.
-fn list_named() {
+fn list_named<R: Env + Files + Input>(rt: &R, output: &impl Print, errors: &impl Print) {
     let mut name = io::buffer();
-    let opened = files::open_log(b"cbtext", 1, &mut name);
-    if let Opened::File(fd, length) = opened {
-        list_opened(&name[..length], fd);
+    let opened = files::open_log(rt, errors, b"cbtext", 1, &mut name);
+    if let Opened::File(mut file, length) = opened {
+        list_opened(output, errors, &name[..length], &mut file);
     }
 }
 
-fn list_opened(name: &[u8], fd: i32) {
+fn list_opened(output: &impl Print, errors: &impl Print, name: &[u8], file: &mut impl Read) {
     let mut state = logs::started();
     let mut out = lines_buffer();
-    list_all(b"cbtext", name, fd, &mut state, &mut out);
+    list_all(output, errors, b"cbtext", name, file, &mut state, &mut out);
 }
 
 // Shows a log to its end, chunk after chunk. The lines and the state are left as after the last chunk; answers the length of its lines.
-fn list_all(program: &[u8], name: &[u8], fd: i32, state: &mut [u8], out: &mut [u8]) -> usize
+fn list_all(
+    output: &impl Print,
+    errors: &impl Print,
+    program: &[u8],
+    name: &[u8],
+    file: &mut impl Read,
+    state: &mut [u8],
+    out: &mut [u8],
+) -> usize
     requires { (state.old ≡ lent start) × (length out.old ≡ 366592) }
     ensures { Continues line_of state.new out.new result }
 {
@@ -82,10 +93,10 @@ fn list_all(program: &[u8], name: &[u8], fd: i32, state: &mut [u8], out: &mut [u
     let mut number: u64 = 1;
     let mut end = 0;
     while number < logs::LAST {
-        let chunk = logs::read_chunk(program, name, fd, number, &mut log);
+        let chunk = logs::read_chunk(errors, program, name, file, number, &mut log);
         let octets = chunk.octets;
         end = list(state, number, &log[..octets], &mut page, out);
-        if !logs::write_chunk(program, chunk, &out[..end]) {
+        if !logs::write_chunk(output, errors, program, chunk, &out[..end]) {
             return end;
         }
         number = chunk.next;

@@ -10,11 +10,12 @@ ghost use Rattle.cbwrite.specs.Inner.{typed};
 use arguments::Asked;
 use block::Kind;
 use block_writer::Sent;
-use libc::STDERR_FILENO;
 use plan::Plan;
 use refusals::Refusal;
 use sender::Sending;
 use sizes::MESSAGE;
+use std::io::Print;
+use std::rt::{Env, Files};
 
 // Begin as an argument tells it.
 #[derive(Clone, Copy)]
@@ -26,19 +27,21 @@ enum Begin {
 // Every Begin from here on is refused alike, so a longer one is read as this.
 const MOST: usize = 1000;
 
-fn main() {
+fn main(rt: HostRuntime) {
     let mut word = io::buffer();
-    let length = os::arg(1, &mut word);
-    let asked = arguments::asked_for(os::arg_count(), &word[..length], 4, 4);
+    let length = rt.arg(1, &mut word).unwrap_or(0);
+    let asked = arguments::asked_for(arguments::count(&rt), &word[..length], 4, 4);
     match asked {
-        Asked::Work => write_named(),
-        Asked::Help => say_help(),
-        Asked::Usage => say_usage(),
+        Asked::Work => write_named(&rt, &rt.stdout(), &rt.stderr()),
+        Asked::Help => say_help(&rt.stdout(), &rt.stderr()),
+        Asked::Usage => say_usage(&rt.stderr()),
     }
 }
 
-fn say_help() {
+fn say_help(output: &impl Print, errors: &impl Print) {
     files::write_text(
+        output,
+        errors,
         b"cbwrite",
         b"usage: cbwrite CURRENT PREVIOUS BEGIN\n\
         Writes the schedule message of a plan file, beside the plan file before it, to standard output.\n\
@@ -47,25 +50,21 @@ fn say_help() {
     );
 }
 
-fn say_usage() {
-    io::write_all(
-        STDERR_FILENO,
-        b"cbwrite: usage: cbwrite CURRENT PREVIOUS BEGIN\n",
-    );
+fn say_usage(errors: &impl Print) {
+    let _ = errors.write_all(b"cbwrite: usage: cbwrite CURRENT PREVIOUS BEGIN\n");
 }
 
 // Writes the blocks for the three arguments.
-fn write_named() {
+fn write_named<R: Env + Files>(rt: &R, output: &impl Print, errors: &impl Print) {
     let mut typed = io::buffer();
-    let length = os::arg(3, &mut typed);
-    if os::errno() != 0 {
-        say_usage();
+    let Ok(length) = rt.arg(3, &mut typed) else {
+        say_usage(errors);
         return;
-    }
+    };
     let begin = begin_of(&typed[..length]);
     match begin {
-        Begin::Number(number) => write_plans(number, &typed[..length]),
-        Begin::NoNumber => say_usage(),
+        Begin::Number(number) => write_plans(rt, output, errors, number, &typed[..length]),
+        Begin::NoNumber => say_usage(errors),
     }
 }
 
@@ -102,38 +101,51 @@ fn begin_of(digits: &[u8]) -> Begin
 }
 
 // Writes the blocks of the plan files that the first two arguments name, with Begin as it was typed.
-fn write_plans(begin: usize, typed: &[u8]) {
-    let current = planfile::take(b"cbwrite", b"the current plan: ", 1);
+fn write_plans<R: Env + Files>(
+    rt: &R,
+    output: &impl Print,
+    errors: &impl Print,
+    begin: usize,
+    typed: &[u8],
+) {
+    let current = planfile::take(rt, errors, b"cbwrite", b"the current plan: ", 1);
     if !current.good {
         return;
     }
-    let previous = planfile::take(b"cbwrite", b"the previous plan: ", 2);
+    let previous = planfile::take(rt, errors, b"cbwrite", b"the previous plan: ", 2);
     if !previous.good {
         return;
     }
     let plan = current.plan;
     let older = previous.plan;
-    write(plan, older, begin, typed);
+    write(output, errors, plan, older, begin, typed);
 }
 
-fn write(current: Plan, previous: Plan, begin: usize, typed: &[u8]) {
+fn write(
+    output: &impl Print,
+    errors: &impl Print,
+    current: Plan,
+    previous: Plan,
+    begin: usize,
+    typed: &[u8],
+) {
     let mut blocks = [0u8; 92];
     let answer = compose(current, previous, begin, &mut blocks);
     match answer {
         Sent::Done => {
-            files::write_text(b"cbwrite", &blocks);
+            files::write_text(output, errors, b"cbwrite", &blocks);
         }
-        Sent::Refused(refusal) => say_why(refusal, typed, current.count),
+        Sent::Refused(refusal) => say_why(errors, refusal, typed, current.count),
     }
 }
 
 // Says why nothing was written. A wrong Begin is told as it was typed.
-fn say_why(refusal: Refusal, typed: &[u8], count: usize) {
+fn say_why(errors: &impl Print, refusal: Refusal, typed: &[u8], count: usize) {
     let mut line = [0u8; files::NAMES];
     if let Refusal::BeginOrEnd = refusal {
-        refusal_lines::say_begin(b"cbwrite", typed, count, &mut line);
+        refusal_lines::say_begin(errors, b"cbwrite", typed, count, &mut line);
     } else {
-        refusal_lines::say_refused(b"cbwrite", b"", refusal, &mut line);
+        refusal_lines::say_refused(errors, b"cbwrite", b"", refusal, &mut line);
     }
 }
 

@@ -6,7 +6,7 @@ use Rattle.files.specs.declared.Filled.{Filled}
 use Rattle.files.specs.declared.Filled.TheVariants.{Octets, Fault}
 
 -- the octets that an opened file's name fills
-abbrev pub named : Opened → ℕ
+abbrev pub named : {S : Type 0} → Opened S → ℕ
 named (File fd n) = n
 named Nothing = 0
 

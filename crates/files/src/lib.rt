@@ -6,16 +6,47 @@ ghost use Rattle.lines.specs.Paper.{all_behind};
 ghost use Rattle.files.specs.Paper.{faulty};
 ghost use Rattle.files.specs.Inner.{named, filled};
 
-use libc::{STDIN_FILENO, STDOUT_FILENO};
+use std::env::FillError;
+use std::fmt;
+use std::fmt::Write;
+use std::fs::File;
+use std::io::{Error, Input, Print, Read, Result};
+use std::rt::{Env, Files};
 
 // Room for the names of a program and of a file.
 pub const NAMES: usize = 4200;
 
+// Room for the words of an error.
+const WORDS: usize = 256;
+
+// The system's numbers of three errors: no such argument, a name that is too long, and a name that is not UTF-8.
+const EINVAL: i32 = 22;
+
+const ENAMETOOLONG: i32 = 36;
+
+const EILSEQ: i32 = 84;
+
 // A file opened for reading, with the length of its name; or none.
-#[derive(Clone, Copy)]
-pub enum Opened {
-    File(i32, usize),
+#[derive(Drop)]
+pub enum Opened<S> {
+    File(S, usize),
     Nothing,
+}
+
+// What a log is read from: a file, or standard input.
+#[derive(Drop)]
+pub enum Source<F, I> {
+    File(F),
+    Input(I),
+}
+
+impl<F: Read, I: Read> Read for Source<F, I> {
+    fn read(&mut self, memory: &mut [u8]) -> Result<usize> {
+        match self {
+            Source::File(file) => file.read(memory),
+            Source::Input(input) => input.read(memory),
+        }
+    }
 }
 
 // What reading a file gave: so many octets before its end or that of the memory, or before a fault.
@@ -23,6 +54,45 @@ pub enum Opened {
 pub enum Filled {
     Octets(usize),
     Fault(usize),
+}
+
+// An error's words, and where they end.
+#[derive(Drop)]
+struct Words {
+    text: [u8; WORDS],
+    end: usize,
+}
+
+impl Write for Words {
+    fn write_str(&mut self, words: &str) -> fmt::Result {
+        self.end = lines::put(words.as_bytes(), &mut self.text, self.end);
+        Ok(())
+    }
+}
+
+// Says on standard error what the system refused, and behind it why.
+pub fn say(errors: &impl Print, what: &[u8], error: Error) {
+    let mut words = Words {
+        text: [0; WORDS],
+        end: 0,
+    };
+    let _ = write!(words, "{error}");
+    let _ = errors.write_all(what);
+    let _ = errors.write_all(b": ");
+    let _ = errors.write_all(unnumbered(first(&words.text, words.end)));
+    let _ = errors.write_all(b"\n");
+}
+
+// The words of an error without its number, which stands last and in brackets.
+fn unnumbered(words: &[u8]) -> &[u8] {
+    match words.iter().rposition(|octet| *octet == b'(') {
+        Some(at) => &words[..at.saturating_sub(1)],
+        None => words,
+    }
+}
+
+fn first(text: &[u8], count: usize) -> &[u8] {
+    text.get(..count).unwrap_or(text)
 }
 
 // Puts the name of a program and that of a thing that the system refused it, and answers where they end; a part that does not fit is left out.
@@ -35,75 +105,120 @@ fn put_fault(program: &[u8], name: &[u8], text: &mut [u8], at: usize) -> usize
 }
 
 // Says on standard error what the system refused a program, and behind it why. The names are put into lent memory; answers how long they are.
-pub fn say_fault(program: &[u8], name: &[u8], text: &mut [u8]) -> usize
+pub fn say_fault(
+    errors: &impl Print,
+    error: Error,
+    program: &[u8],
+    name: &[u8],
+    text: &mut [u8],
+) -> usize
     ensures { record { end = result; text = text.new } ≡ all_behind (faulty program.now name.now) 0 text.old }
 {
     let end = put_fault(program, name, text, 0);
-    os::fail(&text[..end]);
+    say(errors, &text[..end], error);
     end
 }
 
-fn fail(program: &[u8], name: &[u8]) {
+fn fail(errors: &impl Print, error: Error, program: &[u8], name: &[u8]) {
     let mut text = [0u8; NAMES];
-    say_fault(program, name, &mut text);
+    say_fault(errors, error, program, name, &mut text);
+}
+
+// Opens a file by its name. A name that is not UTF-8 is refused.
+pub fn open<R: Files>(rt: &R, name: &[u8]) -> Result<R::File> {
+    match std::str::from_utf8(name) {
+        Ok(path) => File::open(rt, path),
+        Err(_) => Err(Error::from_raw_os_error(EILSEQ)),
+    }
 }
 
 // Opens the file that argument i names, and leaves its name in lent memory.
-pub fn open_named(program: &[u8], i: usize, name: &mut [u8]) -> Opened
+pub fn open_named<R: Env + Files>(
+    rt: &R,
+    errors: &impl Print,
+    program: &[u8],
+    i: usize,
+    name: &mut [u8],
+) -> Opened<R::File>
     ensures { named result ≤ length name.old }
 {
-    let size = os::arg(i, name);
-    if os::errno() != 0 {
-        os::fail(program);
-        return Opened::Nothing;
+    let size = match rt.arg(i, name) {
+        Ok(size) => size,
+        Err(unfilled) => {
+            say(errors, program, Error::from_raw_os_error(number(unfilled)));
+            return Opened::Nothing;
+        }
+    };
+    match open(rt, &name[..size]) {
+        Ok(file) => Opened::File(file, size),
+        Err(error) => {
+            fail(errors, error, program, &name[..size]);
+            Opened::Nothing
+        }
     }
-    let fd = os::open_read(&name[..size]);
-    if fd < 0 {
-        fail(program, &name[..size]);
-        return Opened::Nothing;
+}
+
+// The number of the error where an argument is not to be had.
+fn number(unfilled: FillError) -> i32 {
+    match unfilled {
+        FillError::NotPresent => EINVAL,
+        FillError::TooLong => ENAMETOOLONG,
     }
-    Opened::File(fd, size)
 }
 
 // Opens the log that argument i names; where there is no such argument it is standard input.
-pub fn open_log(program: &[u8], i: usize, name: &mut [u8]) -> Opened
+pub fn open_log<R: Env + Files + Input>(
+    rt: &R,
+    errors: &impl Print,
+    program: &[u8],
+    i: usize,
+    name: &mut [u8],
+) -> Opened<Source<R::File, R::Reader>>
     ensures { named result ≤ length name.old }
 {
-    if i < os::arg_count() {
-        return open_named(program, i, name);
+    if let Err(FillError::NotPresent) = rt.arg(i, &mut []) {
+        let length = lines::put(b"standard input", name, 0);
+        return Opened::File(Source::Input(rt.reader()), length);
     }
-    Opened::File(STDIN_FILENO, lines::put(b"standard input", name, 0))
+    match open_named(rt, errors, program, i, name) {
+        Opened::File(file, length) => Opened::File(Source::File(file), length),
+        Opened::Nothing => Opened::Nothing,
+    }
 }
 
 // Fills memory from a file that was opened by a name. A read that fails is said.
-pub fn fill(program: &[u8], name: &[u8], fd: i32, memory: &mut [u8]) -> Filled
+pub fn fill(
+    errors: &impl Print,
+    program: &[u8],
+    name: &[u8],
+    file: &mut impl Read,
+    memory: &mut [u8],
+) -> Filled
     ensures { filled result ≤ length memory.old }
 {
     let mut have = 0;
     while have < memory.len() {
-        let got = libc::read(fd, &mut memory[have..]);
-        if got < 0 {
-            fail(program, name);
-            return Filled::Fault(have);
+        match file.read(&mut memory[have..]) {
+            Ok(0) => return Filled::Octets(have),
+            Ok(more) => have += more,
+            Err(error) => {
+                fail(errors, error, program, name);
+                return Filled::Fault(have);
+            }
         }
-        let more = io::count(got, &memory[have..]);
-        if more == 0 {
-            return Filled::Octets(have);
-        }
-        have += more;
     }
     Filled::Octets(have)
 }
 
 // Writes text to standard output, and answers whether all of it was written.
-pub fn write_text(program: &[u8], text: &[u8]) -> bool
+pub fn write_text(output: &impl Print, errors: &impl Print, program: &[u8], text: &[u8]) -> bool
     ensures { length text.now ≡ 0 → result ≡ true }
 {
     if text.len() == 0 {
         return true;
     }
-    if !io::write_all(STDOUT_FILENO, text) {
-        fail(program, b"standard output");
+    if let Err(error) = output.write_all(text) {
+        fail(errors, error, program, b"standard output");
         return false;
     }
     true

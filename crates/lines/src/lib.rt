@@ -22,7 +22,7 @@ pub fn put(octets: &[u8], text: &mut [u8], at: usize) -> usize
         return at;
     }
     let end = at + octets.len();
-    bytes::copy(octets, &mut text[at..end]);
+    text[at..end].copy_from_slice(octets);
     end
 }
 

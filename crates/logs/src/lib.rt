@@ -9,6 +9,7 @@ ghost use Rattle.logs.specs.Inner.{moved_on, ending_of, chunk_of, Reads};
 
 use files::Filled;
 use firmware::STATE;
+use std::io::{Print, Read};
 
 // A whole chunk of a log: 1,024 pieces.
 pub const WHOLE: usize = 23552;
@@ -42,10 +43,17 @@ pub fn started() -> [u8; STATE]
 }
 
 // Reads the chunk of a log whose first piece has a number. A read that fails in mid-piece is no tail: only the pieces before it are kept.
-pub fn read_chunk(program: &[u8], name: &[u8], fd: i32, number: u64, log: &mut [u8; WHOLE]) -> Chunk
+pub fn read_chunk(
+    errors: &impl Print,
+    program: &[u8],
+    name: &[u8],
+    file: &mut impl Read,
+    number: u64,
+    log: &mut [u8; WHOLE],
+) -> Chunk
     ensures { Reads number log.new result }
 {
-    let got = files::fill(program, name, fd, log);
+    let got = files::fill(errors, program, name, file, log);
     chunk_of(got, number, log)
 }
 
@@ -104,10 +112,16 @@ fn piece_count(octets: usize) -> u64
 }
 
 // Writes the lines of a chunk, and answers whether a chunk is to follow.
-pub fn write_chunk(program: &[u8], chunk: Chunk, text: &[u8]) -> bool
+pub fn write_chunk(
+    output: &impl Print,
+    errors: &impl Print,
+    program: &[u8],
+    chunk: Chunk,
+    text: &[u8],
+) -> bool
     ensures { (result ≡ true → chunk.ending ≡ Ending.More) × (length text.now ≡ 0 → chunk.ending ≡ Ending.More → result ≡ true) }
 {
-    if !files::write_text(program, text) {
+    if !files::write_text(output, errors, program, text) {
         return false;
     }
     let ending = chunk.ending;

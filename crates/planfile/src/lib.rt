@@ -9,6 +9,8 @@ ghost use Rattle.planfile.specs.Inner.{taken_of, taken, untaken};
 use files::{Filled, Opened};
 use plan::{Plan, Verdict};
 use refusals::Refusal;
+use std::io::{Print, Read};
+use std::rt::{Env, Files};
 
 // A plan, and whether its file could be read and was not refused; the plan is empty otherwise.
 #[derive(Clone, Copy)]
@@ -27,18 +29,25 @@ fn none_taken() -> Taken
 }
 
 // Says why a file is refused: by the entry that is named, or by the number's words.
-fn say_why(program: &[u8], about: &[u8], file: &[u8], refusal: Refusal, entry: u8) {
+fn say_why(
+    errors: &impl Print,
+    program: &[u8],
+    about: &[u8],
+    file: &[u8],
+    refusal: Refusal,
+    entry: u8,
+) {
     let mut line = [0u8; refusal_lines::LINE];
     if entry == 0 {
-        refusal_lines::say_refused(program, about, refusal, &mut line);
+        refusal_lines::say_refused(errors, program, about, refusal, &mut line);
     } else {
         let kind = plan_read::kind_of(file, entry);
-        refusal_lines::say_entry(program, about, refusal, entry, kind, &mut line);
+        refusal_lines::say_entry(errors, program, about, refusal, entry, kind, &mut line);
     }
 }
 
 // Takes the plan of a file's octets.
-fn take_octets(program: &[u8], about: &[u8], file: &[u8]) -> Taken
+fn take_octets(errors: &impl Print, program: &[u8], about: &[u8], file: &[u8]) -> Taken
     ensures { taken_of result ≡ taken file.now }
 {
     let reading = plan_read::read_plan(file);
@@ -47,35 +56,45 @@ fn take_octets(program: &[u8], about: &[u8], file: &[u8]) -> Taken
     match verdict {
         Verdict::Good => Taken { good: true, plan },
         Verdict::Refused(refusal, entry) => {
-            say_why(program, about, file, refusal, entry);
+            say_why(errors, program, about, file, refusal, entry);
             Taken { good: false, plan }
         }
     }
 }
 
 // Takes the plan of an open file. A plan file has at most 294 octets; one more is read, so that a longer file is seen to be long.
-fn take_open(program: &[u8], about: &[u8], fd: i32, path: &[u8]) -> Taken
+fn take_open(
+    errors: &impl Print,
+    program: &[u8],
+    about: &[u8],
+    source: &mut impl Read,
+    path: &[u8],
+) -> Taken
     ensures { plan_number (plan_of result.plan) ≡ 0 }
 {
     let mut file = [0u8; 295];
-    let got = files::fill(program, path, fd, &mut file);
+    let got = files::fill(errors, program, path, source, &mut file);
     match got {
-        Filled::Octets(count) => take_octets(program, about, &file[..count]),
+        Filled::Octets(count) => take_octets(errors, program, about, &file[..count]),
         Filled::Fault(_) => none_taken(),
     }
 }
 
 // Takes the plan of the file that argument i names. Whatever the file holds, the plan is a good one.
-pub fn take(program: &[u8], about: &[u8], i: usize) -> Taken
+pub fn take<R: Env + Files>(
+    rt: &R,
+    errors: &impl Print,
+    program: &[u8],
+    about: &[u8],
+    i: usize,
+) -> Taken
     ensures { plan_number (plan_of result.plan) ≡ 0 }
 {
     let mut path = io::buffer();
-    let opened = files::open_named(program, i, &mut path);
+    let opened = files::open_named(rt, errors, program, i, &mut path);
     match opened {
-        Opened::File(fd, length) => {
-            let taken = take_open(program, about, fd, &path[..length]);
-            libc::close(fd);
-            taken
+        Opened::File(mut file, length) => {
+            take_open(errors, program, about, &mut file, &path[..length])
         }
         Opened::Nothing => none_taken(),
     }

@@ -6,8 +6,8 @@ ghost use Rattle.refusals.specs.Number.{number_of};
 ghost use Rattle.lines.specs.Paper.{all_behind};
 ghost use Rattle.refusal_lines.specs.Paper.{numbered, refused, begin_refused, wrong_entry, entry_refused};
 
-use libc::STDERR_FILENO;
 use refusals::Refusal;
+use std::io::Print;
 
 // Room for the line of a refusal.
 pub const LINE: usize = 200;
@@ -33,11 +33,17 @@ fn put_named(program: &[u8], number: u8, text: &mut [u8], at: usize) -> usize
 }
 
 // Says on standard error what refused something, in a line that is made in lent memory. Answers the line's length.
-pub fn say_refused(program: &[u8], about: &[u8], refusal: Refusal, text: &mut [u8]) -> usize
+pub fn say_refused(
+    errors: &impl Print,
+    program: &[u8],
+    about: &[u8],
+    refusal: Refusal,
+    text: &mut [u8],
+) -> usize
     ensures { record { end = result; text = text.new } ≡ all_behind (refused program.now about.now (number_of refusal)) 0 text.old }
 {
     let end = put_refused(program, about, refusal, text, 0);
-    io::write_all(STDERR_FILENO, &text[..end]);
+    let _ = errors.write_all(&text[..end]);
     end
 }
 
@@ -54,11 +60,17 @@ fn put_begin(program: &[u8], begin: &[u8], count: usize, text: &mut [u8], at: us
 }
 
 // Says on standard error that a Begin is none of the current plan's slots, in a line that is made in lent memory. Answers the line's length.
-pub fn say_begin(program: &[u8], begin: &[u8], count: usize, text: &mut [u8]) -> usize
+pub fn say_begin(
+    errors: &impl Print,
+    program: &[u8],
+    begin: &[u8],
+    count: usize,
+    text: &mut [u8],
+) -> usize
     ensures { record { end = result; text = text.new } ≡ all_behind (begin_refused program.now begin.now count) 0 text.old }
 {
     let end = put_begin(program, begin, count, text, 0);
-    io::write_all(STDERR_FILENO, &text[..end]);
+    let _ = errors.write_all(&text[..end]);
     end
 }
 
@@ -98,6 +110,7 @@ fn put_entry(
 
 // Says on standard error what is wrong with an entry of a plan, in a line that is made in lent memory. Answers the line's length.
 pub fn say_entry(
+    errors: &impl Print,
     program: &[u8],
     about: &[u8],
     refusal: Refusal,
@@ -108,6 +121,6 @@ pub fn say_entry(
     ensures { record { end = result; text = text.new } ≡ all_behind (entry_refused program.now about.now (number_of refusal) entry kind) 0 text.old }
 {
     let end = put_entry(program, about, refusal, entry, kind, text);
-    io::write_all(STDERR_FILENO, &text[..end]);
+    let _ = errors.write_all(&text[..end]);
     end
 }

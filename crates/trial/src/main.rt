@@ -15,7 +15,8 @@ ghost use Rattle.std.specs.Prelude.{◌≡◌, ◌<◌, ◌≤◌, length};
 ghost use Rattle.trial.specs.Inner.{Within};
 
 use fields::UNREAD;
-use libc::STDOUT_FILENO;
+use std::io::{Print, Read};
+use std::rt::{Env, Files};
 use told::NO_VALUE;
 
 // The most octets of a file.
@@ -29,31 +30,33 @@ const UNREAD_ROW: usize = 9;
 // The results tried in each row, and after them those that differ.
 const COUNTS: usize = 20;
 
-fn main() {
+fn main(rt: HostRuntime) {
     let mut counts = [0u64; COUNTS];
-    let count = os::arg_count();
+    let count = arguments::count(&rt);
     let mut i = 1;
     while i < count {
-        try_argument(i, &mut counts);
+        try_argument(&rt, &rt.stdout(), &rt.stderr(), i, &mut counts);
         i += 1;
     }
-    print(b"what tried differ\n");
+    print(&rt.stdout(), &rt.stderr(), b"what tried differ\n");
     print_rows(
+        &rt.stdout(),
+        &rt.stderr(),
         b"pieces sequences contents packings alphabet schedules descriptions decisions entries unread ",
         &counts,
     );
 }
 
 // Prints the table's rows, each with its name.
-fn print_rows(names: &[u8], counts: &[u64; COUNTS]) {
+fn print_rows(output: &impl Print, errors: &impl Print, names: &[u8], counts: &[u64; COUNTS]) {
     let mut at = 0;
     let mut row = 0;
     while row < ROWS {
-        let end = bytes::scan::find(names, at, names.len(), b' ');
-        print(&names[at..end]);
-        print_number(counts[row]);
-        print_number(counts[ROWS + row]);
-        print(b"\n");
+        let end = find(names, at, b' ');
+        print(output, errors, &names[at..end]);
+        print_number(output, errors, counts[row]);
+        print_number(output, errors, counts[ROWS + row]);
+        print(output, errors, b"\n");
         if end == names.len() {
             return;
         }
@@ -62,27 +65,44 @@ fn print_rows(names: &[u8], counts: &[u64; COUNTS]) {
     }
 }
 
-// A space and a number.
-fn print_number(number: u64) {
-    let mut digits = [0u8; 20];
-    let count = io::decimal(number, &mut digits);
-    print(b" ");
-    print(&digits[..count]);
+// Where an octet stands first from a place on; the text's end, where it does not.
+fn find(text: &[u8], at: usize, octet: u8) -> usize
+    requires { at ≤ length text.now }
+    ensures { (at ≤ result) × (result ≤ length text.now) }
+{
+    match text[at..].iter().position(|here| *here == octet) {
+        Some(passed) => at + passed,
+        None => text.len(),
+    }
 }
 
-fn print(text: &[u8]) {
-    if !io::write_all(STDOUT_FILENO, text) {
-        os::fail(b"standard output");
+// A space and a number.
+fn print_number(output: &impl Print, errors: &impl Print, number: u64) {
+    let mut digits = [0u8; 20];
+    let count = io::decimal(number, &mut digits);
+    print(output, errors, b" ");
+    print(output, errors, &digits[..count]);
+}
+
+fn print(output: &impl Print, errors: &impl Print, text: &[u8]) {
+    if let Err(error) = output.write_all(text) {
+        files::say(errors, b"standard output", error);
     }
 }
 
 // Tries the file that an argument names.
-fn try_argument(i: usize, counts: &mut [u64; COUNTS]) {
+fn try_argument<R: Env + Files>(
+    rt: &R,
+    output: &impl Print,
+    errors: &impl Print,
+    i: usize,
+    counts: &mut [u64; COUNTS],
+) {
     let mut name = io::buffer();
-    let count = os::arg(i, &mut name);
+    let count = rt.arg(i, &mut name).unwrap_or(0);
     let mut text = file_room();
-    let length = read_file(&name[..count], &mut text);
-    try_lines(&name[..count], &text[..length], counts);
+    let length = read_file(rt, errors, &name[..count], &mut text);
+    try_lines(output, errors, &name[..count], &text[..length], counts);
 }
 
 fn file_room() -> [u8; FILE]
@@ -92,48 +112,70 @@ fn file_room() -> [u8; FILE]
 }
 
 // Reads a file, and answers how much of it there is: nothing, where it cannot be read or does not fit.
-fn read_file(name: &[u8], room: &mut [u8]) -> usize
+fn read_file(rt: &impl Files, errors: &impl Print, name: &[u8], room: &mut [u8]) -> usize
     ensures { Within result room.new }
 {
-    let file = os::open_read(name);
-    if file < 0 {
-        os::fail(name);
-        return 0;
-    }
-    let count = io::read_full(file, room);
-    libc::close(file);
+    let mut file = match files::open(rt, name) {
+        Ok(file) => file,
+        Err(error) => {
+            files::say(errors, name, error);
+            return 0;
+        }
+    };
+    let count = read_full(&mut file, room);
     if count == room.len() {
         return 0;
     }
     count
 }
 
+// Reads until a room is full or the file ends, and answers how much of it there is. A read that fails ends it too.
+fn read_full(file: &mut impl Read, room: &mut [u8]) -> usize
+    ensures { Within result room.new }
+{
+    let mut have = 0;
+    while have < room.len() {
+        match file.read(&mut room[have..]) {
+            Ok(0) => return have,
+            Ok(more) => have += more,
+            Err(_) => return have,
+        }
+    }
+    have
+}
+
 // Tries each line, and tells of those that differ; of a file with nothing in it as if it had a line 0.
-fn try_lines(name: &[u8], text: &[u8], counts: &mut [u64; COUNTS]) {
+fn try_lines(
+    output: &impl Print,
+    errors: &impl Print,
+    name: &[u8],
+    text: &[u8],
+    counts: &mut [u64; COUNTS],
+) {
     if text.len() == 0 {
         count_in(UNREAD_ROW, false, counts);
-        tell(name, 0);
+        tell(output, errors, name, 0);
     }
     let mut number: u64 = 1;
     let mut at = 0;
     while at < text.len() {
-        let end = bytes::scan::find(text, at, text.len(), b'\n');
+        let end = find(text, at, b'\n');
         if !try_line(&text[at..end], counts) {
-            tell(name, number);
+            tell(output, errors, name, number);
         }
         if end == text.len() {
             return;
         }
         at = end + 1;
-        number = std::num::wrapping_add_u64(number, 1);
+        number = number.wrapping_add(1);
     }
 }
 
 // Tells of a line that differs.
-fn tell(name: &[u8], number: u64) {
-    print(name);
-    print_number(number);
-    print(b"\n");
+fn tell(output: &impl Print, errors: &impl Print, name: &[u8], number: u64) {
+    print(output, errors, name);
+    print_number(output, errors, number);
+    print(output, errors, b"\n");
 }
 
 // Tries a line, and answers whether nothing differs. A line is right only where it is told to its end.
@@ -159,7 +201,7 @@ fn try_line(line: &[u8], counts: &mut [u64; COUNTS]) -> bool {
 fn row_of(letter: u8) -> usize
     ensures { result ≤ 9 }
 {
-    bytes::scan::find(b"IQCXASGDE", 0, 9, letter)
+    find(b"IQCXASGDE", 0, letter)
 }
 
 // How far a line is told by the entry of its letter.
@@ -207,5 +249,5 @@ fn count_in(row: usize, right: bool, counts: &mut [u64; COUNTS]) -> bool
 fn count(at: usize, counts: &mut [u64; COUNTS])
     requires { at < 20 }
 {
-    counts[at] = std::num::wrapping_add_u64(counts[at], 1);
+    counts[at] = counts[at].wrapping_add(1);
 }

@@ -77,7 +77,7 @@ fn is_packing(septets: &[u8; 93], page: &[u8; 88]) -> bool {
     if !check::same(&unpacked, septets) {
         return false;
     }
-    if bytes::scan::find(septets, 0, 93, ESCAPE) < 93 {
+    if septets.contains(&ESCAPE) {
         return true;
     }
     is_text(septets, page)

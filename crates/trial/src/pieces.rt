@@ -110,7 +110,7 @@ fn held_in(lent: &[u8]) -> State
     requires { length lent.now ≡ 90 }
 {
     let mut octets = [0u8; MESSAGE];
-    bytes::copy(&lent[2..], &mut octets);
+    octets.copy_from_slice(&lent[2..]);
     State {
         kind: lent[0],
         taken: lent[1],

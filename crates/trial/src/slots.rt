@@ -187,7 +187,7 @@ fn given_of(known: bool, message: &[u8], received: usize) -> Schedule
     requires { length message.now ≡ 88 }
 {
     let mut octets = [0u8; MESSAGE];
-    bytes::copy(message, &mut octets);
+    octets.copy_from_slice(message);
     Schedule {
         known,
         message: octets,
