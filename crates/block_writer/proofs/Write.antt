@@ -47,9 +47,7 @@ module _ (k : Kind) (used : ℕ) (m : List ℕ) (long : length m ≡ 88) where
         ∙ drop-drop 23 (23 * i) out₀
 
     -- the type octet x is set and the content is copied behind it: one block more
-    pub write_turn : (x : ℕ) (y : List ℕ) → x ≡ type_of k used i
-        → y ≡ take (length (mid_of (22 * i) (22 * i + 22 - 22 * i) m)) (mid_of (22 * i) (22 * i + 22 - 22 * i) m)
-        ++ drop (length (mid_of (22 * i) (22 * i + 22 - 22 * i) m)) (mid_of (23 * i + 1) (23 * i + 23 - (23 * i + 1)) (set out (23 * i) x))
+    pub write_turn : (x : ℕ) (y : List ℕ) → x ≡ type_of k used i → y ≡ mid_of (22 * i) (22 * i + 22 - 22 * i) m
         → put_mid (23 * i + 1) (23 * i + 23 - (23 * i + 1)) (set out (23 * i) x) y ≡ blocks k used m (i + 1) ++ drop (23 * (i + 1)) out₀
     unfolding blocks block
     write_turn x y t q =
@@ -61,6 +59,5 @@ module _ (k : Kind) (used : ℕ) (m : List ℕ) (long : length m ≡ 88) where
         let tail : drop (23 * i + 23) (set out (23 * i) x) ≡ drop (23 * i + 23) out₀ =
         drop-set-lt (23 * i + 23) out (23 * i) x (omega arith) ∙ back in
         put_copy (23 * i + 1) (23 * i + 23) (set out (23 * i) x) (mid_of (22 * i) (22 * i + 22 - 22 * i) m) y (omega arith)
-        (simp length-set (omega (arith, length_out)))
-        (simp (length-take, length-drop) (omega arith)) q
+        (simp length-set (omega (arith, length_out))) q
         ∙ rw (head, tail, n, add-one, e) (simp append_assoc)

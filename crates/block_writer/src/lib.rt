@@ -19,6 +19,7 @@ pub enum Sent {
 }
 
 // Writes the 88 octets of message as four blocks, marked as last from the block of the last used octet on.
+#[tactic(auto, using(std::proofs::lemmas::Bool::Decides::nat_tests), unfolding(crate::specs::Paper::written_blocks))]
 pub fn write_blocks(message: &[u8], kind: Kind, used: usize, out: &mut [u8]) -> Sent
     ensures { sent_of result out.new ≡ written_blocks message.now (kind_of kind) used out.old }
 {

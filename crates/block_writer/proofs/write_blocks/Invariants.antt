@@ -1,0 +1,11 @@
+-- `block_writer::write_blocks` meets its contract. The invariant: the blocks so far stand at the front, and the rest is as it was.
+use Rattle.laws.proofs.Base.{◌≡◌, ◌++◌, ◌*◌, ◌-◌, ◌≤◌, length, drop}
+use Rattle.block_writer.specs.Paper.{blocks}
+use Rattle.block.specs.Coded.{kind_of}
+use Rattle.block_writer.proofs.write_blocks.Given as goal
+
+abbrev pub invariant-loop-i : goal.invariant-loop-i
+invariant-loop-i l = (l.i ≤ 4) × (l.out ≡ blocks (kind_of l.kind) l.used l.message l.i ++ drop (23 * l.i) l.initial.out) × (length l.out ≡ 92)
+
+abbrev pub decreases-loop-i : goal.decreases-loop-i
+decreases-loop-i l = 4 - l.i
