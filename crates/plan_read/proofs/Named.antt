@@ -1,5 +1,5 @@
 -- The entry of a file that is named is its lowest bad one, and nothing else differs from document 01.
-use Rattle.laws.proofs.Base.{◌≡◌, refl, sym, ap, ◌∙◌, Bool, true, false, cond, List, ◌⊎◌, inl, inr, ⊎_elim}
+use Rattle.laws.proofs.Base.{◌≡◌, refl, sym, ap, ◌∙◌, Bool, true, false, cond, List, inl, inr, ⊎_elim}
 use Rattle.laws.proofs.Base.{ℕ, zero, suc, ◌+◌, ◌*◌, ◌-◌, ◌≤◌, ◌<◌, le_of_suc-le-suc, not-suc-le-zero, arith, get_or, take, drop, get_or-drop}
 use Rattle.laws.specs.Ruled.{ruled}
 use Rattle.laws.specs.Search.{some}
@@ -42,6 +42,7 @@ file_names_lowest_bad f = rw (file_entry f) (names_by (listed f) (read_plan f).n
     last n h (inr (inr (inl (e, t)))) = let never : ⊥ = omega arith in absurd never
     last n h (inr (inr (inr (inl (e, t))))) = let never : ⊥ = omega arith in absurd never
     last n h (inr (inr (inr (inr (inl (e, t)))))) = (t, e)
+    last n h (inr (inr (inr (inr (inr x5))))) = elim x5 [ ]
 
     why : Naming (read_plan f).number → (some bad (listed f) ≡ true) × ((read_plan f).number ≡ lowest_fault (listed f))
     why h =
