@@ -123,7 +123,7 @@ stand {h} {ps} p s = go (view p s)
 standing_from : {h : Held} {qs : Pieces} → Standing h qs → (ps : Pieces) → Standing (after h ps) (qs ++ ps)
 unfolding after
 standing_from {h} {qs} s [] = rw (append-nil qs) s
-standing_from {h} {qs} s (p ∷ ps) = rw (append_assoc qs (p ∷ []) ps) at (standing_from (stand p s) ps)
+standing_from {h} {qs} s (p ∷ ps) = rw (append_assoc qs (p ∷ []) ps) at (standing_from {h = (step h p).next} {qs = qs ++ (p ∷ [])} (stand p s) ps)
 
 -- from a started state, every state holds the latest pieces or nothing
 pub standing : (ps : Pieces) → Standing (after start ps) ps

@@ -1,5 +1,5 @@
 -- Laws of a set of slots held: case by case, and what entering a slot does to it.
-use Rattle.laws.proofs.Base.{◌≡◌, sym, ap, ◌∙◌, true, false, ◌&&◌, and-false, ◌⊎◌, ⊎_elim, ℕ, ◌+◌, ◌*◌, ◌-◌, ◌/◌, ◌%◌, ◌^◌, ◌≤◌, ◌<◌}
+use Rattle.laws.proofs.Base.{◌≡◌, sym, ap, ◌∙◌, true, false, ◌&&◌, and-false, ⊎_elim, ℕ, ◌+◌, ◌*◌, ◌-◌, ◌/◌, ◌%◌, ◌^◌, ◌≤◌, ◌<◌}
 use Rattle.laws.proofs.Base.{eq-or-lt_of_le, one-mul, zero-div, arith, eqb, leb, lit<, le-leb, lt-leb, eqb-true, eqb-false, eq-eqb}
 use lib.Pow.{shl_exact}
 use Rattle.laws.proofs.Tests.{true_or_false, le_or_lt}
