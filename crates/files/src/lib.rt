@@ -91,6 +91,7 @@ fn unnumbered(words: &[u8]) -> &[u8] {
     }
 }
 
+// The first octets of a text; the whole text, where it has no more.
 fn first(text: &[u8], count: usize) -> &[u8] {
     text.get(..count).unwrap_or(text)
 }

@@ -2,7 +2,7 @@
 use Rattle.laws.proofs.Base.{◌≡◌, refl, sym, ap, ◌∙◌, Bool, true, false, List, [], ◌∷◌, ◌++◌, append_assoc, append-nil, ℕ, ◌+◌, ◌-◌, ◌≤◌, ◌<◌, add-one, arith}
 use Rattle.laws.proofs.Base.{length, take, drop, set, length-take, length-drop, length-append, take_at, take-suc-set, leb, le-leb, lt-leb, leb-true, leb-false}
 use lib.Seq.{set_split}
-use borrow.Rule.Slice.PartMut.{mid_of, put_mid}
+use borrow.Rule.Slice.PartMut.{put_mid}
 use Rattle.laws.proofs.Parts.{put_copy}
 use Rattle.lines.specs as defs
 use defs.Paper.{PutLeft, behind}
@@ -32,10 +32,10 @@ module _ (s : List ℕ) (n : ℕ) (t : List ℕ) where
   behind_full h = rw (lt-leb _ _ h)
 
   -- octets copied over the part lent for them
-  pub behind_copy : (y : List ℕ) (e : ℕ) → n + length s ≤ length t → e ≡ n + length s → y ≡ take (length s) s ++ drop (length s) (mid_of n (e - n) t)
+  pub behind_copy : (y : List ℕ) (e : ℕ) → n + length s ≤ length t → e ≡ n + length s → y ≡ s
       → record { end = e; text = put_mid n (e - n) t y } ≡ behind s n t
   behind_copy y e h q r =
-      let whole = put_copy n e t s y (omega arith) (omega arith) (omega arith) r in
+      let whole = put_copy n e t s y (omega arith) (omega arith) r in
       let text : put_mid n (e - n) t y ≡ take n t ++ (s ++ drop (n + length s) t) = whole ∙ ap (λ (k : ℕ). take n t ++ (s ++ drop k t)) q in
       let put : ◌≡◌ {A = PutLeft} (record { end = e; text = put_mid n (e - n) t y }) (record { end = n + length s; text = take n t ++ (s ++ drop (n + length s) t) }) =
       λ i. record { end = q i; text = text i } in

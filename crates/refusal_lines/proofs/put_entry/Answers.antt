@@ -1,0 +1,16 @@
+-- `refusal_lines::put_entry` meets its contract: the parts of the line, one behind the other.
+use Rattle.refusals.specs.Number.{number_of}
+use Rattle.lines.specs.Paper.{ascii}
+use Rattle.lines.proofs.Texts.{and_then, and_others}
+use Rattle.refusal_lines.specs.Paper.{numbered}
+use Rattle.refusal_lines.proofs.put_entry.Goals as goal
+
+pub returns : goal.returns
+unfolding ascii
+returns c =
+    let a = c.args in
+    and_others (numbered a.program.now (number_of a.refusal)) _ 0 a.text.now (rw c.number.ensures at c.put_named-numbered.ensures)
+    (and_then _ _ _ _ c.put-told.ensures
+    (and_then _ _ _ _ c.put-led.ensures
+    (and_then _ _ _ _ c.put_number-counted.ensures
+    (and_then _ _ _ _ c.put-marked.ensures c.put_wrong.ensures))))

@@ -1,0 +1,13 @@
+-- `refusal_lines::put_refused` meets its contract: the parts of the line, one behind the other.
+use Rattle.refusals.specs.Number.{number_of}
+use Rattle.lines.specs.Paper.{ascii}
+use Rattle.lines.proofs.Texts.{and_then, and_last, and_others}
+use Rattle.refusal_lines.specs.Paper.{numbered}
+use Rattle.refusal_lines.proofs.put_refused.Goals as goal
+
+pub returns : goal.returns
+unfolding ascii
+returns c =
+    let a = c.args in
+    and_others (numbered a.program.now (number_of a.refusal)) _ a.at a.text.now (rw c.number.ensures at c.put_named-numbered.ensures)
+    (and_then _ _ _ _ c.put-told.ensures (and_then _ _ _ _ c.put_words-said.ensures (and_last _ _ _ c.put.ensures)))
