@@ -1,7 +1,8 @@
 -- Laws of septets that are read one character after another, and of the CRs dropped at the end.
-use Rattle.laws.proofs.Base.{◌≡◌, refl, sym, ap, ◌∙◌, Bool, true, false, and-false, List, [], ◌∷◌, ◌++◌, append_assoc, append-nil, map, map-append, ℕ, zero, suc, ◌+◌, ◌-◌, ◌<◌, ◌≤◌, add-one, le_refl}
+use Rattle.laws.proofs.Base.{◌≡◌, refl, sym, ap, ◌∙◌, inr, Bool, true, false, and-false, List, [], ◌∷◌, ◌++◌, append_assoc, append-nil, map, map-append, ℕ, zero, suc, ◌+◌, ◌-◌, ◌<◌, ◌≤◌, add-one, le_refl}
 use Rattle.laws.proofs.Base.{arith, length, get_or, set, take, drop, length-append, length-drop, length-take-le, drop-cons, drop_of_length-le, drop-length, length-map, take-append-le, take-suc-set, take-take, take-length, get_or-take, get_or-drop, list_get_d_map, eqb, eq-eqb, ne_eqb}
 use Rattle.laws.specs.Search.{some}
+use Rattle.laws.proofs.Search.{some_found, some_marked}
 use Rattle.laws.proofs.Map.{take_map}
 use Rattle.laws.proofs.Snoc.{each_snoc}
 use Rattle.laws.proofs.Tests.{le_or_lt}
@@ -9,7 +10,16 @@ use Rattle.alphabet.specs.Paper.{code_point, escape, pair_point}
 use Rattle.text.specs.Paper.{cr, Character, is_plain_cr, decoded, trimmed, shown, points}
 use Rattle.text.proofs.Septets.{decoded_plain}
 use Rattle.text.proofs.Trim.{trim_other, take_last, trim_at}
-use Rattle.text_reader.specs.Inner.{Next, Remain, Read}
+use Rattle.text_reader.specs.Inner.{Next, Remain, Read, escaping}
+
+-- a turn of the look for 1B
+pub escape_found : (s : List ℕ) (i : ℕ) → i < length s → get_or s i 0 ≡ escape → true ≡ escaping (take (i + 1) s)
+escape_found s i h e = sym (some_found (λ (x : ℕ). eqb x escape) 0 (i + 1) s i (omega arith) h (eq-eqb (get_or s i 0) escape e))
+
+pub escape_passed : (s : List ℕ) (i : ℕ) (a : Bool) → i < length s → a ≡ escaping (take i s) → (get_or s i 0 ≡ escape → ⊥) → a ≡ escaping (take (i + 1) s)
+escape_passed s i a h q e = some_marked (λ (x : ℕ). eqb x escape) 0 s i a a h q (inr (ne_eqb (get_or s i 0) escape e, refl))
+
+pub ruleset escape_steps = (escape_found, escape_passed)
 
 -- what stands at place i of septets s
 module _ (s : List ℕ) (i : ℕ) (h : i < length s) where

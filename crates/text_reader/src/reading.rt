@@ -76,6 +76,7 @@ fn read_each(points: &[u16; 128], septets: &[u8], text: &mut [u16]) -> usize
 }
 
 // Whether 1B is among some septets. The loop has no early way out, so that the compiler can take many at once.
+#[tactic(auto, using(crate::proofs::Nexts::escape_steps))]
 fn has_escape(septets: &[u8]) -> bool
     ensures { result ≡ escaping septets.now }
 {

@@ -1,7 +1,7 @@
 -- Laws of looking through a text: which characters have septets, and how many.
-use Rattle.laws.proofs.Base.{◌≡◌, refl, sym, ap, ◌∙◌, Bool, true, false, true≢false, false≢true, ◌&&◌, ⊎_elim, List, [], ◌∷◌, append-nil, ℕ, suc, ◌+◌, ◌*◌, ◌<◌, ◌≤◌, add-one, arith, eqb, leb, length, get_or, take, take-suc, take-length, length-append, lt-leb, leb-true, leb-false, ne_eqb}
+use Rattle.laws.proofs.Base.{◌≡◌, refl, sym, ap, ◌∙◌, Bool, true, false, true≢false, false≢true, ◌&&◌, inr, ⊎_elim, List, [], ◌∷◌, append-nil, ℕ, suc, ◌+◌, ◌*◌, ◌<◌, ◌≤◌, add-one, arith, eqb, leb, length, get_or, take, take-suc, take-length, length-append, lt-leb, le-leb, leb-true, leb-false, ne_eqb}
 use Rattle.laws.specs.Search.{some}
-use Rattle.laws.proofs.Search.{some_implies, some_agree, some_false, some_turn, some_found}
+use Rattle.laws.proofs.Search.{some_implies, some_agree, some_false, some_turn, some_found, some_marked}
 use Rattle.laws.proofs.Tests.{neither, true_or_false}
 use Rattle.alphabet.specs.Paper.{septet_of, no_septet, escape, pair_septet}
 use Rattle.alphabet.proofs.Laws.{found, past_table}
@@ -31,6 +31,15 @@ past_odd t e = odd_some t ∙ some_implies (leb 938) none (λ c h. rw (past_tabl
 -- where no character is past the table, each has an entry
 pub none_past : (t : List ℕ) (i : ℕ) → i < length t → past t ≡ false → get_or t i 0 < 938
 none_past t i h e = leb-false 938 (get_or t i 0) (some_false (leb 938) 0 t i h e)
+
+-- a turn of the look for a character past the table
+pub past_found : (t : List ℕ) (i : ℕ) → i < length t → 938 ≤ get_or t i 0 → true ≡ past (take (i + 1) t)
+past_found t i h e = sym (some_found (leb 938) 0 (i + 1) t i (omega arith) h (le-leb 938 (get_or t i 0) e))
+
+pub past_passed : (t : List ℕ) (i : ℕ) (a : Bool) → i < length t → a ≡ past (take i t) → get_or t i 0 < 938 → a ≡ past (take (i + 1) t)
+past_passed t i a h q e = some_marked (leb 938) 0 t i a a h q (inr (lt-leb 938 (get_or t i 0) e, refl))
+
+pub ruleset past_steps = (past_found, past_passed)
 
 -- the septets of a character, by what the tables have for it
 module _ (c : ℕ) where

@@ -61,6 +61,7 @@ fn is_plain(table: &[u8; 938], text: &[u16]) -> bool
 }
 
 // Whether some character is past the table. The loop has no early way out, so that the compiler can take many at once.
+#[tactic(auto, using(crate::proofs::Foreign::past_steps))]
 fn has_past(text: &[u16]) -> bool
     ensures { result ≡ past text.now }
 {
@@ -178,6 +179,7 @@ fn write_by(table: &[u8; 938], heading: Header, text: &[u16], page: &mut [u8]) -
 }
 
 // Writes a page of text, or refuses it and leaves the page as it is.
+#[tactic(auto, using(std::proofs::lemmas::Bool::Decides::nat_tests), unfolding(text::specs::Paper::written_page))]
 pub fn write_text(
     serial: Serial,
     id: MessageId,
