@@ -1,7 +1,7 @@
 -- Laws of a state in lent memory: two octets in front, and the 88 behind them.
 use Rattle.laws.proofs.Base.{◌≡◌, refl, sym, ap, ◌∙◌, Bool, true, false, cond, List, [], ◌∷◌, ◌++◌, ℕ, suc, ◌+◌, ◌*◌, ◌-◌}
 use Rattle.laws.proofs.Base.{◌≤◌, add-zero, add-one, arith, length, take, drop, set, length-drop, eqb, ne_eqb}
-use borrow.Rule.Slice.PartMut.{mid_of, put_mid}
+use borrow.Rule.Slice.PartMut.{put_mid}
 use Rattle.laws.proofs.Parts.{put_copy}
 use Rattle.block.specs.Paper.{Held, Given, filled, start, proper, refusal, added, step}
 use Rattle.block.specs.Inner.{Place, place_of, state_with, outcome, Adds}
@@ -26,15 +26,13 @@ drop_front (x ∷ y ∷ s) c n h =
     rw (past, up_to)
 
 -- a content that is copied behind those of the blocks taken
-pub put_content : (s p c y : List ℕ) (t : ℕ) → length s ≡ 90 → Adds t (drop 2 s) p → c ≡ drop 1 p
-    → y ≡ take (length c) c ++ drop (length c) (mid_of (2 + 22 * t) (2 + 22 * t + 22 - (2 + 22 * t)) s)
+pub put_content : (s p c y : List ℕ) (t : ℕ) → length s ≡ 90 → Adds t (drop 2 s) p → c ≡ drop 1 p → y ≡ c
     → drop 2 (put_mid (2 + 22 * t) (2 + 22 * t + 22 - (2 + 22 * t)) s y) ≡ filled (take (22 * t) (drop 2 s) ++ drop 1 p)
 put_content s p c y t long adds e q =
     let whole = adds.whole in
     let room = adds.room in
     let size : length (drop 2 s) ≡ 88 = length-drop 2 s ∙ omega arith in
-    let fits : length c ≡ 2 + 22 * t + 22 - (2 + 22 * t) = rw e (simp length-drop (omega arith)) in
-    ap (drop 2) (put_copy (2 + 22 * t) (2 + 22 * t + 22) s c y (omega arith) (omega arith) fits q)
+    ap (drop 2) (put_copy (2 + 22 * t) (2 + 22 * t + 22) s c y (omega arith) (omega arith) q)
     ∙ rw e (drop_front s (drop 1 p) (22 * t) (omega arith) ∙ filled_next t (drop 2 s) p room size whole adds.rest)
 
 module _ (last : Bool) (k t : ℕ) (s p o w : List ℕ) (content : w ≡ filled (take (22 * t) (drop 2 s) ++ drop 1 p)) where

@@ -15,6 +15,7 @@ use sizes::{CONTENT, FILLER, MESSAGE};
 pub const STATE: usize = 90;
 
 // Makes a state as it must be before the first piece.
+#[tactic(auto, using(std::proofs::lemmas::Bool::Decides::nat_tests), unfolding(crate::specs::Paper::start_call))]
 pub fn cb_start(state: &mut [u8]) -> u32
     ensures { record { number = result; state = state.new } ≡ start_call state.old }
 {
@@ -26,6 +27,7 @@ pub fn cb_start(state: &mut [u8]) -> u32
 }
 
 // Takes in one piece; a message that it completes is written to output.
+#[tactic(auto, using(std::proofs::lemmas::Bool::Decides::nat_tests), unfolding(crate::specs::Paper::intake_call))]
 pub fn cb_intake(state: &mut [u8], piece: &[u8], output: &mut [u8]) -> u32
     ensures { record { returned = result; state = state.new; output = output.new } ≡ intake_call state.old piece.now output.old }
 {
