@@ -5,7 +5,7 @@ use Rattle.laws.specs.Upto.{count}
 use Rattle.laws.proofs.Upto.{some_count, count_rest, count_more}
 use Rattle.laws.proofs.Tests.{true_or_false, le_or_lt}
 use borrow.Rule.Slice.PartMut.{mid_of, put_mid}
-use Rattle.laws.proofs.Parts.{copy_whole, put_copy, replaced_before, replaced_in, replaced_after}
+use Rattle.laws.proofs.Parts.{put_copy, replaced_before, replaced_in, replaced_after}
 use Rattle.page.specs.Paper.{header}
 use Rattle.page.proofs.Sameness.{read_halves}
 use Rattle.collector.specs.Paper.{page_number, page_total, page_place, total, received_of, held, missing, blank_page, blanks, start, begun, put, is_whole}
@@ -56,8 +56,7 @@ module _ (m₀ m : List ℕ) (from i : ℕ) (low : from ≤ i) (long : length m�
   blanked : List ℕ
   blanked = take (page_place from) m₀ ++ blanks (i - from)
 
-  pub blank_turn : (y : List ℕ) → i < 15 → length m ≡ 1340
-      → y ≡ take 89 blank_page ++ drop 89 (mid_of (page_place i) (page_place i + 89 - page_place i) m)
+  pub blank_turn : (y : List ℕ) → i < 15 → length m ≡ 1340 → y ≡ blank_page
       → put_mid (page_place i) (page_place i + 89 - page_place i) m y ≡ take (page_place from) m₀ ++ (blanks (i + 1 - from) ++ drop (page_place (i + 1)) m₀)
   unfolding blanked
   blank_turn y high size e =
@@ -69,7 +68,7 @@ module _ (m₀ m : List ℕ) (from i : ℕ) (low : from ≤ i) (long : length m�
       sym (drop-drop 89 (page_place i) m) ∙ ap (λ (x : List ℕ). drop 89 (drop (page_place i) x)) split
       ∙ ap (drop 89) (drop_at blanked (drop (page_place i) m₀) (page_place i) front) ∙ drop-drop 89 (page_place i) m₀ ∙ ap (λ (k : ℕ). drop k m₀) after in
       let more : suc (i - from) ≡ i + 1 - from = omega arith in
-      put_copy (page_place i) (page_place i + 89) m blank_page y (omega arith) (omega arith) (omega (arith, blank_length)) e
+      put_copy (page_place i) (page_place i + 89) m blank_page y (omega arith) (omega arith) e
       ∙ rw (head, rest)
       (append_assoc (take (page_place from) m₀) (blanks (i - from)) (blank_page ++ drop (page_place (i + 1)) m₀)
       ∙ ap (λ (x : List ℕ). take (page_place from) m₀ ++ x)
@@ -135,8 +134,8 @@ module _ (c p : List ℕ) (i n : ℕ) (long : length c ≡ 1340) (few : i < 15) 
       (λ j ne. ap (λ (r : ℕ). not (eqb r 0)) (put_other j ne))
 
 -- what is copied to the front of memory stands there
-pub copied_front : (s d y : List ℕ) (n : ℕ) → length s ≡ n → y ≡ take (length s) s ++ drop (length s) d → take n y ≡ s
-copied_front s d y n e q = ap (take n) (q ∙ ap (λ (x : List ℕ). x ++ drop (length s) d) (take-length s)) ∙ take_at s (drop (length s) d) n e
+pub copied_front : (s r y : List ℕ) (n : ℕ) → length s ≡ n → y ≡ s → take n (y ++ r) ≡ s
+copied_front s r y n e q = rw q (take_at s r n e)
 
 pub take_four : (p : List ℕ) → 4 ≤ length p → take 4 p ≡ get_or p 0 0 ∷ get_or p 1 0 ∷ get_or p 2 0 ∷ get_or p 3 0 ∷ []
 take_four [] h = absurd (omega arith)
@@ -146,19 +145,17 @@ take_four (a ∷ b ∷ c ∷ []) h = absurd (omega arith)
 take_four (a ∷ b ∷ c ∷ d ∷ p) h = refl
 
 -- a page that is copied into the place of its size
-module _ (p d y : List ℕ) (size : length p ≡ 88) (room : length d ≡ 88) (copied : y ≡ take (length (take 88 p)) (take 88 p) ++ drop (length (take 88 p)) d) where
+module _ (p y : List ℕ) (size : length p ≡ 88) (copied : y ≡ take 88 p) where
   pub copied_page : y ++ [] ≡ p
   copied_page =
-      let all : take 88 p ≡ p = ap (λ (k : ℕ). take k p) (sym size) ∙ take-length p in
-      append-nil y ∙ copy_whole d (take 88 p) y (omega (arith, ap length all)) copied ∙ all
+      append-nil y ∙ copied ∙ ap (λ (k : ℕ). take k p) (sym size) ∙ take-length p
 
   -- and then with its octets received into a collector
-  pub put_copied : (c z : List ℕ) (i n : ℕ) → length c ≡ 1340 → i < 15
-      → z ≡ take (length (n ∷ (y ++ []))) (n ∷ (y ++ [])) ++ drop (length (n ∷ (y ++ []))) (mid_of (page_place i) (page_place i + 89 - page_place i) c)
+  pub put_copied : (c z : List ℕ) (i n : ℕ) → length c ≡ 1340 → i < 15 → z ≡ n ∷ (y ++ [])
       → put_mid (page_place i) (page_place i + 89 - page_place i) c z ≡ put c i p n
   put_copied c z i n long few e =
       let after : page_place i + 89 ≡ page_place (suc i) = omega arith in
-      put_copy (page_place i) (page_place i + 89) c (n ∷ (y ++ [])) z (omega arith) (omega arith) (omega (arith, ap length copied_page)) e ∙ rw (copied_page, after)
+      put_copy (page_place i) (page_place i + 89) c (n ∷ (y ++ [])) z (omega arith) (omega arith) e ∙ rw (copied_page, after)
 
 -- those missing are the rest
 pub missing_rest : (c : List ℕ) (t : ℕ) → count (missing c) t + count (held c) t ≡ t

@@ -1,7 +1,8 @@
 -- Laws of proper collectors: the turns and ends of the loop that looks at each page.
-use Rattle.laws.proofs.Base.{◌≡◌, sym, ap, ◌∙◌, true, false, not, and-true, and-false, List, ℕ, suc, ◌+◌, ◌≤◌, ◌<◌, add-one, arith, ne_eqb, le-leb, lt-leb, le-ltb, lt-ltb}
+use Rattle.laws.proofs.Base.{◌≡◌, sym, ap, ◌∙◌, true, false, cond, not, and-true, and-false, List, ℕ, suc, ◌+◌, ◌≤◌, ◌<◌, add-one, arith, eqb, ltb, eqb-true, eqb-false, ltb-true, ltb-false, ne_eqb, le-leb, lt-leb, le-ltb, lt-ltb}
 use Rattle.laws.specs.Upto.{some_below, count}
 use Rattle.laws.proofs.Upto.{some_at, some_false, some_count, count_none, count_yes, count_no, count_stops}
+use Rattle.laws.proofs.Tests.{true_or_false}
 use Rattle.sizes.specs.Paper.{whole_blocks}
 use Rattle.collector.specs.Paper.{total, received_of, held, missing, wrong, proper}
 use Rattle.collector.specs.Inner.{pages_in}
@@ -80,3 +81,37 @@ module _ (c : List ℕ) where
             ne_eqb (count (held c) (total c)) 0 (λ e. n (omega arith)),
           )
           (ap suc held_within)
+
+-- what the tests behind the loop make of a total t and of k pages counted
+abbrev pub told_of : ℕ → ℕ → ℕ
+told_of t k = cond (eqb t 0) 1 (cond (ltb 15 t) 0 (cond (eqb k 0) 0 (cond (eqb k t) 0 (suc k))))
+
+-- where no page is wrong, that is how many a proper collector holds
+told_held : (c : List ℕ) (k : ℕ) → some_below (wrong c) 15 ≡ false → k ≡ count (held c) 15 → told_of (total c) k ≡ pages_in c
+told_held c k right e =
+    true_or_false (eqb (total c) 0)
+    (λ a. rw a (pages_none c right (eqb-true (total c) 0 a)))
+    (λ a.
+    let some = eqb-false (total c) 0 a in
+    rw a
+    (true_or_false (ltb 15 (total c))
+    (λ b. rw b (pages_over c right (ltb-true 15 (total c) b)))
+    (λ b.
+    let most = ltb-false 15 (total c) b in
+    rw b
+    (true_or_false (eqb k 0)
+    (λ d. rw d (pages_empty c right some most (sym (eqb-true k 0 d) ∙ e)))
+    (λ d.
+    rw d
+    (true_or_false (eqb k (total c))
+    (λ f. rw f (pages_whole c right some most (sym (eqb-true k (total c) f) ∙ e)))
+    (λ f.
+    rw (f, e)
+    (pages_some c right some most
+    (λ z. eqb-false k 0 d (e ∙ z)) (λ z. eqb-false k (total c) f (e ∙ z))))))))))
+
+-- at the loop's end all fifteen pages are looked at
+pub told_at : (c : List ℕ) (k i : ℕ) → i ≤ 15 → some_below (wrong c) i ≡ false → k ≡ count (held c) i → 15 ≤ i → told_of (total c) k ≡ pages_in c
+told_at c k i low right e high =
+    let q : i ≡ 15 = omega arith in
+    told_held c k (rw q at right) (rw q at e)

@@ -89,6 +89,7 @@ enum Pages {
 }
 
 // How many pages are held, if the collector is proper.
+#[tactic(auto, using(std::proofs::lemmas::Bool::Decides::nat_tests))]
 fn held_pages(collector: &[u8]) -> Pages
     requires { length collector.now ≡ 1340 }
     ensures { pages_of result ≡ pages_in collector.now }

@@ -1,6 +1,6 @@
 -- Answers that meet a contract of `descriptions` are equal.
 use denote.Ref.{Bor}
-use Rattle.laws.proofs.Base.{◌≡◌, refl, sym, ap, ◌∙◌, cond, List, ℕ, eqb, RefT, now, ne_eqb}
+use Rattle.laws.proofs.Base.{◌≡◌, refl, sym, ap, ◌∙◌, cond, List, ℕ, eqb, ne_eqb}
 use Rattle.laws.proofs.Map.{map_injective}
 use Rattle.refusals.specs.Number.{number_of}
 use Rattle.refusals.proofs.Inverse.{refusal_of, refusal_of_number_of, number_of_positive}
@@ -38,7 +38,7 @@ determined_open m received r s a b =
 
 pub determined_next : (d : Descriptions) (r s : GivenCode) (e f : Descriptions) → called_of r e ≡ called d → called_of s f ≡ called d → (r ≡ s) × (e ≡ f)
 determined_next d r s e f a b = (
-  determined_description_at (now d.message) d.received d.place r s (ap (λ (c : Called). c.given) a) (ap (λ (c : Called). c.given) b),
+  determined_description_at d.message.now d.received d.place r s (ap (λ (c : Called). c.given) a) (ap (λ (c : Called). c.given) b),
   ap (λ (c : Called). c.left) (a ∙ sym b),
 )
 

@@ -1,5 +1,4 @@
 -- What `descriptions` proves.
-pub mod Held
 pub mod Determined
 pub mod Stepping
 pub mod Giving
