@@ -320,7 +320,7 @@ module _ (x : Notice) (p o u : List ℕ) (few : x.total ≤ 15) (room : length o
 -- the quiet of a beginning
 quiet_before : (x : Notice) (p o : List ℕ) (h : block.Held) (ts : List Sending) (t : Sending) → Quiet x p o h (ts ++ (t ∷ [])) → Quiet x p o h ts
 quiet_before x p o h [] t q = tt
-quiet_before x p o h (s ∷ ts) t q = (q.0, quiet_before x p o _ ts t q.1)
+quiet_before x p o h (s ∷ ts) t q = (q.0, quiet_before x p o (pieces.after h (s.between ++ blocks_of x p o s.page)) ts t q.1)
 
 -- a list of pages that is split comes from one of numbers that is
 record Parts (f : ℕ → Offered) (is : List ℕ) (older : List Offered) (g : Offered) : Type 0 where

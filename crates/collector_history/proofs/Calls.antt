@@ -269,6 +269,7 @@ module _ (a : Offered) (s : List Offered) (all : All (Of a) (a ∷ s)) where
 together_of : (gs r : List Offered) (g : Offered) → Together r g → ((b : Offered) → In b r → In b gs) → all_came r (its_total g) ≡ true
     → (total (laid r) ≡ its_total g) × ((i : ℕ) → i < its_total g → OfMessage gs (laid r) i)
 unfolding laid
+together_of gs [] g x3 from there = elim x3 [ ]
 together_of gs (a ∷ s) g (together all e) from there = (
   e,
   λ i l. laid_of a s all gs from i (omega arith) (all_there (a ∷ s) (its_total g) there i l),

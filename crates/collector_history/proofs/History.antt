@@ -192,6 +192,7 @@ told s g =
 
 settled_together : (r : List Offered) (g : Offered) → Together r g → settled (laid r)
     ≡ cond (all_came r (its_total g)) (record { number = 0; pages = its_total g; next = start; message = laid r }) (record { number = 1; pages = 0; next = laid r; message = [] })
+settled_together [] g x' = elim x' [ ]
 settled_together (a ∷ s) g (together all e) =
     settled_laid a s all
     ∙ ap (λ (t : ℕ). cond (all_came (a ∷ s) t) (record { number = 0; pages = t; next = start; message = laid (a ∷ s) }) (record { number = 1; pages = 0; next = laid (a ∷ s); message = [] })) e
@@ -207,6 +208,7 @@ taken_told s g x =
 
 -- pages that are not all there are standing
 left_standing : (r : List Offered) (g : Offered) → Together r g → all_came r (its_total g) ≡ false → Standing r
+left_standing [] g x'' m = elim x'' [ ]
 left_standing (a ∷ s) g (together all e) m = some_came all (ap (λ (t : ℕ). all_came (a ∷ s) t) e ∙ m)
 
 pub counting_standing : (s : List Offered) (g : Offered) → Standing s → Standing (counting s g)

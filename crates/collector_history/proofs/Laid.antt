@@ -29,6 +29,7 @@ pub record Split (a : Offered) (s : List Offered) : Type 0 where
   pub split : s ≡ older ++ (a ∷ newer)
 
 pub in_split : (a : Offered) (s : List Offered) → In a s → Split a s
+in_split a [] x' = elim x' [ ]
 in_split a (b ∷ s) (inl e) = record { older = []; newer = s; split = ap (λ (x : Offered). x ∷ s) e }
 in_split a (b ∷ s) (inr h) =
     let w = in_split a s h in
@@ -40,6 +41,7 @@ in_append a (b ∷ r) s (inl e) = inl (inl e)
 in_append a (b ∷ r) s (inr h) = ⊎_elim (λ l. inl (inr l)) inr (in_append a r s h)
 
 pub in_before : (a : Offered) (r s : List Offered) → In a r → In a (r ++ s)
+in_before a [] s x' = elim x' [ ]
 in_before a (b ∷ r) s (inl e) = inl e
 in_before a (b ∷ r) s (inr h) = inr (in_before a r s h)
 
