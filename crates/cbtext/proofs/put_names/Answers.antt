@@ -1,0 +1,9 @@
+-- `cbtext::put_names` meets its contract: the number, and the two names with the octet between them.
+use Rattle.lines.specs.Paper.{marked}
+use Rattle.lines.proofs.Texts.{and_then, and_last, and_others}
+use Rattle.cbtext.proofs.put_names.Goals as goal
+
+pub returns : goal.returns
+returns c =
+    and_others (marked _ _) _ _ _ c.put_marked-a.ensures
+    (and_then _ _ _ _ c.put_hex-b.ensures (and_then _ _ _ _ c.put_octet-c.ensures (and_last _ _ _ c.put_hex.ensures)))
