@@ -5,7 +5,7 @@ ROOT = os.path.join(os.path.dirname(os.path.abspath(__file__)), '..', '..')
 
 # What stands in backquotes and is no name of ours: the client's documents by number, the C library, tools, what is shown or
 # typed, and forms of the language.
-FOREIGN = re.compile(r'0[\d.]+( .*)?|memcmp|read|write|close|rt|python3|CBP|hex|\\[nr]|PROGRAM --help|[A-Z]=.*|let \.\. else')
+FOREIGN = re.compile(r'0[\d.]+( .*)?|memcmp|copy_from_slice|rattle-kit-5b-plain|read|write|close|rt|python3|CBP|hex|\\[nr]|PROGRAM --help|[A-Z]=.*|let \.\. else')
 
 
 class Tree:
@@ -13,7 +13,7 @@ class Tree:
     def __init__(self):
         self.texts, self.paths, self.matches = {}, set(), {}
         for folder, folders, files in os.walk(ROOT):
-            folders[:] = [name for name in folders if name not in ('.git', 'target', '__pycache__')]
+            folders[:] = [name for name in folders if name not in ('.git', 'target', 'out', '__pycache__')]
             self.paths |= {os.path.relpath(os.path.join(folder, name), ROOT) for name in folders + files}
 
     def text(self, path):
@@ -60,12 +60,15 @@ def items(text):
 class Source:
     def __init__(self, tree):
         lines = [line.split(':') for line in tree.text('crates.txt').splitlines() if line and line[0] != '#']
-        self.tree, self.needs = tree, {crate: [n for n in needs.split() if n in dict(lines)] for crate, needs in lines}
+        lines = [(crate.split(), needs.split()) for crate, needs in lines]
+        crates = {crate[0] for crate, _ in lines}
+        self.tree, self.needs = tree, {crate[0]: [n for n in needs if n in crates] for crate, needs in lines}
+        self.exports = {crate[0]: {} for crate, _ in lines if crate[1:]}  # of crates that hand calls to C: each call's contract
         self.functions = {}   # by name with its crate: whether it is public, and its contract
         self.statements = {}  # by file: the text of each definition, record and signature
         self.declared = {}    # by file: the names of these, and of fields and constructors
         self.theorems = {}    # by file and name: the signature
-        self.names = set(self.needs)
+        self.names = {*self.needs, tree.text('KIT').strip()}
         for path in tree.match('crates/*/src/*.rt'):
             self.read_code(path.split('/')[1], tree.text(path))
         for path in tree.match('crates/*/specs/*.antt', 'crates/*/proofs/*.antt'):
@@ -80,12 +83,16 @@ class Source:
         # A definition with the name of a function is imported under another; documents call it by its own.
         aliases = re.findall(r"([\w']+) as ([\w']+)[,}]", ' '.join(re.findall(r'^ghost use .*', text, re.M)))
         for found in re.finditer(r'^( *)(pub |pub\(crate\) )?(?:extern "C" )?fn (\w+)(.*?)\{\n', text, re.M | re.S):
-            name, contract = found[3], re.search(r'ensures \{ λ (\w+)\. ⌜ (.*?) ⌝ \}', found[4], re.S)
+            name, clauses = found[3], re.findall(r'\b(requires|ensures)(?: \w+)? \{ (.*?) \}(?=\s*(?:ensures|requires|$))', found[4].strip(), re.S)
             if found[1]:
-                name = re.findall(r'^impl (\w+)', text[:found.start()], re.M)[-1] + '::' + name
-            said = plain(contract[2]) if contract else ''
-            for own, alias in aliases + [('r', contract[1] if contract else 'r')]:
+                name = re.findall(r'^impl(?:<.*?>)? (?:[\w:]+ for )?(\w+)', text[:found.start()], re.M)[-1] + '::' + name
+            asked, said = ([plain(clause) for kind, clause in clauses if kind == of] for of in ('requires', 'ensures'))
+            said = ' → '.join((asked if found[2] == 'pub ' else []) + ['; '.join(said)])
+            for own, alias in aliases:
                 said = re.sub(r"(?<![\w'-])%s(?![\w'-])" % alias, own, said)
+            if crate in self.exports:
+                self.exports[crate][name] = said
+                continue
             self.functions[crate + '::' + name] = found[2] == 'pub ', said
             self.names |= {name, found[3], crate + '::' + name}
         for name in re.findall(r'\b(?:struct|enum|const) (\w+)', text):
@@ -121,7 +128,7 @@ class Source:
             return True
         if code.startswith('target/'):
             return code in self.tree.text('build')
-        if code.endswith('-F'):
+        if code.endswith('_F'):
             return any(name.startswith(code[:-1]) for name in self.names)
         if ' ' not in code or '/' in code.split()[0]:
             return all(self.find(path) for path in code.split() if '/' in path or path == code)
@@ -132,7 +139,7 @@ class Source:
         files = [p for crate in self.needs for name in ('Claims', 'Coded', 'Number', 'Paper')
                  for p in self.tree.match('crates/%s/specs/%s.antt' % (crate, name))]
         for path in files:
-            imports = re.findall(r'^use Rattle·(\w+)(?:·specs)?\.specs\.(\w+)', self.tree.text(path), re.M)
+            imports = re.findall(r'^use Rattle\.(\w+)\.specs\.(\w+)', self.tree.text(path), re.M)
             named = {'crates/%s/specs/%s.antt' % use for use in imports if not path.endswith('/Coded.antt')}
             files += sorted(named & set(self.statements) - set(files))
         return [(p, len(self.tree.text(p).splitlines())) for crate in self.needs for p in sorted(files) if p.split('/')[1] == crate]

@@ -1,13 +1,15 @@
 """Wrong changes that tests/documents has to tell: in the first of these files that has it, the first place is changed."""
 
 WRONG = {
-    'a contract quoted otherwise': ('docs/THEOREMS.md', r'\(now \((\w+) \.exit\)\)', r'(now (\1 .entry))'),
-    'a contract that the source has otherwise': ('crates/*/src/lib.rt', r'(pub extern [^{]*ensures.*)\.entry', r'\1.exit'),
+    'a contract quoted otherwise': ('docs/THEOREMS.md', r'(\w+)\.new\b', r'\1.old'),
+    'a contract that the source has otherwise': ('crates/*/src/lib.rt', r'(pub fn cb_[^{]*ensures.*)\.old', r'\1.new'),
+    'an export that promises otherwise': ('crates/*_c/src/lib.rt', r'(ensures.*)\.now', r'\1.old'),
+    'a call that is not handed to C': ('crates/*_c/src/lib.rt', r'fn cb_decide\(', 'fn cb_decided('),
     'a statement quoted otherwise': ('docs/THEOREMS.md', r'(\n    .*)22 \* length', r'\g<1>23 * length'),
     'a statement that the source has otherwise': ('crates/*/specs/Claims.antt', r'22 \* length', '23 * length'),
-    'a theorem by another name': ('docs/THEOREMS.md', r'\*\*`([a-z-]+)`\*\*', r'**`\1-too`**'),
-    'a theorem that states something else': ('crates/*/proofs/*.antt', r'(pub [a-z-]+ : [A-Z]\w+)\n', r'\1Too\n'),
-    'a theorem with a premise': ('crates/*/proofs/*.antt', r'(pub [a-z-]+ : )([A-Z]\w+\n)', r'\1(n : ℕ) → \2'),
+    'a theorem by another name': ('docs/THEOREMS.md', r'\*\*`([a-z0-9_]+)`\*\*', r'**`\1_too`**'),
+    'a theorem that states something else': ('crates/*/proofs/*.antt', r'(pub [a-z0-9_]+ : [A-Z]\w+)\n', r'\1Too\n'),
+    'a theorem with a premise': ('crates/*/proofs/*.antt', r'(pub [a-z0-9_]+ : )([A-Z]\w+\n)', r'\1(n : ℕ) → \2'),
     'a definition in another file': ('docs/THEOREMS.md', r'in `crates/(\w+)/specs/Paper', r'in `crates/\1/specs/Coded'),
     'a rule in another file': ('docs/ARCHITECTURE.md', r'(\w+) Paper: `', r'\1 Coded: `'),
     'a wrong program that is not there': ('docs/ARCHITECTURE.md', r'must-fail edits: (\w+) `\w+', r'\g<0>s'),

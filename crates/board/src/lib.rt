@@ -116,6 +116,7 @@ fn reads_for(message: &[u8], places: &[u8], i: usize, ids: &[u16], count: usize,
 }
 
 // Reads or skips a slot by a lent message, of which there may be none, where so many of some identifiers are wanted.
+#[tactic(auto, using(std::proofs::lemmas::Bool::Decides::nat_tests), unfolding(crate::specs::Paper::decide))]
 fn decide_by(
     known: bool,
     message: &[u8],

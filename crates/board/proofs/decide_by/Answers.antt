@@ -5,19 +5,10 @@ use Rattle.board_held.proofs.Cases.{tells_unknown}
 use Rattle.board_held.proofs.Telling.{telling, tells_by}
 use Rattle.board.specs.Paper.{decide}
 use Rattle.board.specs.Inner.{counted}
-use Rattle.board.proofs.Cases.{decide_low, decide_high, decide_many, decided_untold}
+use Rattle.board.proofs.Cases.{decided_untold}
 use Rattle.board.proofs.Deciding.{decided_slots}
 use Rattle.std.proofs.Common.{rules}
 use Rattle.board.proofs.decide_by.Goals as goal
-
-pub returns-then-slot-lt1 : goal.returns-then-slot-lt1
-returns-then-slot-lt1 c = sym (decide_low _ _ _ _ c.if-slot-lt1.true)
-
-pub returns-then-slot-gt-SLOTS : goal.returns-then-slot-gt-SLOTS
-returns-then-slot-gt-SLOTS c = sym (decide_high _ _ _ _ c.if-slot-gt-SLOTS.true)
-
-pub returns-then-count-gt-WANTED : goal.returns-then-count-gt-WANTED
-returns-then-count-gt-WANTED c = sym (decide_many _ _ _ _ (record { some = search rules; low = search rules }) (omega (arith, c.if-count-gt-WANTED.true)))
 
 pub returns-then-not-known : goal.returns-then-not-known
 returns-then-not-known c =
@@ -39,7 +30,7 @@ pub reads_for-requires : goal.reads_for-requires
 reads_for-requires c =
     let t = c.read_places-found in
     let g = telling c.args.message.now c.args.received c.args.slot t.result t.ensures (sym c.tells_of.ensures ∙ c.if-not-tells_of.false) in
-    let few = c.requires (omega (arith, c.if-count-gt-WANTED.false)) in
+    let few = c.requires (omega arith) in
     (omega (arith, g.some, g.low), search rules, g.repeats, few)
 
 pub returns-then-reads_for : goal.returns-then-reads_for

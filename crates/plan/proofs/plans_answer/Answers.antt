@@ -1,5 +1,5 @@
 -- `plan::plans_answer` meets its contract: each return is the first test that holds.
-use Rattle.laws.proofs.Base.{◌≡◌, sym, ap, ◌∙◌}
+use Rattle.laws.proofs.Base.{◌≡◌, sym, ap, ◌∙◌, arith}
 use Rattle.refusals.specs.Number.{number_of}
 use Rattle.refusals.proofs.Inverse.{number_of_positive}
 use Rattle.plan.specs.Paper.{Plan, Verdict, plan_number}
@@ -38,4 +38,4 @@ returns c =
     let previous : Plan = plan_of c.args.previous in
     let current_good : plan_number current ≡ 0 = ap (λ (v : Verdict). v.number) (sym c.plan_answer-answer.ensures ∙ ap verdict_of c.in_default.is) in
     let previous_good : plan_number previous ≡ 0 = ap (λ (v : Verdict). v.number) (sym c.plan_answer-answer-2.ensures ∙ ap verdict_of c.in_default-answer.is) in
-    sym (plans_0 current previous current_good previous_good c.if-current-eq0.false)
+    sym (plans_0 current previous current_good previous_good (omega arith))

@@ -18,10 +18,10 @@ returns-then-message-at-lt128 c =
 pub returns-then-at-received-2 : goal.returns-then-at-received-2
 returns-then-at-received-2 c =
     let a = c.args in
-    let wide : 0x80 ≤ octet_at a.message.now a.at = omega (arith, c.if-message-at-lt128.false) in
+    let wide : 0x80 ≤ octet_at a.message.now a.at = omega arith in
     step_is_past a.message.now a.received a.at (simp (le-leb _ _ wide) (omega arith))
 
 pub returns : goal.returns
 returns c =
     let a = c.args in
-    step_is_long a.message.now a.received a.at _ (omega (arith, c.if-message-at-lt128.false)) (omega arith) c.told_at-2.ensures
+    step_is_long a.message.now a.received a.at _ (omega arith) (omega arith) c.told_at-2.ensures

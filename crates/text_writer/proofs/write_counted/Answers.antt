@@ -17,13 +17,13 @@ pub returns-then-ends_in_cr : goal.returns-then-ends_in_cr
 unfolding written_page
 returns-then-ends_in_cr c =
     let left : let a = c.args in let t = a.text.now in written_page (heading_of a.heading) t a.page.now ≡ ruled (λ n. unwritten n a.page.now) ((ltb 93 (length (unpadded t)), 10) ∷ (ends_in_cr t, 12) ∷ []) (record { number = 0; used = used_octets t; page = page_octets (heading_of a.heading) t }) = let p = c.requires.asked in simp (eq-eqb _ _ p.room, p.scheme, p.parameter, c.requires.known.known) in
-    let short : ltb 93 (length (unpadded c.args.text.now)) ≡ false = let few : length (unpadded c.args.text.now) ≤ 93 = omega (arith, c.if-count-gt-PLACES.false, c.requires.known.counted) in le-ltb _ _ few in
+    let short : ltb 93 (length (unpadded c.args.text.now)) ≡ false = let few : length (unpadded c.args.text.now) ≤ 93 = omega (arith, c.requires.known.counted) in le-ltb _ _ few in
     sym (left ∙ simp (short, sym c.ends_in_cr.ensures ∙ c.if-ends_in_cr.true))
 
 pub returns : goal.returns
 unfolding written_page
 returns c =
     let left : let a = c.args in let t = a.text.now in written_page (heading_of a.heading) t a.page.now ≡ ruled (λ n. unwritten n a.page.now) ((ltb 93 (length (unpadded t)), 10) ∷ (ends_in_cr t, 12) ∷ []) (record { number = 0; used = used_octets t; page = page_octets (heading_of a.heading) t }) = let p = c.requires.asked in simp (eq-eqb _ _ p.room, p.scheme, p.parameter, c.requires.known.known) in
-    let short : ltb 93 (length (unpadded c.args.text.now)) ≡ false = let few : length (unpadded c.args.text.now) ≤ 93 = omega (arith, c.if-count-gt-PLACES.false, c.requires.known.counted) in le-ltb _ _ few in
+    let short : ltb 93 (length (unpadded c.args.text.now)) ≡ false = let few : length (unpadded c.args.text.now) ≤ 93 = omega (arith, c.requires.known.counted) in le-ltb _ _ few in
     (λ i. record { number = 0; used = 6 + (7 * c.requires.known.counted i + 7) / 8; page = c.put_page.ensures i })
     ∙ sym (left ∙ simp (short, sym c.ends_in_cr.ensures ∙ c.if-ends_in_cr.false))

@@ -1,0 +1,2 @@
+-- What `octets` proves.
+pub mod Determined
