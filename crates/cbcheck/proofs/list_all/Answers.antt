@@ -1,0 +1,25 @@
+-- `cbcheck::list_all` meets its contract. The invariant: state, number and text are those that the log so far leaves.
+use Rattle.laws.proofs.Base.{arith}
+use Rattle.checker_plans.specs.Coded.{plans_of}
+use Rattle.logs.proofs.Turns.{going_start, goes_higher, turn_told, turn_going}
+use Rattle.cbcheck.specs.Paper.{line_of}
+use Rattle.cbcheck.specs.Inner.{fresh_beside}
+use Rattle.std.proofs.Common.{rules}
+use Rattle.cbcheck.proofs.list_all.Goals as goal
+
+pub loop-number-init : goal.loop-number-init
+loop-number-init g c = going_start (line_of (fresh_beside (plans_of c.args.plans))) 146432 c.requires (search rules) (search rules)
+
+pub returns-then-not-write_chunk : goal.returns-then-not-write_chunk
+returns-then-not-write_chunk g c = turn_told c.loop-number.invariant c.loop-number-test.true c.read_chunk-chunk.ensures c.list-end.ensures
+
+pub loop-number-smaller : goal.loop-number-smaller
+loop-number-smaller g c =
+    let on = c.write_chunk.ensures.0 c.if-not-write_chunk.false in
+    let higher = goes_higher c.loop-number.invariant c.loop-number-test.true c.read_chunk-chunk.ensures on in
+    omega arith
+
+pub loop-number-preserved : goal.loop-number-preserved
+loop-number-preserved g c =
+    turn_going c.loop-number.invariant c.loop-number-test.true c.read_chunk-chunk.ensures c.list-end.ensures
+    (c.write_chunk.ensures.0 c.if-not-write_chunk.false) c.list-end.auto.state c.list-end.auto.message c.list-end.auto.out
