@@ -1,5 +1,5 @@
 -- `plan_slots::planned_by` meets its contract: an entry with a page and one without.
-use Rattle.laws.proofs.Base.{◌%◌, eq-eqb, ne_eqb}
+use Rattle.laws.proofs.Base.{◌≡◌, ◌%◌, arith, eq-eqb, ne_eqb}
 use Rattle.plan_slots.specs.Inner.{said_by}
 use Rattle.plan_slots.proofs.Marks.{lacks_mark}
 use Rattle.plan_slots.proofs.planned_by.Goals as goal
@@ -12,7 +12,7 @@ pub returns : goal.returns
 unfolding said_by
 returns c =
     let a = c.args in
-    let two = c.if-entry-ne2.false in
+    let two : a.entry.kind ≡ 2 = omega arith in
     let lacks = lacks_mark a.mark a.previous.now _ c.first_slot-2.ensures in
     rw (eq-eqb a.entry.kind 2 two)
     (λ i. record { kind = a.entry.kind; low = a.entry.id.0 % 32768; lowest = c.first_slot.ensures i; fresh = lacks i })

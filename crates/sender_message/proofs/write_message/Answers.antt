@@ -41,7 +41,7 @@ returns-then-used-gt-MESSAGE c =
     let w = c.compose-used.ensures.1 in
     sym
     (message_34 c.args.begin told c.args.count out c.if-out-ne-MESSAGE.false
-    (omega arith) c.if-begin-count.false c.if-count-gt-SLOTS.false (omega arith))
+    (omega arith) (omega arith) (omega arith) (omega arith))
 
 pub slice_bounds-copy-end : goal.slice_bounds-copy-end
 slice_bounds-copy-end c =
@@ -71,4 +71,4 @@ returns c =
     })
     ∙ sym
     (message_0 c.args.begin told c.args.count out c.if-out-ne-MESSAGE.false
-    (omega arith) c.if-begin-count.false c.if-count-gt-SLOTS.false few)
+    (omega arith) (omega arith) (omega arith) few)
