@@ -11,7 +11,8 @@ mod pieces;
 mod slots;
 mod told;
 
-ghost use Rattle.std.specs.Prelude.{◌≡◌, ◌<◌, ◌≤◌, length};
+ghost use Rattle.std.specs.Prelude.{◌≡◌, ◌+◌, ◌<◌, ◌≤◌, eqb, length, drop};
+ghost use Rattle.std.specs.List.{position_or_len};
 ghost use Rattle.trial.specs.Inner.{Within};
 
 use fields::UNREAD;
@@ -68,7 +69,8 @@ fn print_rows(output: &impl Print, errors: &impl Print, names: &[u8], counts: &[
 // Where an octet stands first from a place on; the text's end, where it does not.
 fn find(text: &[u8], at: usize, octet: u8) -> usize
     requires { at ≤ length text.now }
-    ensures { (at ≤ result) × (result ≤ length text.now) }
+    ensures first { result ≡ at + position_or_len (λ here. eqb here octet) (drop at text.now) }
+    ensures within { (at ≤ result) × (result ≤ length text.now) }
 {
     match text[at..].iter().position(|here| *here == octet) {
         Some(passed) => at + passed,

@@ -1,2 +1,0 @@
--- What `trial` proves.
-pub mod Rooms
