@@ -37,7 +37,7 @@ returns-then-page-ne-MESSAGE c =
     let output : List ℕ = c.args.output.now in
     let long : length memory ≡ 1340 = omega (arith, c.if-collector-ne-COLLECTOR.false) in
     let holds : Holds memory c.in-Held.count = pages_held memory c.in-Held.count (ap pages_of (sym c.in-Held.is) ∙ c.held_pages-pages.ensures) in
-    sym (collected_16 memory page c.args.received output long holds.proper (omega (arith, c.if-output-ne-COLLECTOR.false)) (λ e. omega (arith, c.if-page-ne-MESSAGE.true, e)))
+    sym (collected_16 memory page c.args.received output long holds.proper (omega arith) (λ e. omega (arith, c.if-page-ne-MESSAGE.true, e)))
 
 pub returns-then-not-whole_blocks : goal.returns-then-not-whole_blocks
 returns-then-not-whole_blocks c =
@@ -46,7 +46,7 @@ returns-then-not-whole_blocks c =
     let output : List ℕ = c.args.output.now in
     let long : length memory ≡ 1340 = omega (arith, c.if-collector-ne-COLLECTOR.false) in
     let holds : Holds memory c.in-Held.count = pages_held memory c.in-Held.count (ap pages_of (sym c.in-Held.is) ∙ c.held_pages-pages.ensures) in
-    sym (collected_18 memory page c.args.received output long holds.proper (omega (arith, c.if-output-ne-COLLECTOR.false)) (omega (arith, c.if-page-ne-MESSAGE.false))
+    sym (collected_18 memory page c.args.received output long holds.proper (omega arith) (omega (arith, c.if-page-ne-MESSAGE.false))
     (sym c.whole_blocks.ensures ∙ c.if-not-whole_blocks.true))
 
 pub returns-then-total_of-number_of : goal.returns-then-total_of-number_of
@@ -56,7 +56,7 @@ returns-then-total_of-number_of c =
     let output : List ℕ = c.args.output.now in
     let long : length memory ≡ 1340 = omega (arith, c.if-collector-ne-COLLECTOR.false) in
     let holds : Holds memory c.in-Held.count = pages_held memory c.in-Held.count (ap pages_of (sym c.in-Held.is) ∙ c.held_pages-pages.ensures) in
-    sym (collected_50 memory page c.args.received output long holds.proper (omega (arith, c.if-output-ne-COLLECTOR.false)) (omega (arith, c.if-page-ne-MESSAGE.false))
+    sym (collected_50 memory page c.args.received output long holds.proper (omega arith) (omega (arith, c.if-page-ne-MESSAGE.false))
     (sym c.whole_blocks.ensures ∙ c.if-not-whole_blocks.false)
     (omega (arith, c.total_of.ensures, c.number_of.ensures, c.if-total_of-number_of.true)))
 
@@ -79,7 +79,7 @@ take_page-requires c =
         collector = long;
         page = omega (arith, c.if-page-ne-MESSAGE.false);
         received = omega arith;
-        output = omega (arith, c.if-output-ne-COLLECTOR.false);
+        output = omega arith;
         numbered = numbered;
       },
       holds,
@@ -95,4 +95,4 @@ returns c =
     let blocks : whole_blocks c.args.received ≡ true = sym c.whole_blocks.ensures ∙ c.if-not-whole_blocks.false in
     let numbered : page_number page ≤ page_total page = omega (arith, c.total_of.ensures, c.number_of.ensures, c.if-total_of-number_of.false) in
     c.take_page.ensures
-    ∙ sym (collected_right memory page c.args.received output long holds.proper (omega (arith, c.if-output-ne-COLLECTOR.false)) (omega (arith, c.if-page-ne-MESSAGE.false)) blocks numbered)
+    ∙ sym (collected_right memory page c.args.received output long holds.proper (omega arith) (omega (arith, c.if-page-ne-MESSAGE.false)) blocks numbered)

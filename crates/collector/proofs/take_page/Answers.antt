@@ -38,4 +38,4 @@ add-requires-2 c =
     let page : List ℕ = c.args.page.now in
     let its_own : is_of memory page ≡ true = sym c.is_of.ensures ∙ c.if-not-is_of.false in
     let looked_at : received_of memory (c.number_of.result - 1) ≡ received_of memory (page_number page - 1) = ap (λ (k : ℕ). received_of memory (k - 1)) c.number_of.ensures in
-    (c.requires.0, own_adds memory page c.args.received c.args.count c.args.output.now c.requires.1 its_own (omega (arith, looked_at, c.if-collector-number_of-ne0.false)))
+    (c.requires.0, own_adds memory page c.args.received c.args.count c.args.output.now c.requires.1 its_own (omega (arith, looked_at)))
