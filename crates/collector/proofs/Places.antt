@@ -4,7 +4,7 @@ use Rattle.laws.proofs.Base.{take-append-drop, take-length, take_at, drop_at, dr
 use Rattle.laws.specs.Upto.{count}
 use Rattle.laws.proofs.Upto.{some_count, count_rest, count_more}
 use Rattle.laws.proofs.Tests.{true_or_false, le_or_lt}
-use borrow.Rule.Slice.PartMut.{mid_of, put_mid}
+use borrow.Rule.Slice.PartMut.{put_mid}
 use Rattle.laws.proofs.Parts.{put_copy, replaced_before, replaced_in, replaced_after}
 use Rattle.page.specs.Paper.{header}
 use Rattle.page.proofs.Sameness.{read_halves}

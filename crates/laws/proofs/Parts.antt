@@ -1,8 +1,8 @@
 -- Laws of parts of lists: one that is lent comes back into its place, parts of parts, and parts of repeats.
-use Rattle.laws.proofs.Base.{◌≡◌, sym, ap, ◌∙◌, List, [], ◌∷◌, ◌++◌, append-nil, ℕ, zero, suc, ◌+◌, ◌-◌, ◌≤◌, min, sub-zero, zero-sub, suc-sub-suc, zero-min, min-zero}
+use Rattle.laws.proofs.Base.{◌≡◌, sym, ap, ◌∙◌, List, [], ◌∷◌, ◌++◌, ℕ, zero, suc, ◌+◌, ◌-◌, ◌≤◌, min, sub-zero, zero-sub, suc-sub-suc, zero-min, min-zero}
 use Rattle.laws.proofs.Base.{◌<◌, get_or, list_get_d_append, get_or-append-add, get_or-take, get_or-drop}
-use Rattle.laws.proofs.Base.{suc-min-suc, arith, length, take, drop, replicate, length-append, length-drop, drop_of_length-le, take-length, length-take-le, take-nil}
-use borrow.Rule.Slice.PartMut.{mid_of, put_mid, Post-is, mid_len}
+use Rattle.laws.proofs.Base.{suc-min-suc, arith, length, take, drop, replicate, length-append, length-drop, length-take-le, take-nil}
+use borrow.Rule.Slice.PartMut.{put_mid, Post-is}
 
 -- a source that is copied over a whole part stands there when the part is back
 pub put_copy : (a e : ℕ) (d s y : List ℕ) → a ≤ e → e ≤ length d → y ≡ s → put_mid a (e - a) d y ≡ take a d ++ (s ++ drop e d)

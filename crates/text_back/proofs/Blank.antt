@@ -1,5 +1,5 @@
 -- What the reader leaves past a text: blank cells; and that the text is the same whatever it fills with.
-use Rattle.laws.proofs.Base.{◌≡◌, refl, sym, ap, ◌∙◌, Bool, true, false, List, [], ◌∷◌, ◌++◌, map-append, ℕ, zero, suc, ◌+◌, ◌-◌, arith, eqb, eqb-false, ne_eqb}
+use Rattle.laws.proofs.Base.{◌≡◌, refl, sym, ap, ◌∙◌, Bool, true, false, List, [], ◌∷◌, ◌++◌, map-append, ℕ, zero, suc, ◌-◌, arith, eqb, eqb-false, ne_eqb}
 use Rattle.laws.proofs.Base.{length, get_or, replicate, length-append}
 use Rattle.laws.specs.Search.{some}
 use Rattle.laws.proofs.Ruled.{ruled_related}

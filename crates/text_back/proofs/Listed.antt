@@ -1,5 +1,5 @@
 -- Text of listed characters is accepted, and so comes back; and text of the alphabet alone is spelled as before.
-use Rattle.laws.proofs.Base.{◌≡◌, refl, sym, ap, ◌∙◌, false, ◌&&◌, List, [], ◌∷◌, map, ℕ, zero, suc, ◌<◌, ◌≤◌, arith, eqb, lit<, length, get_or, eqb-true, eqb-false, eq-eqb, ne_eqb, le-ltb}
+use Rattle.laws.proofs.Base.{◌≡◌, refl, sym, ap, ◌∙◌, false, List, [], ◌∷◌, ℕ, suc, ◌<◌, arith, eqb, length, get_or, eqb-true, eqb-false, eq-eqb, ne_eqb, le-ltb}
 use Rattle.laws.proofs.Tests.{true_or_false}
 use Rattle.alphabet.specs.Paper.{alphabet, code_point, septet_of, no_septet, escape, extension, pair_septet}
 use Rattle.alphabet.proofs.Laws.{undoes, undoes_pairs}
