@@ -1,4 +1,3 @@
 -- What `arguments` proves.
-pub mod Cases
 pub mod Determined
 pub mod Same

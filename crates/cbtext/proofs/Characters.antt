@@ -1,6 +1,6 @@
 -- Laws of characters: each form of one put behind a text, and one after the other.
 use Rattle.laws.proofs.Base.{◌≡◌, refl, ap, ◌∙◌, List, [], ◌∷◌, ◌++◌, append_assoc, append-nil, ℕ, suc, ◌+◌, ◌*◌, ◌/◌, ◌%◌, ◌≤◌, ◌<◌, mul-suc}
-use Rattle.laws.proofs.Base.{mul-zero, add-one, arith, length, get_or, take, set, length-set, take-suc, take_all, eq-eqb, ne_eqb, lt-ltb, le-ltb}
+use Rattle.laws.proofs.Base.{mul-zero, add-one, arith, length, get_or, take, set, length-set, take-suc, eq-eqb, ne_eqb, lt-ltb, le-ltb}
 use Rattle.lines.specs.Inner.{Puts}
 use Rattle.lines.proofs.Behind.{puts_none, puts_octet, puts_wider, puts_then}
 use Rattle.cbtext.specs.Paper.{utf8, letter, character, joined}
@@ -78,8 +78,3 @@ module _ {f : ℕ → List ℕ} {wide : ℕ} {xs t₀ : List ℕ} {n : ℕ} wher
         few = omega arith;
         puts = rw (add-one i, longer, mul-suc wide i) (puts_then j.puts put);
       }
-
-  pub joins_end : {t : List ℕ} {i end : ℕ} → Joins f wide xs t₀ t n i end → length xs ≤ i → Puts (joined f xs) (wide * length xs) n t₀ t end
-  joins_end {t} {i} {end} j h =
-      let all : i ≡ length xs = omega (arith, j.few) in
-      rw (all, take_all (length xs) xs (omega arith)) at j.puts

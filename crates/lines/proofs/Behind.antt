@@ -8,20 +8,6 @@ use Rattle.lines.specs as defs
 use defs.Paper.{PutLeft, behind}
 use defs.Inner.{Puts}
 
--- whether a number of octets fits, by what is left of the memory
-pub fits_left : (count at size : ℕ) → at ≤ size → leb count (size - at) ≡ leb (at + count) size
-fits_left count at size h = go (leb count (size - at)) refl
-  where
-    go : (b : Bool) → leb count (size - at) ≡ b → b ≡ leb (at + count) size
-    go true e =
-        let few = leb-true count (size - at) e in
-        let inside : at + count ≤ size = omega arith in
-        sym (le-leb (at + count) size inside)
-    go false e =
-        let many = leb-false count (size - at) e in
-        let outside : size < at + count = omega arith in
-        sym (lt-leb (at + count) size outside)
-
 module _ (s : List ℕ) (n : ℕ) (t : List ℕ) where
   pub behind_fits : n + length s ≤ length t → behind s n t ≡ record { end = n + length s; text = take n t ++ (s ++ drop (n + length s) t) }
   unfolding behind

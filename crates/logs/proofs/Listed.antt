@@ -1,6 +1,6 @@
 -- The loop over a log: what is listed so far, and one piece more.
 use Rattle.laws.proofs.Base.{◌≡◌, refl, sym, ap, ◌∙◌, cond, List, [], ◌∷◌, ◌++◌, append_assoc, append-nil, ℕ, ◌+◌, ◌*◌, ◌-◌, ◌/◌}
-use Rattle.laws.proofs.Base.{◌%◌, ◌≤◌, ◌<◌, sub-zero, mul-suc, mul-le-mul_left, arith, length, take, drop, eqb}
+use Rattle.laws.proofs.Base.{◌%◌, ◌≤◌, ◌<◌, mul-suc, arith, length, take, drop, eqb}
 use Rattle.block.specs.Paper.{Given, step}
 use Rattle.block_history.specs.Claims.{after}
 use Rattle.block_history.proofs.History.{number_small}
@@ -99,20 +99,3 @@ module _ {f : ℕ → Given → List ℕ} {wide size : ℕ} {s₀ : List ℕ} {f
             told = rw (n, taken.state, put.text) (told ∙ sym (append_assoc (take end text) (f number g) (listing f g.next (number + 1) rest)));
             states = rw (n, taken.state) states;
           }
-
--- before the first piece nothing is told
-pub listed_start : (f : ℕ → Given → List ℕ) (wide size : ℕ) {s : List ℕ} (first : ℕ) {log message text : List ℕ}
-    → (length s ≡ 90) × (length message ≡ 88) × (length log ≤ 23552) × (length text ≡ size) × (first < 1000000000000000000) → wide * 1024 ≤ size
-    → Listed f wide size s first log s message text 0 first 0
-listed_start f wide size first {log} h wides =
-    let few : left 0 log ≤ 1024 = omega arith in
-    record {
-      state_size = h.0;
-      message_size = h.1;
-      text_size = h.3;
-      inside = omega arith;
-      room = omega (arith, mul-le-mul_left wide few);
-      few = omega arith;
-      told = rw (sub-zero (length log));
-      states = rw (sub-zero (length log));
-    }

@@ -1,10 +1,9 @@
 -- What is known of a chunk that was read, by what reading gave.
-use Rattle.laws.proofs.Base.{◌≡◌, refl, sym, subst, Bool, true, false, cond, List, ℕ, ◌-◌, ◌%◌, ◌≤◌, arith, length, take, eqb, eqb-true}
+use Rattle.laws.proofs.Base.{◌≡◌, refl, sym, subst, Bool, true, false, cond, List, ℕ, ◌≤◌, arith, length, eqb, eqb-true}
 use Rattle.laws.proofs.Tests.{true_or_false}
 use Rattle.logs.specs as defs
-use defs.Inner.{moved_on, ending_of, chunk_of, Reads}
+use defs.Inner.{ending_of, chunk_of, Reads}
 use defs.declared.Chunk.{Chunk}
-use defs.declared.Ending.{Ending}
 use defs.declared.Ending.TheVariants as endings
 use Rattle.files.specs.Inner.{filled}
 use Rattle.files.specs.declared.Filled.{Filled}
@@ -34,17 +33,3 @@ chunk_reads (Octets n) number log r size h e =
 chunk_reads (Fault n) number log r size h e =
     subst (λ (x : Chunk). Reads number log x) (sym e)
     record { size = size; few = omega arith; whole = λ f. absurd (more_fault f); kept = λ f. omega arith; next = refl }
-
-module _ (got : Filled) (number : ℕ) (log : List ℕ) (n next : ℕ) where
-  pub chunk_octets : (ending : Ending) → got ≡ Octets n → next ≡ moved_on number (take n log) → ending ≡ ending_of n
-      → record { octets = n; next = next; ending = ending } ≡ chunk_of got number log
-  chunk_octets ending told e f =
-      let parts : ◌≡◌ {A = Chunk} (record { octets = n; next = next; ending = ending }) (chunk_of (Octets n) number log) = λ i. record { octets = n; next = e i; ending = f i } in
-      rw told parts
-
-  pub chunk_fault : got ≡ Fault n → next ≡ moved_on number (take (n - n % 23) log)
-      → record { octets = n - n % 23; next = next; ending = endings.Fault } ≡ chunk_of got number log
-  chunk_fault told e =
-      let parts : ◌≡◌ {A = Chunk} (record { octets = n - n % 23; next = next; ending = endings.Fault }) (chunk_of (Fault n) number log) =
-      λ i. record { octets = n - n % 23; next = e i; ending = endings.Fault } in
-      rw told parts

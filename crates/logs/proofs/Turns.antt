@@ -54,10 +54,6 @@ module _ {f : ℕ → Given → List ℕ} {size : ℕ} {state text log message :
   octets_size : length octets ≡ r.octets
   octets_size = length-take-le r.octets log' (omega (arith, reads.few, reads.size))
 
-  -- what was read may be listed
-  pub may_list : (length state ≡ 90) × (length message ≡ 88) × (length (take r.octets log') ≤ 23552) × (length text ≡ size) × (number < 1000000000000000000)
-  may_list = (g.state_size, g.message_size, omega (arith, octets_size, reads.few), g.text_size, few)
-
   -- the number behind a chunk that goes on is higher
   pub goes_higher : r.ending ≡ endings.More → number < r.next
   unfolding moved_on
