@@ -1,5 +1,5 @@
 -- A board that obeys an accepted schedule: what it reads, what it doesn't, and what it ends a period with.
-use Rattle.laws.proofs.Base.{◌≡◌, refl, sym, ap, ◌∙◌, subst, Bool, true, false, false≢true, not, and-false, or-true, List, ◌⊎◌, ⊎_elim, ℕ, zero, suc, ◌-◌}
+use Rattle.laws.proofs.Base.{◌≡◌, refl, sym, ap, ◌∙◌, subst, Bool, true, false, false≢true, not, and-false, or-true, List, ⊎_elim, ℕ, zero, suc, ◌-◌}
 use Rattle.laws.proofs.Base.{◌%◌, ◌≤◌, ◌<◌, eq-or-lt_of_le, le_of_suc-le-suc, not-suc-le-zero, arith, eqb, eqb-true, eqb-false, eq-eqb, le-leb, not-true}
 use Rattle.laws.specs.Search.{some}
 use Rattle.laws.proofs.Search.{some_implies}

@@ -1,5 +1,5 @@
 -- What the call that checks slot by slot returns and leaves follows from what the checker answers.
-use Rattle.laws.proofs.Base.{◌≡◌, refl, sym, ap, ◌∙◌, List, ◌⊎◌, inl, inr, ⊎_elim, ℕ, ◌%◌, ◌/◌, ◌<◌, arith, ltb, length}
+use Rattle.laws.proofs.Base.{◌≡◌, refl, sym, ap, ◌∙◌, List, inl, inr, ⊎_elim, ℕ, ◌%◌, ◌/◌, ◌<◌, arith, ltb, length}
 use Rattle.laws.proofs.Base.{ltb-true, lt-ltb, eq-eqb}
 use Rattle.laws.specs.Ruled.{ruled}
 use Rattle.laws.proofs.Ruled.{NoneHolds, Other, Ruling, refuses, passes, ruling, ruled_passes, ruled_none, unrefused, unless0_numbered}

@@ -1,5 +1,5 @@
 -- What is left of each slot by a check slot by slot.
-use Rattle.laws.proofs.Base.{◌≡◌, refl, sym, ap, ◌∙◌, Bool, true, false, cond, bool_beq, false≢true, List, ◌⊎◌, inl, inr, ⊎_elim, ℕ, suc, ◌<◌, arith}
+use Rattle.laws.proofs.Base.{◌≡◌, refl, sym, ap, ◌∙◌, true, false, cond, bool_beq, false≢true, List, ◌⊎◌, inl, inr, ⊎_elim, ℕ, suc, ◌<◌, arith}
 use Rattle.laws.proofs.Base.{◌≤◌, subst, eqb, eqb-true, eqb-false, eq-eqb, ne_eqb, lt-ltb, le-ltb, length, get_or}
 use Rattle.laws.specs.Ruled.{ruled}
 use Rattle.laws.specs.Upto.{lowest, each}
