@@ -6,7 +6,7 @@ use Rattle.plan.specs.Paper.{Plan}
 use Rattle.sender_message.specs.Paper.{MessageLeft}
 use Rattle.sender.specs.Paper.{write}
 
--- 01 Blocks: the four blocks of a message that was written, in place of the lent output; one that was refused leaves it was
+-- 01 Blocks: the four blocks of a message that was written, in place of the lent output; one that was refused leaves it as it was
 abbrev pub sent_by : MessageLeft → List ℕ → BlocksLeft
 sent_by w o = cond (eqb w.number 0) (written_blocks w.output schedule w.used o) (record { number = w.number; output = o })
 

@@ -15,7 +15,7 @@ use Rattle.checker_slots.specs.Paper.{true_by}
 use Rattle.checker.specs.Paper.{is_true, untrue, verdict, check}
 use Rattle.plan_parameters.specs.Claims.{parameter_as_read, entry_as_read, plan_as_read, WrittenAsRead, CheckedAsRead}
 
--- what holds of an entry, and with its parameter as it is read if it has a page, holds of it is read
+-- what holds of an entry, and with its parameter as it is read if it has a page, holds of it as it is read
 by_kind : (P : Entry → Type 0) (e : Entry) → (e.kind ≡ 2 → P (parameter_as_read e)) → P e → P (entry_as_read e)
 by_kind P e page other = true_or_false (eqb e.kind 2) (λ q. rw q (page (eqb-true e.kind 2 q))) (λ q. rw q other)
 

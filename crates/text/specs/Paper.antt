@@ -68,7 +68,7 @@ writer_tests h t p =
     ∷ (ends_in_cr t, 12)
     ∷ []
 
--- 01 Page and text: what the text writer leaves of the page p; a refusal leaves it was
+-- 01 Page and text: what the text writer leaves of the page p; a refusal leaves it as it was
 unfoldable pub written_page : Heading → List ℕ → List ℕ → PageLeft
 written_page h t p =
     ruled
@@ -151,7 +151,7 @@ reader_tests p n t =
     ∷ (ltb 0x0f (octet p 5), 13)
     ∷ []
 
--- 01 Page and text: what a text reader with a fill leaves of the text t; a refusal leaves it was
+-- 01 Page and text: what a text reader with a fill leaves of the text t; a refusal leaves it as it was
 unfoldable pub reading_with : ℕ → List ℕ → ℕ → List ℕ → Reading
 reading_with fill p n t =
     ruled (λ m. record { number = m; characters = 0; text = t }) (reader_tests p n t) (shown_with fill (shown (septets_received p n)))
