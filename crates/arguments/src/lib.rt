@@ -26,6 +26,7 @@ pub fn count(rt: &impl Env) -> usize {
 }
 
 // Whether the one argument of a program is --help.
+#[tactic(auto, using(std::proofs::lemmas::Bool::Decides::nat_tests), unfolding(crate::specs::Paper::help_asked))]
 fn asks_help(count: usize, first: &[u8]) -> bool
     ensures { result ≡ help_asked count first.now }
 {
