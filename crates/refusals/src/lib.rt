@@ -4,7 +4,7 @@
 ghost use Rattle.std.specs.Prelude.{◌≡◌};
 ghost use Rattle.refusals.specs.Number.{number_of};
 
-#[derive(Clone, Copy)]
+#[derive(Clone, Copy, Debug, PartialEq, Eq)]
 pub enum Refusal {
     // piece not 23 octets
     PieceLength,
@@ -71,40 +71,49 @@ pub enum Refusal {
 }
 
 // The refusal's number in the table.
+impl From<Refusal> for u8 {
+    ghost from_gives = { λ refusal n. n ≡ number_of refusal };
+
+    fn from(refusal: Refusal) -> u8 {
+        match refusal {
+            Refusal::PieceLength => 2,
+            Refusal::Discriminator => 3,
+            Refusal::ReservedCode => 4,
+            Refusal::NullCode => 5,
+            Refusal::NotNext => 6,
+            Refusal::StateImproper => 8,
+            Refusal::TextLength => 10,
+            Refusal::NotInAlphabet => 11,
+            Refusal::EndsInCr => 12,
+            Refusal::Scheme => 13,
+            Refusal::PageParameter => 14,
+            Refusal::OutputLength => 15,
+            Refusal::MessageLength => 16,
+            Refusal::UsedOctets => 17,
+            Refusal::ReceivedOctets => 18,
+            Refusal::ScheduleType => 20,
+            Refusal::BeginOrEnd => 21,
+            Refusal::NewPastEnd => 22,
+            Refusal::DescriptionPastReceived => 23,
+            Refusal::RepeatOfNoFirst => 24,
+            Refusal::PlanMark => 30,
+            Refusal::PlanVersion => 31,
+            Refusal::PlanLength => 32,
+            Refusal::DescriptionsTooLong => 34,
+            Refusal::PlanEmpty => 35,
+            Refusal::PlanKind => 36,
+            Refusal::PlanStray => 37,
+            Refusal::Untrue => 40,
+            Refusal::SlotNumber => 41,
+            Refusal::WantedCount => 42,
+            Refusal::PageOverTotal => 50,
+        }
+    }
+}
+
+// The refusal's number in the table.
 pub fn number(refusal: Refusal) -> u8
     ensures { result ≡ number_of refusal }
 {
-    match refusal {
-        Refusal::PieceLength => 2,
-        Refusal::Discriminator => 3,
-        Refusal::ReservedCode => 4,
-        Refusal::NullCode => 5,
-        Refusal::NotNext => 6,
-        Refusal::StateImproper => 8,
-        Refusal::TextLength => 10,
-        Refusal::NotInAlphabet => 11,
-        Refusal::EndsInCr => 12,
-        Refusal::Scheme => 13,
-        Refusal::PageParameter => 14,
-        Refusal::OutputLength => 15,
-        Refusal::MessageLength => 16,
-        Refusal::UsedOctets => 17,
-        Refusal::ReceivedOctets => 18,
-        Refusal::ScheduleType => 20,
-        Refusal::BeginOrEnd => 21,
-        Refusal::NewPastEnd => 22,
-        Refusal::DescriptionPastReceived => 23,
-        Refusal::RepeatOfNoFirst => 24,
-        Refusal::PlanMark => 30,
-        Refusal::PlanVersion => 31,
-        Refusal::PlanLength => 32,
-        Refusal::DescriptionsTooLong => 34,
-        Refusal::PlanEmpty => 35,
-        Refusal::PlanKind => 36,
-        Refusal::PlanStray => 37,
-        Refusal::Untrue => 40,
-        Refusal::SlotNumber => 41,
-        Refusal::WantedCount => 42,
-        Refusal::PageOverTotal => 50,
-    }
+    u8::from(refusal)
 }

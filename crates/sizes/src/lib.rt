@@ -17,11 +17,9 @@ pub const FILLER: u8 = 0x2B;
 pub const SLOTS: usize = 48;
 
 // Whether so many octets are those of one to four blocks. What is received of a page or a schedule message must be, or it is refused as `ReceivedOctets`.
+#[tactic(auto, unfolding(crate::specs::Paper::whole_blocks))]
 pub fn whole_blocks(received: usize) -> bool
     ensures { result ≡ whole_blocks received }
 {
-    match received {
-        22 | 44 | 66 | 88 => true,
-        _ => false,
-    }
+    matches!(received, 22 | 44 | 66 | 88)
 }
