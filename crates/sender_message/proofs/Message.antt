@@ -17,18 +17,18 @@ module _ (b : ℕ) (s : ℕ → Shown) (n : ℕ) where
   used_length = let parts = length-append (bitmap_of s n) (descriptions s n) in omega (arith, bitmap_length)
 
   -- the header, the descriptions of the new slots and those of the others, one after the other
-  pub message_put : (blank x y z : List ℕ) (at to : ℕ)
-      → x ≡ sets blank 0 ((b ∷ n ∷ []) ++ bitmap_of s n) → y ≡ sets x 8 (told s true n) → at ≡ 8 + length (told s true n)
+  pub message_put : (blank x y z : List ℕ) (from at to : ℕ)
+      → x ≡ sets blank 0 ((b ∷ n ∷ []) ++ bitmap_of s n) → from ≡ 8 → y ≡ sets x from (told s true n) → at ≡ from + length (told s true n)
       → z ≡ sets y at (told s false n) → to ≡ at + length (told s false n)
       → (z ≡ sets blank 0 (used_part b s n)) × (to ≡ 8 + length (descriptions s n))
   unfolding used_part
-  message_put blank x y z at to p q r e f =
+  message_put blank x y z from at to p k q r e f =
       let head : List ℕ = b ∷ n ∷ bitmap_of s n in
       let eight : 0 + length head ≡ 8 = omega (arith, bitmap_length) in
       let groups : List ℕ = told s true n ++ told s false n in
       let whole : sets blank 0 (used_part b s n) ≡ sets (sets blank 0 head) 8 groups =
       rw (descriptions_groups s n) (sets_append blank 0 head groups ∙ ap (λ (k : ℕ). sets (sets blank 0 head) k groups) eight) in (
-        e ∙ rw (q, r, p) (sym (sets_append (sets blank 0 head) 8 (told s true n) (told s false n)) ∙ sym whole),
+        e ∙ rw (q, r, k, p) (sym (sets_append (sets blank 0 head) 8 (told s true n) (told s false n)) ∙ sym whole),
         omega (arith, length_descriptions s n),
       )
 
