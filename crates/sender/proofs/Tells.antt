@@ -1,5 +1,5 @@
 -- What is told of a slot, case by case.
-use Rattle.laws.proofs.Base.{◌≡◌, refl, ap, ◌∙◌, Bool, true, false, cond, ℕ, suc, ◌+◌, ◌%◌, ◌≤◌, ◌<◌, arith, List, map, length, get_or, set, get_or-set_same, get_or-set_other, eqb, eq-eqb, ne_eqb, lt-ltb}
+use Rattle.laws.proofs.Base.{◌≡◌, refl, ap, ◌∙◌, Bool, true, false, cond, ℕ, suc, ◌+◌, ◌%◌, ◌≤◌, ◌<◌, arith, List, map, length, get_or, set, get_or-set_same, get_or-set_other, eqb, lt-ltb}
 use borrow.Author.Count.{below_more}
 use Rattle.schedule.specs.declared.Slot.{Slot}
 use Rattle.schedule.specs.Coded.{shown_of}
@@ -19,23 +19,6 @@ use defs.Inner.{shown_by}
 
 abbrev shown : Bool → Told → Shown
 shown n t = record { new = n; told = t }
-
-module _ (v : Planned) (i : ℕ) where
-  pub tells_advised : v.kind ≡ 1 → shown true advised ≡ shown_by v i
-  unfolding shown_by
-  tells_advised k = rw (ne_eqb v.kind 2 (omega arith), eq-eqb v.kind 1 k)
-
-  pub tells_optional : (v.kind ≡ 1 → ⊥) → (v.kind ≡ 2 → ⊥) → shown false optional ≡ shown_by v i
-  unfolding shown_by
-  tells_optional j k = rw (ne_eqb v.kind 2 k, ne_eqb v.kind 1 j)
-
-  pub tells_first : v.kind ≡ 2 → v.lowest ≡ suc i → shown v.fresh (first v.low) ≡ shown_by v i
-  unfolding shown_by
-  tells_first k l = rw (eq-eqb v.kind 2 k, eq-eqb v.lowest (suc i) l)
-
-  pub tells_again : v.kind ≡ 2 → (v.lowest ≡ suc i → ⊥) → shown v.fresh (again v.lowest) ≡ shown_by v i
-  unfolding shown_by
-  tells_again k l = rw (eq-eqb v.kind 2 k, ne_eqb v.lowest (suc i) l)
 
 -- what is told by what the plans say is what is planned
 told_said : (c p : Plan) (i : ℕ) → i < c.count → shown_by (said_at c p i) i ≡ planned c p i

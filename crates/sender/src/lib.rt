@@ -14,7 +14,6 @@ use plan::{Plan, Verdict};
 use plan_slots::Planned;
 use refusals::Refusal;
 use schedule::{Description, Slot};
-use sender_message::Writing;
 use sizes::{MESSAGE, SLOTS};
 
 // What the writer answers: the octets that the message uses, or a refusal, with the number of the entry that 36 and 37 name; with other
@@ -26,31 +25,28 @@ pub enum Sending {
 }
 
 // What is told of slot i, counted from 0, by what the plans say of it.
+#[tactic(auto, unfolding(crate::specs::Inner::shown_by), using(std::proofs::lemmas::Bool::Decides::nat_tests))]
 fn tell(said: Planned, i: usize) -> Slot
     requires { i < 48 }
     ensures { shown_of result ≡ shown_by (planned_of said) i }
 {
-    if said.kind == 1 {
-        return Slot {
+    match said.kind {
+        1 => Slot {
             new: true,
             description: Description::Advised,
-        };
-    }
-    if said.kind != 2 {
-        return Slot {
-            new: false,
-            description: Description::Optional,
-        };
-    }
-    if said.lowest as usize == i + 1 {
-        return Slot {
+        },
+        2 if i + 1 == said.lowest as usize => Slot {
             new: said.fresh,
             description: Description::First(said.low),
-        };
-    }
-    Slot {
-        new: said.fresh,
-        description: Description::Repeat(said.lowest),
+        },
+        2 => Slot {
+            new: said.fresh,
+            description: Description::Repeat(said.lowest),
+        },
+        _ => Slot {
+            new: false,
+            description: Description::Optional,
+        },
     }
 }
 
@@ -64,12 +60,8 @@ fn telling(current: Plan, previous: Plan) -> [Slot; SLOTS]
         description: Description::Optional,
     }; SLOTS];
     let all = plan_slots::all_planned(current, previous);
-    let count = current.count;
-    let mut i = 0;
-    while i < count {
-        let said = all[i];
-        slots[i] = tell(said, i);
-        i += 1;
+    for (i, said) in all[..current.count].iter().enumerate() {
+        slots[i] = tell(*said, i);
     }
     slots
 }
@@ -88,7 +80,7 @@ pub fn write_schedule(current: Plan, previous: Plan, begin: usize, out: &mut [u8
     let slots = telling(current, previous);
     let writing = sender_message::write_message(slots, current.count, begin, out);
     match writing {
-        Writing::Written(used) => Sending::Written(used),
-        Writing::Refused(refusal) => Sending::Refused(refusal, 0),
+        Ok(used) => Sending::Written(used),
+        Err(refusal) => Sending::Refused(refusal, 0),
     }
 }
