@@ -95,6 +95,12 @@ class Source:
                 continue
             self.functions[crate + '::' + name] = found[2] == 'pub ', said
             self.names |= {name, found[3], crate + '::' + name}
+        # A conversion is public, and promises of its result what from_gives says.
+        conversions = r'^impl From<([^\n]*?)> for ([^\n]*?) \{\n *ghost from_gives = \{ λ \w+ (\w+)\. (.*?) \};'
+        for given, to, made, clause in re.findall(conversions, text, re.M | re.S):
+            name, said = 'impl From<%s> for %s' % (given, to), re.sub(r"(?<![\w'-])%s(?![\w'-])" % made, 'result', plain(clause))
+            self.functions[crate + ': ' + name] = True, said
+            self.names |= {name, crate + ': ' + name}
         for name in re.findall(r'\b(?:struct|enum|const) (\w+)', text):
             self.names |= {name, crate + '::' + name}
 

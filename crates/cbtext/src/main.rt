@@ -15,7 +15,7 @@ ghost use Rattle.cbtext.specs.Inner.{Handed, line_for};
 
 use arguments::Asked;
 use files::Opened;
-use page::{MessageId, Serial};
+use page::{Header, MessageId, Serial};
 use sizes::MESSAGE;
 use std::io::{Input, Print, Read};
 use std::rt::{Env, Files};
@@ -148,7 +148,7 @@ fn put_heading(number: u64, page: &[u8], out: &mut [u8], at: usize) -> usize
     requires { length page.now ≡ 88 }
     ensures { record { end = result; text = out.new } ≡ all_behind (heading number page.now) at out.old }
 {
-    let header = page::read_header([page[0], page[1], page[2], page[3], page[4], page[5]]);
+    let header = Header::from([page[0], page[1], page[2], page[3], page[4], page[5]]);
     let serial = header.serial;
     let id = header.id;
     let parameter = header.parameter;

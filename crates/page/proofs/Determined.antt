@@ -1,15 +1,15 @@
 -- Two answers that meet a public contract of this crate are equal.
-use Rattle.laws.proofs.Base.{◌≡◌, sym, ap, List, ℕ, ◌+◌, ◌*◌}
+use Rattle.std.specs.Prelude.{⊤, Result, Ok, Err}
+use Rattle.laws.proofs.Base.{◌≡◌, refl, sym, ap, List, ℕ, ◌+◌, ◌*◌}
 use Rattle.laws.specs.Determined.{Determined}
 use Rattle.laws.proofs.Determined.{determined, determined_by}
 use Rattle.refusals.proofs.Inverse.{number_of_injective, number_of_positive}
+use Rattle.refusals.specs.declared.Refusal.{Refusal}
 use Rattle.page.specs as defs
 use defs.Paper.{Part, header, header_octets, parameter_read, handed_part, handed_number}
 use defs.Coded.{key_of, heading_of, name_of, number_of_handing}
 use defs.declared.Header.{Header}
 use defs.declared.PageName.{PageName}
-use defs.declared.Handing.{Handing}
-use defs.declared.Handing.TheVariants.{Handed, Refused}
 
 pub determined_joined : (high low : ℕ) → Determined (λ (r : ℕ). r ≡ high * 256 + low)
 determined_joined high low = determined
@@ -28,13 +28,13 @@ determined_parameter_read parameter = determined
 pub determined_key : (name : PageName) → Determined (λ (r : ℕ). r ≡ key_of (name_of name))
 determined_key name = determined
 
-handing_injective : (r s : Handing) → number_of_handing r ≡ number_of_handing s → r ≡ s
-handing_injective Handed Handed e = cc
-handing_injective Handed (Refused b) e = absurd (number_of_positive b (sym e))
-handing_injective (Refused a) Handed e = absurd (number_of_positive a e)
-handing_injective (Refused a) (Refused b) e = ap Refused (number_of_injective a b e)
+handing_injective : (r s : Result ⊤ Refusal) → number_of_handing r ≡ number_of_handing s → r ≡ s
+handing_injective (Ok x) (Ok y) e = refl
+handing_injective (Ok x) (Err b) e = absurd (number_of_positive b (sym e))
+handing_injective (Err a) (Ok y) e = absurd (number_of_positive a e)
+handing_injective (Err a) (Err b) e = ap Err (number_of_injective a b e)
 
-pub determined_content_answer : (page : List ℕ) (received : ℕ) → Determined (λ (r : Handing). number_of_handing r ≡ handed_number page received)
+pub determined_content_answer : (page : List ℕ) (received : ℕ) → Determined (λ (r : Result ⊤ Refusal). number_of_handing r ≡ handed_number page received)
 determined_content_answer page received = determined_by number_of_handing handing_injective
 
 -- the part is known by where it lies and what it holds

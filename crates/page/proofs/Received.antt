@@ -1,6 +1,7 @@
 -- Which test of the handing back answers.
-use Rattle.laws.proofs.Base.{◌≡◌, true, false, List, ℕ, eqb, length, eq-eqb, ne_eqb, eqb-true, eqb-false}
+use Rattle.laws.proofs.Base.{◌≡◌, true, false, List, ℕ, ◌≤◌, arith, eqb, length, eq-eqb, ne_eqb, eqb-true, eqb-false}
 use Rattle.sizes.specs.Paper.{whole_blocks}
+use Rattle.sizes.proofs.Received.{whole_bounds}
 use Rattle.laws.specs.Ruled.{ruled}
 use Rattle.laws.proofs.Tests.{true_or_false}
 use Rattle.page.specs.Paper.{Part, handing, handed_number, empty_part, content_part, handed_part}
@@ -36,3 +37,30 @@ handled p n =
     (λ f. all_right l f (handed (λ m. m) 0 p n l f))
     (λ f. received_wrong l f (refused_received (λ m. m) 0 p n l f)))
     (λ e. let ne = eqb-false (length p) 88 e in length_wrong ne (refused_length (λ m. m) 0 p n ne))
+
+-- where the number is 0, the page is whole, what was received lies in it, and that is handed back
+pub handed_bounds : (p : List ℕ) (n : ℕ) → handed_number p n ≡ 0 → (length p ≡ 88) × (22 ≤ n) × (n ≤ 88)
+handed_bounds p n e =
+    elim (handled p n) [
+      | length_wrong l h ↦ absurd (omega (arith, e, h))
+      | received_wrong l w h ↦ absurd (omega (arith, e, h))
+      | all_right l w h ↦ let b = whole_bounds n w in (l, b.0, b.1)
+    ]
+
+pub handed_all : (p : Part) (n : ℕ) → handed_number p.octets n ≡ 0 → handed_part p n ≡ content_part p n
+handed_all p n e =
+    elim (handled p.octets n) [
+      | length_wrong l h ↦ absurd (omega (arith, e, h))
+      | received_wrong l w h ↦ absurd (omega (arith, e, h))
+      | all_right l w h ↦ handed_content p n l w
+    ]
+
+-- where it is another, an empty part is
+pub handed_none : (p : Part) (n : ℕ) → (handed_number p.octets n ≡ 0 → ⊥) → handed_part p n ≡ empty_part p
+unfolding handed_part
+handed_none p n ne =
+    elim (handled p.octets n) [
+      | length_wrong l h ↦ refused_length (λ m. empty_part p) (content_part p n) p.octets n l
+      | received_wrong l w h ↦ refused_received (λ m. empty_part p) (content_part p n) p.octets n l w
+      | all_right l w h ↦ absurd (ne h)
+    ]

@@ -1,12 +1,11 @@
 -- The code's headers, page names and answers as the paper's numbers.
-use Rattle.std.specs.Prelude.{ℕ, ◌+◌, ◌*◌, List}
+use Rattle.std.specs.Prelude.{ℕ, ◌+◌, ◌*◌, List, ⊤, Result, Ok, Err}
 use Rattle.std.specs.Borrow.{Bor}
 use Rattle.refusals.specs.Number.{number_of}
+use Rattle.refusals.specs.declared.Refusal.{Refusal}
 use Rattle.page.specs.Paper.{Heading, Name, parameter_read, Part}
 use Rattle.page.specs.declared.Header.{Header}
 use Rattle.page.specs.declared.PageName.{PageName}
-use Rattle.page.specs.declared.Handing.{Handing}
-use Rattle.page.specs.declared.Handing.TheVariants.{Handed, Refused}
 
 -- a header as its numbers
 abbrev pub heading_of : Header → Heading
@@ -21,9 +20,9 @@ unfoldable pub key_of : Name → ℕ
 key_of n = parameter_read n.parameter * 0x100000000 + (n.id * 0x10000 + n.serial)
 
 -- the number of an answer: 0 for done
-abbrev pub number_of_handing : Handing → ℕ
-number_of_handing Handed = 0
-number_of_handing (Refused r) = number_of r
+abbrev pub number_of_handing : Result ⊤ Refusal → ℕ
+number_of_handing (Ok x) = 0
+number_of_handing (Err r) = number_of r
 
 -- where a lent part lies, and what it holds
 abbrev pub part_of : Bor (List ℕ) → Part

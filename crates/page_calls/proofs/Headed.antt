@@ -14,9 +14,6 @@ module _ (p : List ℕ) where
   unfolding headed
   headed_read e = rw (eq-eqb (length p) 88 e)
 
-  pub refuses_header : (r : ℕ) → r ≡ 16 → (length p ≡ 88 → ⊥) → r ≡ header_call p
-  refuses_header r n e = omega (arith, ap packed_headed (headed_length e))
-
   -- the first six octets
   abbrev pub six : List ℕ
   six = get_or p 0 0 ∷ get_or p 1 0 ∷ get_or p 2 0 ∷ get_or p 3 0 ∷ get_or p 4 0 ∷ get_or p 5 0 ∷ []

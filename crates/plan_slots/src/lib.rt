@@ -34,7 +34,7 @@ fn mark(entry: Entry) -> u64
         id,
         parameter: entry.parameter,
     };
-    page::key(name) * 0x10000 + entry.kind as u64
+    name.key() * 0x10000 + entry.kind as u64
 }
 
 // Writes the entries of a plan as numbers.

@@ -8,7 +8,6 @@ ghost use Rattle.text.specs.Paper.{blank_cell, shown, shown_text, whole_of, read
 ghost use Rattle.text_reader.specs.Coded.{reading_of};
 
 use alphabet::tables::CODE_POINTS;
-use page::Handing;
 use refusals::Refusal;
 use text::PLACES;
 
@@ -51,7 +50,7 @@ pub fn read_text(page: &[u8], received: usize, text: &mut [u16]) -> Got
         return Got::Refused(Refusal::OutputLength);
     }
     let answer = page::content_answer(page, received);
-    if let Handing::Refused(refusal) = answer {
+    if let Err(refusal) = answer {
         return Got::Refused(refusal);
     }
     if page[4] > 0x0F {

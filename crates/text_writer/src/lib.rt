@@ -140,7 +140,7 @@ fn put_page(table: &[u8; 938], heading: Header, text: &[u16], count: usize, page
     requires { Writable table.now text.now count 88 page.old }
     ensures { page.new ≡ page_octets (heading_of heading) text.now }
 {
-    let head = page::header_octets(heading);
+    let head = <[u8; 6]>::from(heading);
     octets::copy(&head, &mut page[..6]);
     filling::pack(table, text, count, &mut page[6..]);
 }

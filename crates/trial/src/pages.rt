@@ -2,7 +2,7 @@
 use crate::fields::UNREAD;
 use crate::told::DIFFERS;
 use crate::{fields, told};
-use page::{Handing, MessageId, Serial};
+use page::{MessageId, Serial};
 use text_reader::Got;
 use text_writer::Written;
 
@@ -26,8 +26,8 @@ fn content_of(line: &[u8], at: usize, page: &[u8], received: usize) -> usize {
 fn handing(page: &[u8], received: usize) -> u8 {
     let answer = page::content_answer(page, received);
     match answer {
-        Handing::Handed => 0,
-        Handing::Refused(refusal) => refusals::number(refusal),
+        Ok(()) => 0,
+        Err(refusal) => refusals::number(refusal),
     }
 }
 

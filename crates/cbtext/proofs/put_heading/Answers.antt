@@ -8,5 +8,5 @@ use Rattle.cbtext.proofs.put_heading.Goals as goal
 pub returns : goal.returns
 returns c =
     let page = c.args.page.now in
-    rw (← (c.read_header-header.ensures ∙ header_front page))
+    rw (← (c.from-header.ensures ∙ header_front page))
     (and_others (names _ _ _) _ _ _ c.put_names-a.ensures (and_then _ _ _ _ c.put_octet-b.ensures c.put_parameter.ensures))

@@ -15,14 +15,14 @@ pub returns-then-text-ne-PLACES : goal.returns-then-text-ne-PLACES
 unfolding reading_with
 returns-then-text-ne-PLACES c = simp (ne_eqb _ _ c.if-text-ne-PLACES.true)
 
-pub returns-in-Refused : goal.returns-in-Refused
-returns-in-Refused c =
+pub returns-in-Err : goal.returns-in-Err
+returns-in-Err c =
     let page : List ℕ = c.args.page.now in
     let received : ℕ = c.args.received in
     let text : List ℕ = c.args.text.now in
     sym
-    (reading_refused page received text (number_of c.in-Refused.refusal) c.if-text-ne-PLACES.false
-    (sym (ap number_of_handing c.in-Refused.is) ∙ c.content_answer-answer.ensures) (number_of_positive c.in-Refused.refusal))
+    (reading_refused page received text (number_of c.in-Err.refusal) c.if-text-ne-PLACES.false
+    (sym (ap number_of_handing c.in-Err.is) ∙ c.content_answer-answer.ensures) (number_of_positive c.in-Err.refusal))
 
 pub bounds-page-4 : goal.bounds-page-4
 bounds-page-4 c =

@@ -13,7 +13,7 @@ made head rest d y h e =
 pub returns : goal.returns
 unfolding page_octets
 returns c =
-    let h = c.header_octets-head in
+    let h = c.from-head in
     let a = c.args in
     let rest = drop 6 a.page.now in
     made h.result rest _ c.pack.new.octets (ap length h.ensures ∙ header_length (heading_of a.heading)) (ap (λ (l : List ℕ). l ++ rest) c.copy.ensures)
