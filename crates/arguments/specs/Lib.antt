@@ -1,2 +1,3 @@
 -- What `arguments` defines.
+pub mod Inner
 pub mod Paper

@@ -1,18 +1,31 @@
-// What a program's arguments ask for.
+// What a program's arguments ask for, and what it says of itself.
 #![tactic(auto)]
 
-ghost use Rattle.std.specs.Prelude.{◌≡◌};
+ghost use Rattle.std.specs.Prelude.{◌≡◌, List, ℕ};
 ghost use Rattle.arguments.specs.Paper.{help_asked, asked_by};
+ghost use Rattle.arguments.specs.Inner.{works};
 
 use std::env::FillError;
+use std::io::Print;
 use std::rt::Env;
 
 // What a program's arguments ask for.
-#[derive(Clone, Copy)]
+#[derive(Clone, Copy, Debug, PartialEq, Eq)]
 pub enum Asked {
     Work,
     Help,
     Usage,
+}
+
+// A program: its name, how it is used and what it does, each of these two in whole lines, and the number of arguments from fewest
+// to most with which it works. The program's name counts as one.
+#[derive(Clone, Copy)]
+pub struct Program<'a> {
+    pub name: &'a [u8],
+    pub usage: &'a [u8],
+    pub help: &'a [u8],
+    pub fewest: usize,
+    pub most: usize,
 }
 
 // How many arguments a program has, its name included.
@@ -33,7 +46,7 @@ fn asks_help(count: usize, first: &[u8]) -> bool
     if count != 2 {
         return false;
     }
-    check::same(first, b"--help")
+    first == b"--help".as_slice()
 }
 
 // What a program's arguments ask for, where it works with a number of them from fewest to most. The program's name counts as one.
@@ -50,4 +63,40 @@ pub fn asked_for(count: usize, first: &[u8], fewest: usize, most: usize) -> Aske
         return Asked::Usage;
     }
     Asked::Work
+}
+
+// Says how a program is used, and what it does where help is asked for. Answers whether the program is to work: nothing is said then.
+pub fn tell(asked: Asked, program: &Program, output: &impl Print, errors: &impl Print) -> bool
+    ensures { result ≡ works asked }
+{
+    match asked {
+        Asked::Work => true,
+        Asked::Help => {
+            if files::write_text(output, errors, program.name, program.usage) {
+                files::write_text(output, errors, program.name, program.help);
+            }
+            false
+        }
+        Asked::Usage => {
+            let _ = errors.write_all(program.name);
+            let _ = errors.write_all(b": ");
+            let _ = errors.write_all(program.usage);
+            false
+        }
+    }
+}
+
+// Whether a program's arguments ask it to work. Where they don't, help or how it is used is said.
+pub fn asked_to_work(
+    rt: &impl Env,
+    program: &Program,
+    output: &impl Print,
+    errors: &impl Print,
+) -> bool
+    ensures { (count : ℕ) × (first : List ℕ) × (result ≡ works (asked_by count first program.now.fewest program.now.most)) }
+{
+    let mut word = io::buffer();
+    let length = rt.arg(1, &mut word).unwrap_or(0);
+    let asked = asked_for(count(rt), &word[..length], program.fewest, program.most);
+    tell(asked, program, output, errors)
 }

@@ -14,10 +14,9 @@ ghost use Rattle.logs.specs.Inner.{Continues};
 ghost use Rattle.cbcheck.specs.Paper.{numbers, names_untrue, rule_of, reason, said, line, line_of, lines};
 ghost use Rattle.cbcheck.specs.Inner.{line_for, fresh_beside};
 
-use arguments::Asked;
+use arguments::Program;
 use checker::Checking;
 use checker_plans::Plans;
-use files::Opened;
 use refusals::Refusal;
 use sizes::{MESSAGE, SLOTS};
 use std::io::{Input, Print, Read};
@@ -26,32 +25,24 @@ use std::rt::{Env, Files};
 // Room for the longest line of each piece of a chunk.
 const ROOM: usize = 146432;
 
-fn main(rt: HostRuntime) {
-    let mut word = io::buffer();
-    let length = rt.arg(1, &mut word).unwrap_or(0);
-    let asked = arguments::asked_for(arguments::count(&rt), &word[..length], 3, 4);
-    match asked {
-        Asked::Work => check_named(&rt, &rt.stdout(), &rt.stderr()),
-        Asked::Help => say_help(&rt.stdout(), &rt.stderr()),
-        Asked::Usage => say_usage(&rt.stderr()),
-    }
-}
-
-fn say_help(output: &impl Print, errors: &impl Print) {
-    files::write_text(
-        output,
-        errors,
-        b"cbcheck",
-        b"usage: cbcheck CURRENT PREVIOUS [FILE]\n\
-        Checks the schedule messages of a log of blocks, FILE or standard input, beside two plan files, a line for each message.\n\
+// The program, as its arguments are asked for and told.
+const PROGRAM: Program<'static> = Program {
+    name: b"cbcheck",
+    usage: b"usage: cbcheck CURRENT PREVIOUS [FILE]\n",
+    help: b"Checks the schedule messages of a log of blocks, FILE or standard input, beside two plan files, a line for each message.\n\
         A line has the number of the message's last block, 0 where the message is true or the number that refuses it,\n\
         the lowest untrue slot or 0, and the same in words.\n\
         A previous plan of no slots stands for none.\n",
-    );
-}
+    fewest: 3,
+    most: 4,
+};
 
-fn say_usage(errors: &impl Print) {
-    let _ = errors.write_all(b"cbcheck: usage: cbcheck CURRENT PREVIOUS [FILE]\n");
+fn main(rt: HostRuntime) {
+    let output = rt.stdout();
+    let errors = rt.stderr();
+    if arguments::asked_to_work(&rt, &PROGRAM, &output, &errors) {
+        check_named(&rt, &output, &errors);
+    }
 }
 
 // Checks the log that the third argument names, or standard input, beside the plan files that the first two name.
@@ -77,8 +68,8 @@ fn check_log<R: Env + Files + Input>(
 ) {
     let mut name = io::buffer();
     let opened = files::open_log(rt, errors, b"cbcheck", 3, &mut name);
-    if let Opened::File(mut file, length) = opened {
-        list_opened(output, errors, plans, &name[..length], &mut file);
+    if let Some(mut log) = opened {
+        list_opened(output, errors, plans, &name[..log.length], &mut log.file);
     }
 }
 

@@ -10,46 +10,37 @@ ghost use Rattle.logs.specs.Paper.{cut};
 ghost use Rattle.logs.specs.Inner.{Continues};
 ghost use Rattle.cblist.specs.Paper.{line, line_of, lines};
 
-use arguments::Asked;
-use files::Opened;
+use arguments::Program;
 use sizes::MESSAGE;
 use std::io::{Input, Print, Read};
 use std::rt::{Env, Files};
 
-fn main(rt: HostRuntime) {
-    let mut word = io::buffer();
-    let length = rt.arg(1, &mut word).unwrap_or(0);
-    let asked = arguments::asked_for(arguments::count(&rt), &word[..length], 1, 2);
-    match asked {
-        Asked::Work => list_named(&rt, &rt.stdout(), &rt.stderr()),
-        Asked::Help => say_help(&rt.stdout(), &rt.stderr()),
-        Asked::Usage => say_usage(&rt.stderr()),
-    }
-}
-
-fn say_help(output: &impl Print, errors: &impl Print) {
-    files::write_text(
-        output,
-        errors,
-        b"cblist",
-        b"usage: cblist [FILE]\n\
-        Lists a log of blocks, FILE or standard input: 23 octets are a block, and a shorter tail is a piece too.\n\
+// The program, as its arguments are asked for and told.
+const PROGRAM: Program<'static> = Program {
+    name: b"cblist",
+    usage: b"usage: cblist [FILE]\n",
+    help: b"Lists a log of blocks, FILE or standard input: 23 octets are a block, and a shorter tail is a piece too.\n\
         A line has the block's number, the intake's answer, and the octets received where a message is complete, 0 otherwise.\n\
         Answers: 0 page complete, 1 block taken, 7 schedule message complete; refused: 2 not 23 octets, 3 discriminator not 01,\n\
         4 reserved code, 5 null block, 6 not the next block of its message.\n",
-    );
-}
+    fewest: 1,
+    most: 2,
+};
 
-fn say_usage(errors: &impl Print) {
-    let _ = errors.write_all(b"cblist: usage: cblist [FILE]\n");
+fn main(rt: HostRuntime) {
+    let output = rt.stdout();
+    let errors = rt.stderr();
+    if arguments::asked_to_work(&rt, &PROGRAM, &output, &errors) {
+        list_named(&rt, &output, &errors);
+    }
 }
 
 // Lists the log that the argument names, or standard input.
 fn list_named<R: Env + Files + Input>(rt: &R, output: &impl Print, errors: &impl Print) {
     let mut name = io::buffer();
     let opened = files::open_log(rt, errors, b"cblist", 1, &mut name);
-    if let Opened::File(mut file, length) = opened {
-        list_opened(output, errors, &name[..length], &mut file);
+    if let Some(mut log) = opened {
+        list_opened(output, errors, &name[..log.length], &mut log.file);
     }
 }
 

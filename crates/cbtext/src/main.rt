@@ -13,8 +13,7 @@ ghost use Rattle.logs.specs.Inner.{Continues};
 ghost use Rattle.cbtext.specs.Paper.{utf8, letter, character, joined, text_part, hex_part, names, parts, heading, body, page_line, line_of, page_lines};
 ghost use Rattle.cbtext.specs.Inner.{Handed, line_for};
 
-use arguments::Asked;
-use files::Opened;
+use arguments::Program;
 use page::{Header, MessageId, Serial};
 use sizes::MESSAGE;
 use std::io::{Input, Print, Read};
@@ -25,32 +24,24 @@ use text_reader::Got;
 // Room for the longest line of each piece of a chunk.
 const ROOM: usize = 366592;
 
-fn main(rt: HostRuntime) {
-    let mut word = io::buffer();
-    let length = rt.arg(1, &mut word).unwrap_or(0);
-    let asked = arguments::asked_for(arguments::count(&rt), &word[..length], 1, 2);
-    match asked {
-        Asked::Work => list_named(&rt, &rt.stdout(), &rt.stderr()),
-        Asked::Help => say_help(&rt.stdout(), &rt.stderr()),
-        Asked::Usage => say_usage(&rt.stderr()),
-    }
-}
-
-fn say_help(output: &impl Print, errors: &impl Print) {
-    files::write_text(
-        output,
-        errors,
-        b"cbtext",
-        b"usage: cbtext [FILE]\n\
-        Shows the pages of a log of blocks, FILE or standard input, a line for each page that is complete.\n\
+// The program, as its arguments are asked for and told.
+const PROGRAM: Program<'static> = Program {
+    name: b"cbtext",
+    usage: b"usage: cbtext [FILE]\n",
+    help: b"Shows the pages of a log of blocks, FILE or standard input, a line for each page that is complete.\n\
         A line has the number of the page's last block, its serial number and identifier in hex, page and total,\n\
         and then the word text with the text received or, where the coding scheme is over 0F, hex with the content received.\n\
         Inside a text \\n and \\r are line ends, \\f is a form feed and \\\\ a backslash.\n",
-    );
-}
+    fewest: 1,
+    most: 2,
+};
 
-fn say_usage(errors: &impl Print) {
-    let _ = errors.write_all(b"cbtext: usage: cbtext [FILE]\n");
+fn main(rt: HostRuntime) {
+    let output = rt.stdout();
+    let errors = rt.stderr();
+    if arguments::asked_to_work(&rt, &PROGRAM, &output, &errors) {
+        list_named(&rt, &output, &errors);
+    }
 }
 
 // Room for the lines of a chunk.
@@ -64,8 +55,8 @@ fn lines_buffer() -> [u8; ROOM]
 fn list_named<R: Env + Files + Input>(rt: &R, output: &impl Print, errors: &impl Print) {
     let mut name = io::buffer();
     let opened = files::open_log(rt, errors, b"cbtext", 1, &mut name);
-    if let Opened::File(mut file, length) = opened {
-        list_opened(output, errors, &name[..length], &mut file);
+    if let Some(mut log) = opened {
+        list_opened(output, errors, &name[..log.length], &mut log.file);
     }
 }
 

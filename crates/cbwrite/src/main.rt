@@ -7,7 +7,7 @@ ghost use Rattle.plan.specs.Coded.{plan_of};
 ghost use Rattle.cbwrite.specs.Paper.{composed};
 ghost use Rattle.cbwrite.specs.Inner.{typed};
 
-use arguments::Asked;
+use arguments::{Asked, Program};
 use block::Kind;
 use block_writer::Sent;
 use plan::Plan;
@@ -27,38 +27,30 @@ enum Begin {
 // Every Begin from here on is refused alike, so a longer one is read as this.
 const MOST: usize = 1000;
 
-fn main(rt: HostRuntime) {
-    let mut word = io::buffer();
-    let length = rt.arg(1, &mut word).unwrap_or(0);
-    let asked = arguments::asked_for(arguments::count(&rt), &word[..length], 4, 4);
-    match asked {
-        Asked::Work => write_named(&rt, &rt.stdout(), &rt.stderr()),
-        Asked::Help => say_help(&rt.stdout(), &rt.stderr()),
-        Asked::Usage => say_usage(&rt.stderr()),
-    }
-}
-
-fn say_help(output: &impl Print, errors: &impl Print) {
-    files::write_text(
-        output,
-        errors,
-        b"cbwrite",
-        b"usage: cbwrite CURRENT PREVIOUS BEGIN\n\
-        Writes the schedule message of a plan file, beside the plan file before it, to standard output.\n\
+// The program, as its arguments are asked for and told.
+const PROGRAM: Program<'static> = Program {
+    name: b"cbwrite",
+    usage: b"usage: cbwrite CURRENT PREVIOUS BEGIN\n",
+    help: b"Writes the schedule message of a plan file, beside the plan file before it, to standard output.\n\
         BEGIN is the message's Begin in decimal, one of the slots of the current plan.\n\
         A previous plan of no slots stands for none. What is written is four blocks of 23 octets, which cblist and cbcheck read.\n",
-    );
-}
+    fewest: 4,
+    most: 4,
+};
 
-fn say_usage(errors: &impl Print) {
-    let _ = errors.write_all(b"cbwrite: usage: cbwrite CURRENT PREVIOUS BEGIN\n");
+fn main(rt: HostRuntime) {
+    let output = rt.stdout();
+    let errors = rt.stderr();
+    if arguments::asked_to_work(&rt, &PROGRAM, &output, &errors) {
+        write_named(&rt, &output, &errors);
+    }
 }
 
 // Writes the blocks for the three arguments.
 fn write_named<R: Env + Files>(rt: &R, output: &impl Print, errors: &impl Print) {
     let mut typed = io::buffer();
     let Ok(length) = rt.arg(3, &mut typed) else {
-        say_usage(errors);
+        arguments::tell(Asked::Usage, &PROGRAM, output, errors);
         return;
     };
     let begin = begin_of(&typed[..length]);

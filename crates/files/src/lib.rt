@@ -7,11 +7,11 @@ ghost use Rattle.files.specs.Paper.{faulty};
 ghost use Rattle.files.specs.Inner.{named, filled};
 
 use std::env::FillError;
-use std::fmt;
 use std::fmt::Write;
 use std::fs::File;
-use std::io::{Error, Input, Print, Read, Result};
+use std::io::{Error, Input, Print, Read};
 use std::rt::{Env, Files};
+use std::{fmt, io};
 
 // Room for the names of a program and of a file.
 pub const NAMES: usize = 4200;
@@ -26,11 +26,11 @@ const ENAMETOOLONG: i32 = 36;
 
 const EILSEQ: i32 = 84;
 
-// A file opened for reading, with the length of its name; or none.
+// A file opened for reading, and how many octets of lent memory its name fills.
 #[derive(Drop)]
-pub enum Opened<S> {
-    File(S, usize),
-    Nothing,
+pub struct Opened<S> {
+    pub file: S,
+    pub length: usize,
 }
 
 // What a log is read from: a file, or standard input.
@@ -41,7 +41,7 @@ pub enum Source<F, I> {
 }
 
 impl<F: Read, I: Read> Read for Source<F, I> {
-    fn read(&mut self, memory: &mut [u8]) -> Result<usize> {
+    fn read(&mut self, memory: &mut [u8]) -> io::Result<usize> {
         match self {
             Source::File(file) => file.read(memory),
             Source::Input(input) => input.read(memory),
@@ -49,13 +49,13 @@ impl<F: Read, I: Read> Read for Source<F, I> {
     }
 }
 
-// What reading a file gave: so many octets before its end or that of the memory, or before a fault.
-#[derive(Clone, Copy)]
-pub enum Filled {
-    Octets(usize),
-    Fault(usize),
+// A read that failed, and how many octets came before it.
+#[derive(Clone, Copy, Debug, PartialEq, Eq)]
+pub struct ReadFault {
+    pub octets: usize,
 }
 
+// Stays an array and its count: programs take no heap, and the words are cut before their number.
 // An error's words, and where they end.
 #[derive(Drop)]
 struct Words {
@@ -126,39 +126,41 @@ fn fail(errors: &impl Print, error: Error, program: &[u8], name: &[u8]) {
 }
 
 // Opens a file by its name. A name that is not UTF-8 is refused.
-pub fn open<R: Files>(rt: &R, name: &[u8]) -> Result<R::File> {
+pub fn open<R: Files>(rt: &R, name: &[u8]) -> io::Result<R::File> {
     match std::str::from_utf8(name) {
         Ok(path) => File::open(rt, path),
         Err(_) => Err(Error::from_raw_os_error(EILSEQ)),
     }
 }
 
-// Opens the file that argument i names, and leaves its name in lent memory.
+// Opens the file that argument i names, and leaves its name in lent memory. Where the system refuses it, that is said, and there
+// is none.
 pub fn open_named<R: Env + Files>(
     rt: &R,
     errors: &impl Print,
     program: &[u8],
     i: usize,
     name: &mut [u8],
-) -> Opened<R::File>
+) -> Option<Opened<R::File>>
     ensures { named result ≤ length name.old }
 {
     let size = match rt.arg(i, name) {
         Ok(size) => size,
         Err(unfilled) => {
             say(errors, program, Error::from_raw_os_error(number(unfilled)));
-            return Opened::Nothing;
+            return None;
         }
     };
     match open(rt, &name[..size]) {
-        Ok(file) => Opened::File(file, size),
+        Ok(file) => Some(Opened { file, length: size }),
         Err(error) => {
             fail(errors, error, program, &name[..size]);
-            Opened::Nothing
+            None
         }
     }
 }
 
+// Stays a function, and no From: FillError and Error are both the standard library's.
 // The number of the error where an argument is not to be had.
 fn number(unfilled: FillError) -> i32 {
     match unfilled {
@@ -174,41 +176,44 @@ pub fn open_log<R: Env + Files + Input>(
     program: &[u8],
     i: usize,
     name: &mut [u8],
-) -> Opened<Source<R::File, R::Reader>>
+) -> Option<Opened<Source<R::File, R::Reader>>>
     ensures { named result ≤ length name.old }
 {
     if let Err(FillError::NotPresent) = rt.arg(i, &mut []) {
         let length = lines::put(b"standard input", name, 0);
-        return Opened::File(Source::Input(rt.reader()), length);
+        let file = Source::Input(rt.reader());
+        return Some(Opened { file, length });
     }
-    match open_named(rt, errors, program, i, name) {
-        Opened::File(file, length) => Opened::File(Source::File(file), length),
-        Opened::Nothing => Opened::Nothing,
-    }
+    let opened = open_named(rt, errors, program, i, name)?;
+    Some(Opened {
+        file: Source::File(opened.file),
+        length: opened.length,
+    })
 }
 
-// Fills memory from a file that was opened by a name. A read that fails is said.
+// Fills memory from a file that was opened by a name, up to the file's end or that of the memory, and answers how many octets
+// were read. A read that fails is said.
 pub fn fill(
     errors: &impl Print,
     program: &[u8],
     name: &[u8],
     file: &mut impl Read,
     memory: &mut [u8],
-) -> Filled
+) -> Result<usize, ReadFault>
     ensures { filled result ≤ length memory.old }
 {
     let mut have = 0;
     while have < memory.len() {
         match file.read(&mut memory[have..]) {
-            Ok(0) => return Filled::Octets(have),
+            Ok(0) => return Ok(have),
             Ok(more) => have += more,
             Err(error) => {
                 fail(errors, error, program, name);
-                return Filled::Fault(have);
+                return Err(ReadFault { octets: have });
             }
         }
     }
-    Filled::Octets(have)
+    Ok(have)
 }
 
 // Writes text to standard output, and answers whether all of it was written.

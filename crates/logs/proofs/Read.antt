@@ -1,13 +1,13 @@
 -- What is known of a chunk that was read, by what reading gave.
 use Rattle.laws.proofs.Base.{◌≡◌, refl, sym, subst, Bool, true, false, cond, List, ℕ, ◌≤◌, arith, length, eqb, eqb-true}
+use Rattle.std.specs.Prelude.{Result, Ok, Err}
 use Rattle.laws.proofs.Tests.{true_or_false}
 use Rattle.logs.specs as defs
 use defs.Inner.{ending_of, chunk_of, Reads}
 use defs.declared.Chunk.{Chunk}
 use defs.declared.Ending.TheVariants as endings
 use Rattle.files.specs.Inner.{filled}
-use Rattle.files.specs.declared.Filled.{Filled}
-use Rattle.files.specs.declared.Filled.TheVariants.{Octets, Fault}
+use Rattle.files.specs.declared.ReadFault.{ReadFault}
 
 -- the endings differ
 pub more_last : endings.Last ≡ endings.More → ⊥
@@ -26,10 +26,10 @@ no_fault true e = more_fault (sym e)
 no_fault false e = let z : ◌≡◌ {A = ℕ} 0 1 = cc in omega arith
 
 -- the chunk that reading gave is as `read_chunk` promises
-pub chunk_reads : (got : Filled) (number : ℕ) (log : List ℕ) (r : Chunk) → length log ≡ 23552 → filled got ≤ 23552 → r ≡ chunk_of got number log → Reads number log r
-chunk_reads (Octets n) number log r size h e =
+pub chunk_reads : (got : Result ℕ ReadFault) (number : ℕ) (log : List ℕ) (r : Chunk) → length log ≡ 23552 → filled got ≤ 23552 → r ≡ chunk_of got number log → Reads number log r
+chunk_reads (Ok n) number log r size h e =
     subst (λ (x : Chunk). Reads number log x) (sym e)
-    record { size = size; few = h; whole = ends_more n; kept = λ f. absurd (no_fault (eqb n 23552) f); next = refl }
-chunk_reads (Fault n) number log r size h e =
+    record { size = size; few = h; whole = ends_more n; kept = λ e. absurd (no_fault (eqb n 23552) e); next = refl }
+chunk_reads (Err f) number log r size h e =
     subst (λ (x : Chunk). Reads number log x) (sym e)
-    record { size = size; few = omega arith; whole = λ f. absurd (more_fault f); kept = λ f. omega arith; next = refl }
+    record { size = size; few = omega arith; whole = λ e. absurd (more_fault e); kept = λ e. omega arith; next = refl }

@@ -1,5 +1,5 @@
 -- A chunk of a log: how many octets are read, how it ends, the number of the piece behind it, and how its text goes on.
-use Rattle.std.specs.Prelude.{◌≡◌, cond, List, ◌++◌, ℕ, ◌+◌, ◌-◌, ◌%◌, ◌≤◌, min, length, take, eqb}
+use Rattle.std.specs.Prelude.{◌≡◌, cond, List, ◌++◌, ℕ, ◌+◌, ◌-◌, ◌%◌, ◌≤◌, Result, Ok, Err, min, length, take, eqb}
 use Rattle.block.specs.Paper.{Given, start}
 use Rattle.block_history.specs.Claims.{after}
 use Rattle.firmware.specs.Paper.{lent}
@@ -7,8 +7,7 @@ use Rattle.logs.specs.Paper.{cut, listing}
 use Rattle.logs.specs.declared.Chunk.{Chunk}
 use Rattle.logs.specs.declared.Ending.{Ending}
 use Rattle.logs.specs.declared.Ending.TheVariants as endings
-use Rattle.files.specs.declared.Filled.{Filled}
-use Rattle.files.specs.declared.Filled.TheVariants.{Octets, Fault}
+use Rattle.files.specs.declared.ReadFault.{ReadFault}
 
 -- the number of the piece behind a chunk whose first piece has a number; no log has 10^18 pieces
 unfoldable pub moved_on : ℕ → List ℕ → ℕ
@@ -19,9 +18,10 @@ abbrev pub ending_of : ℕ → Ending
 ending_of n = cond (eqb n 23552) endings.More endings.Last
 
 -- the chunk that reading into a memory gave: 01 cblist, a shorter tail is a piece too; one before a fault is none
-abbrev pub chunk_of : Filled → ℕ → List ℕ → Chunk
-chunk_of (Octets n) number log = record { octets = n; next = moved_on number (take n log); ending = ending_of n }
-chunk_of (Fault n) number log = record { octets = n - n % 23; next = moved_on number (take (n - n % 23) log); ending = endings.Fault }
+abbrev pub chunk_of : Result ℕ ReadFault → ℕ → List ℕ → Chunk
+chunk_of (Ok n) number log = record { octets = n; next = moved_on number (take n log); ending = ending_of n }
+chunk_of (Err f) number log =
+    record { octets = f.octets - f.octets % 23; next = moved_on number (take (f.octets - f.octets % 23) log); ending = endings.Fault }
 
 -- what is known of a chunk that was read into a memory of 1,024 pieces: what goes on is 1,024 pieces, before a fault stand whole pieces, and the number moves by the pieces
 pub record Reads (number : ℕ) (log : List ℕ) (r : Chunk) : Type 0 where

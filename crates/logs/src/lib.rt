@@ -7,7 +7,7 @@ ghost use Rattle.firmware.specs.Paper.{lent};
 ghost use Rattle.files.specs.Inner.{filled};
 ghost use Rattle.logs.specs.Inner.{moved_on, ending_of, chunk_of, Reads};
 
-use files::Filled;
+use files::ReadFault;
 use firmware::STATE;
 use std::io::{Print, Read};
 
@@ -58,18 +58,18 @@ pub fn read_chunk(
 }
 
 // The chunk that reading gave.
-fn chunk_of(got: Filled, number: u64, log: &[u8]) -> Chunk
+fn chunk_of(got: Result<usize, ReadFault>, number: u64, log: &[u8]) -> Chunk
     requires { filled got ≤ length log.now }
     ensures { result ≡ chunk_of got number log.now }
 {
     match got {
-        Filled::Octets(octets) => Chunk {
+        Ok(octets) => Chunk {
             octets,
             next: moved_on(number, &log[..octets]),
             ending: ending_of(octets),
         },
-        Filled::Fault(octets) => {
-            let whole = octets - octets % 23;
+        Err(fault) => {
+            let whole = fault.octets - fault.octets % 23;
             Chunk {
                 octets: whole,
                 next: moved_on(number, &log[..whole]),

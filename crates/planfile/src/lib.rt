@@ -6,7 +6,6 @@ ghost use Rattle.plan.specs.Paper.{plan_number};
 ghost use Rattle.plan.specs.Coded.{plan_of};
 ghost use Rattle.planfile.specs.Inner.{taken_of, taken, untaken};
 
-use files::{Filled, Opened};
 use plan::{Plan, Verdict};
 use refusals::Refusal;
 use std::io::{Print, Read};
@@ -75,8 +74,8 @@ fn take_open(
     let mut file = [0u8; 295];
     let got = files::fill(errors, program, path, source, &mut file);
     match got {
-        Filled::Octets(count) => take_octets(errors, program, about, &file[..count]),
-        Filled::Fault(_) => none_taken(),
+        Ok(count) => take_octets(errors, program, about, &file[..count]),
+        Err(_) => none_taken(),
     }
 }
 
@@ -93,9 +92,9 @@ pub fn take<R: Env + Files>(
     let mut path = io::buffer();
     let opened = files::open_named(rt, errors, program, i, &mut path);
     match opened {
-        Opened::File(mut file, length) => {
-            take_open(errors, program, about, &mut file, &path[..length])
+        Some(mut plan) => {
+            take_open(errors, program, about, &mut plan.file, &path[..plan.length])
         }
-        Opened::Nothing => none_taken(),
+        None => none_taken(),
     }
 }

@@ -3,5 +3,5 @@ use Rattle.planfile.specs.Inner.{taken_of}
 use Rattle.planfile.proofs.Good.{untaken_good}
 use Rattle.planfile.proofs.take.Goals as goal
 
-pub returns-in-Nothing : goal.returns-in-Nothing
-returns-in-Nothing g c = untaken_good (taken_of c.none_taken.result) c.none_taken.ensures
+pub returns-in-None : goal.returns-in-None
+returns-in-None g c = untaken_good (taken_of c.none_taken.result) c.none_taken.ensures
