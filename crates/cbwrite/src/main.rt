@@ -1,7 +1,7 @@
 // Writes the four blocks of the schedule message of a plan file, beside the plan file before it: cbwrite CURRENT PREVIOUS BEGIN.
 #![tactic(auto)]
 
-ghost use Rattle.std.specs.Prelude.{◌≡◌, min};
+ghost use Rattle.std.specs.Prelude.{◌≡◌};
 ghost use Rattle.block_writer.specs.Coded.{sent_of};
 ghost use Rattle.plan.specs.Coded.{plan_of};
 ghost use Rattle.cbwrite.specs.Paper.{composed};
@@ -16,13 +16,6 @@ use sender::Sending;
 use sizes::MESSAGE;
 use std::io::Print;
 use std::rt::{Env, Files};
-
-// Begin as an argument tells it.
-#[derive(Clone, Copy)]
-enum Begin {
-    Number(usize),
-    NoNumber,
-}
 
 // Every Begin from here on is refused alike, so a longer one is read as this.
 const MOST: usize = 1000;
@@ -55,41 +48,31 @@ fn write_named<R: Env + Files>(rt: &R, output: &impl Print, errors: &impl Print)
     };
     let begin = begin_of(&typed[..length]);
     match begin {
-        Begin::Number(number) => write_plans(rt, output, errors, number, &typed[..length]),
-        Begin::NoNumber => say_usage(errors),
+        Some(number) => write_plans(rt, output, errors, number, &typed[..length]),
+        None => {
+            arguments::tell(Asked::Usage, &PROGRAM, output, errors);
+        }
     }
 }
 
-fn capped(number: usize) -> usize
-    ensures { result ≡ min number 1000 }
-{
-    if number > MOST {
-        return MOST;
-    }
-    number
-}
-
-// Begin in decimal.
-fn begin_of(digits: &[u8]) -> Begin
+// Begin in decimal; none of an argument that is not digits alone, or has no octet.
+fn begin_of(digits: &[u8]) -> Option<usize>
     ensures { result ≡ typed digits.now }
 {
     if digits.len() == 0 {
-        return Begin::NoNumber;
+        return None;
     }
     let mut number = 0;
-    let mut i = 0;
-    while i < digits.len() {
-        let digit = digits[i];
-        if digit < b'0' {
-            return Begin::NoNumber;
+    for digit in digits {
+        if *digit < b'0' {
+            return None;
         }
-        if digit > b'9' {
-            return Begin::NoNumber;
+        if *digit > b'9' {
+            return None;
         }
-        number = capped(10 * number + (digit - b'0') as usize);
-        i += 1;
+        number = (10 * number + (*digit - b'0') as usize).min(MOST);
     }
-    Begin::Number(number)
+    Some(number)
 }
 
 // Writes the blocks of the plan files that the first two arguments name, with Begin as it was typed.

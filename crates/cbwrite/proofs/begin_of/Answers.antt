@@ -7,20 +7,20 @@ use Rattle.cbwrite.proofs.begin_of.Goals as goal
 pub returns-then-digits-eq0 : goal.returns-then-digits-eq0
 returns-then-digits-eq0 c = typed_none _ c.if-digits-eq0.true
 
-pub loop-i-init : goal.loop-i-init
-loop-i-init c = (search rules, typed_some _ c.if-digits-eq0.false)
+pub loop-digit-init : goal.loop-digit-init
+loop-digit-init c = (search rules, typed_some _ c.if-digits-eq0.false)
 
 pub returns-then-digit-lt48 : goal.returns-then-digit-lt48
-returns-then-digit-lt48 c = sym (c.loop-i.invariant.1 ∙ typed_low _ _ _ c.loop-i-test.true c.if-digit-lt48.true)
+returns-then-digit-lt48 c = sym (c.loop-digit.invariant.1 ∙ typed_low _ _ _ c.loop-digit-test.true c.if-digit-lt48.true)
 
 pub returns-then-digit-gt57 : goal.returns-then-digit-gt57
-returns-then-digit-gt57 c = sym (c.loop-i.invariant.1 ∙ typed_high _ _ _ c.loop-i-test.true c.if-digit-lt48.false c.if-digit-gt57.true)
+returns-then-digit-gt57 c = sym (c.loop-digit.invariant.1 ∙ typed_high _ _ _ c.loop-digit-test.true c.if-digit-lt48.false c.if-digit-gt57.true)
 
-pub loop-i-preserved : goal.loop-i-preserved
-loop-i-preserved c = (
-  omega (arith, c.capped-number.ensures),
-  rw c.capped-number.ensures (c.loop-i.invariant.1 ∙ typed_digit _ _ _ c.loop-i-test.true c.if-digit-lt48.false c.if-digit-gt57.false),
+pub loop-digit-preserved : goal.loop-digit-preserved
+loop-digit-preserved c = (
+  omega (arith, c.min-number.ensures),
+  rw c.min-number.ensures (c.loop-digit.invariant.1 ∙ typed_digit _ _ _ c.loop-digit-test.true c.if-digit-lt48.false c.if-digit-gt57.false),
 )
 
 pub returns : goal.returns
-returns c = sym (c.loop-i.invariant.1 ∙ typed_end _ _ _ c.loop-i-test.false)
+returns c = sym (c.loop-digit.invariant.1 ∙ typed_end _ _ _ c.loop-digit-test.false)
