@@ -1,5 +1,5 @@
 -- Which test of a plan by value answers, and what is named with it, on plain facts.
-use Rattle.laws.proofs.Base.{◌≡◌, refl, sym, ap, ◌∙◌, Bool, true, false, cond, not, List, inl, inr, ⊎_elim, ℕ, ◌-◌, ◌≤◌}
+use Rattle.laws.proofs.Base.{◌≡◌, refl, sym, ap, ◌∙◌, Bool, true, false, cond, not, List, inl, inr, ⊎_elim, ℕ, ◌+◌, ◌-◌, ◌≤◌}
 use Rattle.laws.proofs.Base.{◌<◌, arith, ltb, eqb, length, get_or, lt-ltb, le-ltb, ltb-true, ltb-false, ne_eqb, eqb-true, not-false, length-take, ◌||◌}
 use Rattle.laws.specs.Search.{some}
 use Rattle.laws.proofs.Search.{Found, none_passes, first_passes, searched, found_some}
@@ -35,11 +35,12 @@ module _ (es : List Entry) where
       rw (none, e)
 
   -- it finds one
-  pub found : (s : ℕ) → lowest_bad es ≡ s → (s ≡ 0 → ⊥) → (n : ℕ) → n ≡ fault_of (get_or es (s - 1) free) → entries_answer es ≡ record { number = n; entry = s }
+  pub found : (i : ℕ) → lowest_bad es ≡ i + 1 → (n : ℕ) → n ≡ fault_of (get_or es i free) → entries_answer es ≡ record { number = n; entry = i + 1 }
   unfolding lowest_fault
-  found s e z n q =
-      let one : some bad es ≡ true = sym (found_some bad 0 es) ∙ ap (λ (t : ℕ). not (eqb t 0)) e ∙ ap not (ne_eqb s 0 z) in
-      rw (one, e, q)
+  found i e n q =
+      let one : some bad es ≡ true = sym (found_some bad 0 es) ∙ ap (λ (t : ℕ). not (eqb t 0)) e ∙ ap not (ne_eqb (i + 1) 0 (omega arith)) in
+      let at : i + 1 - 1 ≡ i = omega arith in
+      rw (one, e, at, q)
 
 -- no entry is named past the last
 lowest_few : (es : List Entry) → lowest_bad es ≤ length es

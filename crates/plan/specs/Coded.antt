@@ -1,11 +1,10 @@
 -- The code's entries, plans and answers as the documents' numbers and lists.
-use Rattle.std.specs.Prelude.{List, map}
+use Rattle.std.specs.Prelude.{⊤, List, map, Result, Ok, Err}
 use Rattle.refusals.specs.Number.{number_of}
 use Rattle.plan.specs.Paper.{Entry, Plan, Verdict}
 use Rattle.plan.specs.declared.Entry.{Entry as EntryCode}
 use Rattle.plan.specs.declared.Plan.{Plan as PlanCode}
-use Rattle.plan.specs.declared.Verdict.{Verdict as VerdictCode}
-use Rattle.plan.specs.declared.Verdict.TheVariants.{Good, Refused}
+use Rattle.plan.specs.declared.Fault.{Fault}
 
 -- an entry as its numbers
 abbrev pub entry_of : EntryCode → Entry
@@ -20,6 +19,6 @@ abbrev pub plan_of : PlanCode → Plan
 plan_of p = record { count = p.count; entries = entries_of p.entries }
 
 -- 0 for a good plan, or the refusal's number and the entry that comes with it
-abbrev pub verdict_of : VerdictCode → Verdict
-verdict_of Good = record { number = 0; entry = 0 }
-verdict_of (Refused r e) = record { number = number_of r; entry = e }
+abbrev pub verdict_of : Result ⊤ Fault → Verdict
+verdict_of (Ok x) = record { number = 0; entry = 0 }
+verdict_of (Err f) = record { number = number_of f.refusal; entry = f.entry }

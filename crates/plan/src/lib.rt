@@ -1,9 +1,9 @@
 // Plans held by value, and whether they are good.
 #![tactic(auto)]
 
-ghost use Rattle.std.specs.Prelude.{◌≡◌, ◌≤◌, take};
+ghost use Rattle.std.specs.Prelude.{◌≡◌, ◌≤◌, length};
 ghost use Rattle.refusals.specs.Number.{number_of};
-ghost use Rattle.plan.specs.Paper.{free, empty, bad, fault_of, plan_answer, plans_answer};
+ghost use Rattle.plan.specs.Paper.{empty, bad, fault_of, plan_answer, plans_answer};
 ghost use Rattle.plan.specs.Inner.{entries_answer};
 ghost use Rattle.plan.specs.Coded.{entry_of, entries_of, plan_of, verdict_of};
 
@@ -11,7 +11,8 @@ use page::{MessageId, Serial};
 use refusals::Refusal;
 use sizes::SLOTS;
 
-// A slot as planned: kind 0 for optional, 1 for advised, 2 for a page.
+// A slot as planned (docs/FORMATS.md): kind 0 for optional, 1 for advised, 2 for a page.
+// Stays a number: a kind over 2 is a value that a plan can have and that is refused by 36.
 #[derive(Clone, Copy)]
 pub struct Entry {
     pub kind: u8,
@@ -21,63 +22,62 @@ pub struct Entry {
 }
 
 // The slots as planned; entries past the count mean nothing.
+// Stays a count beside an array: there is no heap here, and a count over 48 is a value that is refused by 32.
 #[derive(Clone, Copy)]
 pub struct Plan {
     pub count: usize,
     pub entries: [Entry; SLOTS],
 }
 
-// What is said of a plan: it is good, or it is refused, with the number of the entry that 36 and 37 name; with other refusals that is 0.
-#[derive(Clone, Copy)]
-pub enum Verdict {
-    Good,
-    Refused(Refusal, u8),
+// Why plans are refused, and the number of the entry that 36 and 37 name (02 No. 1), counted from 1; with other refusals that is 0.
+#[derive(Clone, Copy, Debug, PartialEq, Eq)]
+pub struct Fault {
+    pub refusal: Refusal,
+    pub entry: u8,
 }
 
-fn free_entry() -> Entry
-    ensures { entry_of result ≡ free }
-{
-    Entry {
-        kind: 0,
-        serial: Serial(0),
-        id: MessageId(0),
-        parameter: 0,
+// A refusal that names no entry.
+impl From<Refusal> for Fault {
+    ghost from_gives = { λ refusal fault. fault ≡ record { refusal = refusal; entry = 0 } };
+
+    fn from(refusal: Refusal) -> Fault {
+        Fault { refusal, entry: 0 }
     }
 }
+
+// The entry of a slot that isn't used.
+const FREE: Entry = Entry {
+    kind: 0,
+    parameter: 0,
+    serial: Serial(0),
+    id: MessageId(0),
+};
 
 // The plan of no slots.
 pub fn empty_plan() -> Plan
     ensures { plan_of result ≡ empty }
 {
-    let unused = free_entry();
     Plan {
         count: 0,
-        entries: [unused; SLOTS],
+        entries: [FREE; SLOTS],
     }
 }
 
-// Whether an entry is none that a plan may have.
-fn is_bad(entry: Entry) -> bool
-    ensures { result ≡ bad (entry_of entry) }
+// Whether an entry is none that a plan may have (docs/FORMATS.md).
+#[tactic(auto, unfolding(crate::specs::Paper::bad))]
+fn is_bad(entry: &Entry) -> bool
+    ensures { result ≡ bad (entry_of entry.now) }
 {
-    if entry.kind > 2 {
-        return true;
+    match entry.kind {
+        0 | 1 => entry.serial.0 != 0 || entry.id.0 != 0 || entry.parameter != 0,
+        2 => false,
+        _ => true,
     }
-    if entry.kind == 2 {
-        return false;
-    }
-    if entry.serial.0 != 0 {
-        return true;
-    }
-    if entry.id.0 != 0 {
-        return true;
-    }
-    entry.parameter != 0
 }
 
 // What is wrong with a bad entry.
-fn fault_of(entry: Entry) -> Refusal
-    ensures { number_of result ≡ fault_of (entry_of entry) }
+fn fault_of(entry: &Entry) -> Refusal
+    ensures { number_of result ≡ fault_of (entry_of entry.now) }
 {
     if entry.kind > 2 {
         return Refusal::PlanKind;
@@ -85,47 +85,42 @@ fn fault_of(entry: Entry) -> Refusal
     Refusal::PlanStray
 }
 
-// Whether the first entries are good, and if not what is wrong with the lowest bad one, and its number, counted from 1.
-fn entries_answer(entries: [Entry; SLOTS], count: usize) -> Verdict
-    requires { count ≤ 48 }
-    ensures { verdict_of result ≡ entries_answer (take count (entries_of entries)) }
+// Whether entries are good, and if not what is wrong with the lowest bad one.
+fn entries_answer(entries: &[Entry]) -> Result<(), Fault>
+    requires { length entries.now ≤ 48 }
+    ensures { verdict_of result ≡ entries_answer (entries_of entries.now) }
 {
-    let mut slot = 1;
-    while slot <= count {
-        let entry = entries[slot - 1];
+    for (i, entry) in entries.iter().enumerate() {
         if is_bad(entry) {
-            return Verdict::Refused(fault_of(entry), slot as u8);
+            return Err(Fault {
+                refusal: fault_of(entry),
+                entry: i as u8 + 1,
+            });
         }
-        slot += 1;
     }
-    Verdict::Good
+    Ok(())
 }
 
 // Whether a plan by value is good, and if not why.
-pub fn plan_answer(plan: Plan) -> Verdict
+#[tactic(auto, unfolding(crate::specs::Paper::plan_number, crate::specs::Paper::plan_entry))]
+pub fn plan_answer(plan: Plan) -> Result<(), Fault>
     ensures { verdict_of result ≡ plan_answer (plan_of plan) }
 {
     if plan.count > SLOTS {
-        return Verdict::Refused(Refusal::PlanLength, 0);
+        return Err(Refusal::PlanLength.into());
     }
-    let entries = plan.entries;
-    entries_answer(entries, plan.count)
+    entries_answer(&plan.entries[..plan.count])
 }
 
 // Whether the current plan and the previous one are good and the current one has slots, and if not why.
-pub fn plans_answer(current: Plan, previous: Plan) -> Verdict
+#[tactic(auto, unfolding(crate::specs::Paper::plans_number, crate::specs::Paper::plans_entry))]
+pub fn plans_answer(current: Plan, previous: Plan) -> Result<(), Fault>
     ensures { verdict_of result ≡ plans_answer (plan_of current) (plan_of previous) }
 {
-    let answer = plan_answer(current);
-    if let Verdict::Refused(refusal, entry) = answer {
-        return Verdict::Refused(refusal, entry);
-    }
-    let answer = plan_answer(previous);
-    if let Verdict::Refused(refusal, entry) = answer {
-        return Verdict::Refused(refusal, entry);
-    }
+    plan_answer(current)?;
+    plan_answer(previous)?;
     if current.count == 0 {
-        return Verdict::Refused(Refusal::PlanEmpty, 0);
+        return Err(Refusal::PlanEmpty.into());
     }
-    Verdict::Good
+    Ok(())
 }

@@ -1,8 +1,13 @@
 -- What the code reads from a plan file as the documents' numbers and plan.
-use Rattle.plan.specs.Coded.{plan_of, verdict_of}
+use Rattle.std.specs.Prelude.{Result, Ok, Err}
+use Rattle.refusals.specs.Number.{number_of}
+use Rattle.plan.specs.Paper.{empty}
+use Rattle.plan.specs.Coded.{plan_of}
+use Rattle.plan.specs.declared.Fault.{Fault}
+use Rattle.plan.specs.declared.Plan.{Plan}
 use Rattle.plan_read.specs.Paper.{PlanRead}
-use Rattle.plan_read.specs.declared.Reading.{Reading}
 
--- what reading gave: a number, an entry and a plan
-abbrev pub reading_of : Reading → PlanRead
-reading_of r = record { number = (verdict_of r.verdict).number; entry = (verdict_of r.verdict).entry; plan = plan_of r.plan }
+-- what reading gave: a plan, or a number and an entry and the empty plan
+abbrev pub reading_of : Result Plan Fault → PlanRead
+reading_of (Ok p) = record { number = 0; entry = 0; plan = plan_of p }
+reading_of (Err f) = record { number = number_of f.refusal; entry = f.entry; plan = empty }

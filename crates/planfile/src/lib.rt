@@ -6,7 +6,7 @@ ghost use Rattle.plan.specs.Paper.{plan_number};
 ghost use Rattle.plan.specs.Coded.{plan_of};
 ghost use Rattle.planfile.specs.Inner.{taken_of, taken, untaken};
 
-use plan::{Plan, Verdict};
+use plan::Plan;
 use refusals::Refusal;
 use std::io::{Print, Read};
 use std::rt::{Env, Files};
@@ -50,13 +50,14 @@ fn take_octets(errors: &impl Print, program: &[u8], about: &[u8], file: &[u8]) -
     ensures { taken_of result ≡ taken file.now }
 {
     let reading = plan_read::read_plan(file);
-    let verdict = reading.verdict;
-    let plan = reading.plan;
-    match verdict {
-        Verdict::Good => Taken { good: true, plan },
-        Verdict::Refused(refusal, entry) => {
-            say_why(errors, program, about, file, refusal, entry);
-            Taken { good: false, plan }
+    match reading {
+        Ok(plan) => Taken { good: true, plan },
+        Err(fault) => {
+            say_why(errors, program, about, file, fault.refusal, fault.entry);
+            Taken {
+                good: false,
+                plan: plan::empty_plan(),
+            }
         }
     }
 }

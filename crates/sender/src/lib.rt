@@ -10,7 +10,7 @@ ghost use Rattle.sender.specs.Paper.{planned, write_schedule};
 ghost use Rattle.sender.specs.Coded.{sending_of};
 ghost use Rattle.sender.specs.Inner.{shown_by};
 
-use plan::{Plan, Verdict};
+use plan::Plan;
 use plan_slots::Planned;
 use refusals::Refusal;
 use schedule::{Description, Slot};
@@ -74,8 +74,8 @@ pub fn write_schedule(current: Plan, previous: Plan, begin: usize, out: &mut [u8
         return Sending::Refused(Refusal::OutputLength, 0);
     }
     let answer = plan::plans_answer(current, previous);
-    if let Verdict::Refused(refusal, entry) = answer {
-        return Sending::Refused(refusal, entry);
+    if let Err(fault) = answer {
+        return Sending::Refused(fault.refusal, fault.entry);
     }
     let slots = telling(current, previous);
     let writing = sender_message::write_message(slots, current.count, begin, out);

@@ -10,13 +10,12 @@ pub loop-i-init : goal.loop-i-init
 unfolding entries_in
 loop-i-init c =
     let unused = ap (λ (p : Plan). p.entries) c.empty_plan-unused.ensures in
-    (omega arith, unused, sym (length-map c.empty_plan-unused.result.entries entry_of) ∙ ap length unused)
+    (unused, sym (length-map c.empty_plan-unused.result.entries entry_of) ∙ ap length unused)
 
 pub loop-i-preserved : goal.loop-i-preserved
 loop-i-preserved c =
     let l = c.loop-i in
     let a = c.args in (
-      omega arith,
-      entries_turn a.file.now l.i l.entries c.entry_at.result (omega arith) l.invariant.1 c.entry_at.ensures,
-      length-set l.entries l.i c.entry_at.result ∙ l.invariant.2,
+      entries_turn a.file.now l.i l.entries c.entry_at.result (omega arith) l.invariant.0 c.entry_at.ensures,
+      length-set l.entries l.i c.entry_at.result ∙ l.invariant.1,
     )

@@ -2,10 +2,10 @@
 use Rattle.planfile.proofs.Good.{takes_good, takes_refused}
 use Rattle.planfile.proofs.take_octets.Goals as goal
 
-pub returns-in-Good : goal.returns-in-Good
-returns-in-Good g c = let r = c.read_plan-reading in takes_good _ r.result r.ensures c.in-Good.is
+pub returns-in-Ok : goal.returns-in-Ok
+returns-in-Ok g c = let r = c.read_plan-reading in takes_good _ _ (rw c.in-Ok.is at r.ensures)
 
-pub returns-in-Refused : goal.returns-in-Refused
-returns-in-Refused g c =
+pub returns-in-Err : goal.returns-in-Err
+returns-in-Err g c =
     let r = c.read_plan-reading in
-    takes_refused _ r.result r.ensures _ _ c.in-Refused.is
+    takes_refused _ _ (rw c.in-Err.is at r.ensures) _ c.empty_plan.ensures

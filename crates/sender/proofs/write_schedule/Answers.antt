@@ -21,14 +21,14 @@ returns-then-out-ne-MESSAGE c =
     let out : List ℕ = c.args.out.now in
     sym (leaves_15 current previous c.args.begin out c.if-out-ne-MESSAGE.true)
 
-pub returns-in-Refused : goal.returns-in-Refused
-returns-in-Refused c =
+pub returns-in-Err : goal.returns-in-Err
+returns-in-Err c =
     let current : Plan = plan_of c.args.current in
     let previous : Plan = plan_of c.args.previous in
     let out : List ℕ = c.args.out.now in
     sym
-    (leaves_plans current previous c.args.begin out c.if-out-ne-MESSAGE.false (number_of c.in-Refused.refusal) c.in-Refused.entry
-    (sym c.plans_answer-answer.ensures ∙ ap verdict_of c.in-Refused.is) (number_of_positive c.in-Refused.refusal))
+    (leaves_plans current previous c.args.begin out c.if-out-ne-MESSAGE.false (number_of c.in-Err.fault.refusal) c.in-Err.fault.entry
+    (sym c.plans_answer-answer.ensures ∙ ap verdict_of c.in-Err.is) (number_of_positive c.in-Err.fault.refusal))
 
 pub telling-slots-requires : goal.telling-slots-requires
 telling-slots-requires c =
