@@ -54,10 +54,8 @@ fn take_octets(errors: &impl Print, program: &[u8], about: &[u8], file: &[u8]) -
         Ok(plan) => Taken { good: true, plan },
         Err(fault) => {
             say_why(errors, program, about, file, fault.refusal, fault.entry);
-            Taken {
-                good: false,
-                plan: plan::empty_plan(),
-            }
+            let plan = plan::empty_plan();
+            Taken { good: false, plan }
         }
     }
 }

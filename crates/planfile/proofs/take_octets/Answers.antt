@@ -8,4 +8,4 @@ returns-in-Ok g c = let r = c.read_plan-reading in takes_good _ _ (rw c.in-Ok.is
 pub returns-in-Err : goal.returns-in-Err
 returns-in-Err g c =
     let r = c.read_plan-reading in
-    takes_refused _ _ (rw c.in-Err.is at r.ensures) _ c.empty_plan.ensures
+    takes_refused _ _ (rw c.in-Err.is at r.ensures) _ c.empty_plan-plan.ensures

@@ -47,12 +47,12 @@ returns-in-Ok c =
     let leaves : (known : Result ℕ Refusal) → c.write_message-writing.result ≡ known → record { left = writing_of known c.write_message-writing.new.out; entry = 0 } ≡ leaving = λ known e. let wrote = ap (λ (w : Result ℕ Refusal). writing_of w c.write_message-writing.new.out) (sym e) ∙ c.write_message-writing.ensures ∙ write_agree (shown_in c.telling-slots.result) (planned current previous) current.count c.telling-slots.ensures c.args.begin out in ap (λ (w : MessageLeft). record { left = w; entry = 0 }) wrote ∙ sym (leaves_planned current previous c.args.begin out c.if-out-ne-MESSAGE.false good) in
     leaves _ c.in-Ok.is
 
-pub returns-in-Err : goal.returns-in-Err
-returns-in-Err c =
+pub returns-in-Err-writing : goal.returns-in-Err-writing
+returns-in-Err-writing c =
     let current : Plan = plan_of c.args.current in
     let previous : Plan = plan_of c.args.previous in
     let out : List ℕ = c.args.out.now in
     let good : plans_number current previous ≡ 0 = ap (λ (v : Verdict). v.number) (sym c.plans_answer-answer.ensures ∙ ap verdict_of c.in_default.is) in
     let leaving : ScheduleLeft = write_schedule current previous c.args.begin out in
     let leaves : (known : Result ℕ Refusal) → c.write_message-writing.result ≡ known → record { left = writing_of known c.write_message-writing.new.out; entry = 0 } ≡ leaving = λ known e. let wrote = ap (λ (w : Result ℕ Refusal). writing_of w c.write_message-writing.new.out) (sym e) ∙ c.write_message-writing.ensures ∙ write_agree (shown_in c.telling-slots.result) (planned current previous) current.count c.telling-slots.ensures c.args.begin out in ap (λ (w : MessageLeft). record { left = w; entry = 0 }) wrote ∙ sym (leaves_planned current previous c.args.begin out c.if-out-ne-MESSAGE.false good) in
-    leaves _ c.in-Err.is
+    leaves _ c.in-Err-writing.is
