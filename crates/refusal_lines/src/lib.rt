@@ -12,23 +12,28 @@ use std::io::Print;
 // Room for the line of a refusal.
 pub const LINE: usize = 200;
 
+// Writes the line that a text begins with to standard error.
+fn write(errors: &impl Print, text: &[u8], end: usize) {
+    let _ = errors.write_all(text.get(..end).unwrap_or(text));
+}
+
 // Puts a line on a refusal: a program, the number, what it is about, and the words. Answers where it ends; a part that does not fit is left out.
 fn put_refused(program: &[u8], about: &[u8], refusal: Refusal, text: &mut [u8], at: usize) -> usize
     ensures { record { end = result; text = text.new } ≡ all_behind (refused program.now about.now (number_of refusal)) at text.old }
 {
-    let numbered = put_named(program, refusals::number(refusal), text, at);
+    let numbered = put_named(program, refusal, text, at);
     let told = lines::put(about, text, numbered);
     let said = words::put_words(refusal, text, told);
     lines::put(b"\n", text, said)
 }
 
-// Puts the name of a program and the number by which it refuses.
-fn put_named(program: &[u8], number: u8, text: &mut [u8], at: usize) -> usize
-    ensures { record { end = result; text = text.new } ≡ all_behind (numbered program.now number) at text.old }
+// Puts the name of a program and the number of a refusal.
+fn put_named(program: &[u8], refusal: Refusal, text: &mut [u8], at: usize) -> usize
+    ensures { record { end = result; text = text.new } ≡ all_behind (numbered program.now (number_of refusal)) at text.old }
 {
     let named = lines::put(program, text, at);
     let led = lines::put(b": refused by ", text, named);
-    let ended = lines::put_number(number as u64, text, led);
+    let ended = lines::put_number(u64::from(u8::from(refusal)), text, led);
     lines::put(b": ", text, ended)
 }
 
@@ -43,7 +48,7 @@ pub fn say_refused(
     ensures { record { end = result; text = text.new } ≡ all_behind (refused program.now about.now (number_of refusal)) 0 text.old }
 {
     let end = put_refused(program, about, refusal, text, 0);
-    let _ = errors.write_all(&text[..end]);
+    write(errors, text, end);
     end
 }
 
@@ -51,7 +56,7 @@ pub fn say_refused(
 fn put_begin(program: &[u8], begin: &[u8], count: usize, text: &mut [u8], at: usize) -> usize
     ensures { record { end = result; text = text.new } ≡ all_behind (begin_refused program.now begin.now count) at text.old }
 {
-    let numbered = put_named(program, 21, text, at);
+    let numbered = put_named(program, Refusal::BeginOrEnd, text, at);
     let led = lines::put(b"Begin ", text, numbered);
     let given = lines::put(begin, text, led);
     let limited = lines::put(b" is not 1 to ", text, given);
@@ -70,23 +75,24 @@ pub fn say_begin(
     ensures { record { end = result; text = text.new } ≡ all_behind (begin_refused program.now begin.now count) 0 text.old }
 {
     let end = put_begin(program, begin, count, text, 0);
-    let _ = errors.write_all(&text[..end]);
+    write(errors, text, end);
     end
 }
 
 // Puts what is wrong with a bad entry, by its kind.
+// Stays a number: an entry is refused for a kind that is none of 0, 1, 2, and the line tells it.
 fn put_wrong(kind: u8, text: &mut [u8], at: usize) -> usize
     ensures { record { end = result; text = text.new } ≡ all_behind (wrong_entry kind) at text.old }
 {
-    if kind > 2 {
-        let led = lines::put(b"kind ", text, at);
-        let told = lines::put_number(kind as u64, text, led);
-        return lines::put(b" is none of 0, 1, 2\n", text, told);
+    match kind {
+        0 => lines::put(b"an optional slot with octets of a page\n", text, at),
+        1 | 2 => lines::put(b"an advised slot with octets of a page\n", text, at),
+        _ => {
+            let led = lines::put(b"kind ", text, at);
+            let told = lines::put_number(u64::from(kind), text, led);
+            lines::put(b" is none of 0, 1, 2\n", text, told)
+        }
     }
-    if kind == 0 {
-        return lines::put(b"an optional slot with octets of a page\n", text, at);
-    }
-    lines::put(b"an advised slot with octets of a page\n", text, at)
 }
 
 // Puts a line on an entry of a plan: a program, the number, which plan it is, the entry, and what is wrong with it.
@@ -100,10 +106,10 @@ fn put_entry(
 ) -> usize
     ensures { record { end = result; text = text.new } ≡ all_behind (entry_refused program.now about.now (number_of refusal) entry kind) 0 text.old }
 {
-    let numbered = put_named(program, refusals::number(refusal), text, 0);
+    let numbered = put_named(program, refusal, text, 0);
     let told = lines::put(about, text, numbered);
     let led = lines::put(b"entry ", text, told);
-    let counted = lines::put_number(entry as u64, text, led);
+    let counted = lines::put_number(u64::from(entry), text, led);
     let marked = lines::put(b": ", text, counted);
     put_wrong(kind, text, marked)
 }
@@ -121,6 +127,6 @@ pub fn say_entry(
     ensures { record { end = result; text = text.new } ≡ all_behind (entry_refused program.now about.now (number_of refusal) entry kind) 0 text.old }
 {
     let end = put_entry(program, about, refusal, entry, kind, text);
-    let _ = errors.write_all(&text[..end]);
+    write(errors, text, end);
     end
 }

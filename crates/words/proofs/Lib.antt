@@ -1,4 +1,3 @@
 -- What `words` proves.
 pub mod Determined
 pub mod Few
-pub mod Parts

@@ -1,3 +1,2 @@
 -- What `words` defines.
-pub mod Inner
 pub mod Paper

@@ -9,8 +9,8 @@ pub returns : goal.returns
 unfolding ascii
 returns c =
     let a = c.args in
-    and_others (numbered a.program.now (number_of a.refusal)) _ 0 a.text.now (rw c.number.ensures at c.put_named-numbered.ensures)
+    and_others (numbered a.program.now (number_of a.refusal)) _ 0 a.text.now c.put_named-numbered.ensures
     (and_then _ _ _ _ c.put-told.ensures
     (and_then _ _ _ _ c.put-led.ensures
-    (and_then _ _ _ _ c.put_number-counted.ensures
+    (and_then _ _ _ _ (rw c.from.ensures at c.put_number-counted.ensures)
     (and_then _ _ _ _ c.put-marked.ensures c.put_wrong.ensures))))

@@ -7,4 +7,4 @@ pub returns : goal.returns
 unfolding ascii
 returns c =
     and_then _ _ _ _ c.put-named.ensures
-    (and_then _ _ _ _ c.put-led.ensures (and_then _ _ _ _ c.put_number-ended.ensures (and_last _ _ _ c.put.ensures)))
+    (and_then _ _ _ _ c.put-led.ensures (and_then _ _ _ _ (rw (c.from-2.ensures, c.from.ensures) at c.put_number-ended.ensures) (and_last _ _ _ c.put.ensures)))

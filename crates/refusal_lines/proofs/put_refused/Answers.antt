@@ -9,5 +9,5 @@ pub returns : goal.returns
 unfolding ascii
 returns c =
     let a = c.args in
-    and_others (numbered a.program.now (number_of a.refusal)) _ a.at a.text.now (rw c.number.ensures at c.put_named-numbered.ensures)
+    and_others (numbered a.program.now (number_of a.refusal)) _ a.at a.text.now c.put_named-numbered.ensures
     (and_then _ _ _ _ c.put-told.ensures (and_then _ _ _ _ c.put_words-said.ensures (and_last _ _ _ c.put.ensures)))

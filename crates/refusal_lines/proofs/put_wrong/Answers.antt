@@ -1,19 +1,24 @@
 -- `refusal_lines::put_wrong` meets its contract: the kind decides which words are put.
-use Rattle.laws.proofs.Base.{eq-eqb, ne_eqb, lt-ltb, le-ltb}
+use Rattle.laws.proofs.Base.{◌≡◌, arith, ◌<◌, ◌≤◌, ne_eqb, lt-ltb, le-ltb}
 use Rattle.lines.specs.Paper.{ascii}
 use Rattle.lines.proofs.Texts.{and_then, and_last}
 use Rattle.refusal_lines.proofs.put_wrong.Goals as goal
 
-pub returns-then-kind-gt2 : goal.returns-then-kind-gt2
+pub returns-in-0 : goal.returns-in-0
 unfolding ascii
-returns-then-kind-gt2 c =
-    rw (lt-ltb _ _ c.if-kind-gt2.true)
-    (and_then _ _ _ _ c.put-led.ensures (and_then _ _ _ _ c.put_number-told.ensures (and_last _ _ _ c.put.ensures)))
+returns-in-0 c = rw c.in-0.is (and_last _ _ _ c.put.ensures)
 
-pub returns-then-kind-eq0 : goal.returns-then-kind-eq0
+pub returns-in-1 : goal.returns-in-1
 unfolding ascii
-returns-then-kind-eq0 c = rw (le-ltb _ _ c.if-kind-gt2.false, eq-eqb _ _ c.if-kind-eq0.true) (and_last _ _ _ c.put-then-kind-eq0.ensures)
+returns-in-1 c =
+    let low : c.args.kind ≤ 2 = omega arith in
+    let some : c.args.kind ≡ 0 → ⊥ = λ e. omega (arith, e) in
+    rw (le-ltb 2 c.args.kind low, ne_eqb c.args.kind 0 some) (and_last _ _ _ c.put-in-1.ensures)
 
-pub returns : goal.returns
+pub returns-in_default : goal.returns-in_default
 unfolding ascii
-returns c = rw (le-ltb _ _ c.if-kind-gt2.false, ne_eqb _ _ c.if-kind-eq0.false) (and_last _ _ _ c.put-2.ensures)
+returns-in_default c =
+    let over : 2 < c.args.kind = omega arith in
+    let number = rw c.from.ensures at c.put_number-told.ensures in
+    rw (lt-ltb 2 c.args.kind over)
+    (and_then _ _ _ _ c.put-led.ensures (and_then _ _ _ _ number (and_last _ _ _ c.put-in_default.ensures)))
