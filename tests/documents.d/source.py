@@ -82,10 +82,10 @@ class Source:
     def read_code(self, crate, text):
         # A definition with the name of a function is imported under another; documents call it by its own.
         aliases = re.findall(r"([\w']+) as ([\w']+)[,}]", ' '.join(re.findall(r'^ghost use .*', text, re.M)))
-        for found in re.finditer(r'^( *)(pub |pub\(crate\) )?(?:extern "C" )?fn (\w+)(.*?)\{\n', text, re.M | re.S):
+        for found in re.finditer(r'^( *)(pub |pub\(crate\) )?(?:extern "C" )?fn (\w+)((?:(?!;\n).)*?)(?:\{|;)\n', text, re.M | re.S):
             name, clauses = found[3], re.findall(r'\b(requires|ensures)(?: \w+)? \{ (.*?) \}(?=\s*(?:ensures|requires|$))', found[4].strip(), re.S)
             if found[1]:
-                name = re.findall(r'^impl(?:<.*?>)? (?:[\w:]+ for )?(\w+)', text[:found.start()], re.M)[-1] + '::' + name
+                name = re.findall(r'^(?:pub )?(?:impl|trait)(?:<.*?>)? (?:[\w:]+(?:<.*?>)? for )?(\w+)', text[:found.start()], re.M)[-1] + '::' + name
             asked, said = ([plain(clause) for kind, clause in clauses if kind == of] for of in ('requires', 'ensures'))
             said = ' → '.join((asked if found[2] == 'pub ' else []) + ['; '.join(said)])
             for own, alias in aliases:
@@ -101,7 +101,7 @@ class Source:
             name, said = 'impl From<%s> for %s' % (given, to), re.sub(r"(?<![\w'-])%s(?![\w'-])" % made, 'result', plain(clause))
             self.functions[crate + ': ' + name] = True, said
             self.names |= {name, crate + ': ' + name}
-        for name in re.findall(r'\b(?:struct|enum|const) (\w+)', text):
+        for name in re.findall(r'\b(?:struct|enum|trait|const) (\w+)', text):
             self.names |= {name, crate + '::' + name}
 
     def read_antt(self, path, text):

@@ -1,9 +1,12 @@
 -- Laws of characters: each form of one put behind a text, and one after the other.
 use Rattle.laws.proofs.Base.{◌≡◌, refl, ap, ◌∙◌, List, [], ◌∷◌, ◌++◌, append_assoc, append-nil, ℕ, suc, ◌+◌, ◌*◌, ◌/◌, ◌%◌, ◌≤◌, ◌<◌, mul-suc}
-use Rattle.laws.proofs.Base.{mul-zero, add-one, arith, length, get_or, take, set, length-set, take-suc, eq-eqb, ne_eqb, lt-ltb, le-ltb}
+use Rattle.laws.proofs.Base.{mul-zero, add-one, arith, length, get_or, take, set, length-set, take-suc, eqb, eqb-true, eqb-false, eq-eqb, ne_eqb, lt-ltb, le-ltb}
+use Rattle.std.specs.Prelude.{Some, None}
+use Rattle.laws.proofs.Tests.{true_or_false}
 use Rattle.lines.specs.Inner.{Puts}
 use Rattle.lines.proofs.Behind.{puts_none, puts_octet, puts_wider, puts_then}
 use Rattle.cbtext.specs.Paper.{utf8, letter, character, joined}
+use Rattle.cbtext.specs.Inner.{lettered}
 
 module _ (n : ℕ) (t : List ℕ) (h : n + 3 ≤ length t) where
   -- one, two and three octets
@@ -47,6 +50,24 @@ module _ (c : ℕ) where
   pub character_marked : (letter c ≡ 0 → ⊥) → character c ≡ 92 ∷ letter c ∷ []
   unfolding character
   character_marked ne = rw (ne_eqb (letter c) 0 ne)
+
+  -- by what the code finds
+  pub character_lettered : (x : ℕ) → Some x ≡ lettered c → character c ≡ 92 ∷ x ∷ []
+  unfolding lettered
+  character_lettered x q =
+      true_or_false (eqb (letter c) 0)
+      (λ e. let z : Some x ≡ None = rw e at q in let no : ◌≡◌ {A = ℕ} 0 1 = cc in absurd (omega arith))
+      (λ e.
+      let z : Some x ≡ Some (letter c) = rw e at q in
+      let same : x ≡ letter c = cc in
+      rw same (character_marked (eqb-false (letter c) 0 e)))
+
+  pub character_unlettered : None ≡ lettered c → character c ≡ utf8 c
+  unfolding lettered
+  character_unlettered q =
+      true_or_false (eqb (letter c) 0)
+      (λ e. character_plain (eqb-true (letter c) 0 e))
+      (λ e. let z : None ≡ Some (letter c) = rw e at q in let no : ◌≡◌ {A = ℕ} 0 1 = cc in absurd (omega arith))
 
 joined_append : (f : ℕ → List ℕ) (xs ys : List ℕ) → joined f (xs ++ ys) ≡ joined f xs ++ joined f ys
 unfolding joined

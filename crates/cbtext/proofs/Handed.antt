@@ -1,22 +1,15 @@
--- What an intake call leaves, as the line of its answer takes it.
-use Rattle.laws.proofs.Base.{◌≡◌, sym, ap, ◌∙◌, List, ℕ, length, eqb, eqb-true}
-use Rattle.laws.proofs.Tests.{true_or_false}
+-- The line of an intake call's answer, by the number that it returns.
+use Rattle.laws.proofs.Base.{◌≡◌, sym, ◌∙◌, List, [], ℕ, ◌/◌, ◌%◌, ne_eqb}
 use Rattle.block.specs.Paper.{Given}
-use Rattle.logs.proofs.Complete.{Complete, handed_output}
-use Rattle.logs.proofs.Listed.{Taken}
-use Rattle.cbtext.specs as defs
-use defs.Paper.{line_of}
-use defs.Inner.{Handed, line_for}
+use Rattle.block.specs.Paper as block
+use Rattle.logs.specs.Inner.{Answers}
+use Rattle.cbtext.specs.Paper.{page_line, line_of}
 
-module _ {g : Given} {returned : ℕ} {s p p' : List ℕ} (t : Taken g returned s p p') (whole : g.number ≡ 0 → Complete g) where
-  -- a page complete is what the call leaves in the output
-  output : g.number ≡ 0 → p' ≡ g.octets
-  output z = handed_output g returned s p p' t (whole z)
+module _ {g : Given} {returned : ℕ} {p : List ℕ} (a : Answers g returned p) (n : ℕ) where
+  pub line_complete : returned % 256 ≡ 0 → line_of n g ≡ page_line n p (returned / 256)
+  line_complete e =
+      let z = sym a.number ∙ e in
+      rw (z, a.received, (a.complete block.page z).output)
 
-  pub handed : Handed returned p'
-  handed z =
-      let n = sym t.answer ∙ z in
-      (ap length (output n) ∙ (whole n).long, rw t.received (whole n).blocks)
-
-  pub line_for_lem : (n : ℕ) → line_for n returned p' ≡ line_of n g
-  line_for_lem n = rw (t.answer, t.received) (true_or_false (eqb g.number 0) (λ e. rw (e, output (eqb-true g.number 0 e))) (λ e. rw e))
+  pub line_none : (returned % 256 ≡ 0 → ⊥) → line_of n g ≡ []
+  line_none ne = rw (ne_eqb g.number 0 (λ z. ne (a.number ∙ z)))

@@ -1,12 +1,7 @@
--- What the inner functions ask and promise, on the number that an intake call returns.
-use Rattle.std.specs.Prelude.{◌≡◌, true, cond, List, [], ℕ, ◌/◌, ◌%◌, length, eqb}
-use Rattle.sizes.specs.Paper.{whole_blocks}
-use Rattle.cbtext.specs.Paper.{page_line}
+-- The letter of a character, where it has one.
+use Rattle.std.specs.Prelude.{cond, ℕ, Option, Some, None, eqb}
+use Rattle.cbtext.specs.Paper.{letter}
 
--- a page complete is whole, and so are the blocks received
-abbrev pub Handed : ℕ → List ℕ → Type 0
-Handed returned p = returned % 256 ≡ 0 → (length p ≡ 88) × (whole_blocks (returned / 256) ≡ true)
-
--- the line for a returned number, beside the page
-abbrev pub line_for : ℕ → ℕ → List ℕ → List ℕ
-line_for n returned p = cond (eqb (returned % 256) 0) (page_line n p (returned / 256)) []
+-- the letter that stands for a character behind a backslash
+unfoldable pub lettered : ℕ → Option ℕ
+lettered c = cond (eqb (letter c) 0) None (Some (letter c))

@@ -10,6 +10,7 @@ use Rattle.block.proofs.Steps.{Proper, proper_facts}
 use Rattle.block_history.specs.Claims.{completes}
 use Rattle.block_history.proofs.Joins.{number_of}
 use Rattle.block_history.proofs.History.{not_completes}
+use Rattle.logs.specs.Inner.{Answers}
 use Rattle.logs.proofs.Listed.{Taken}
 
 -- a message complete
@@ -48,8 +49,16 @@ complete k h p z =
     (λ e. rw (w.1, e) (complete_made h p (proper_facts h (not-false _ w.0.0)) (eqb-true (length p) 23 (not-false _ w.0.1.0))))
     (λ e. absurd (not_completes k 1 (omega arith) (omega arith) (sym (number_of w.1 ∙ rw e) ∙ z)))
 
--- what a call that completes a message leaves in the output is the message
-pub handed_output : (g : Given) (returned : ℕ) (s m m' : List ℕ) → Taken g returned s m m' → Complete g → m' ≡ g.octets
-handed_output g returned s m m' t w =
-    let some : g.received ≡ 0 → ⊥ = λ e. omega (arith, whole_bounds g.received w.blocks) in
-    t.output ∙ rw (ne_eqb g.received 0 some)
+-- what an intake call leaves are the parts of its answer; a message complete is in the output
+pub answers : (h : Held) (p : List ℕ) {returned : ℕ} {s m m' : List ℕ} → Taken (step h p) returned s m m' → Answers (step h p) returned m'
+answers h p {returned} {s} {m} {m'} t =
+    record {
+      number = t.answer;
+      received = t.received;
+      complete = λ k e.
+          let g = step h p in
+          let w = complete k h p e in
+          let some : g.received ≡ 0 → ⊥ = λ z. omega (arith, whole_bounds g.received w.blocks) in
+          let output : m' ≡ g.octets = t.output ∙ rw (ne_eqb g.received 0 some) in
+          record { output = output; blocks = w.blocks };
+    }

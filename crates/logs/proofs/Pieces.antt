@@ -1,41 +1,9 @@
--- Laws of a log cut into pieces: the next piece and those left, and a log in two parts.
-use Rattle.laws.proofs.Base.{◌≡◌, refl, sym, ap, ◌∙◌, List, ◌∷◌, ◌++◌, ℕ, zero, suc, ◌+◌, ◌*◌, ◌-◌, ◌/◌, ◌≤◌, ◌<◌, min, zero-add, add-zero, arith}
+-- Laws of a log cut into pieces: the next piece and the log behind it, and a log in two parts.
+use Rattle.laws.proofs.Base.{◌≡◌, refl, ap, ◌∙◌, List, [], ◌∷◌, ◌++◌, append-nil, ℕ, zero, suc, ◌+◌, ◌*◌, ◌/◌, ◌≤◌, ◌<◌, min, zero-add, add-zero, arith}
 use Rattle.laws.proofs.Base.{length, take, drop, length-append, length-drop, take_all, take-append-le, drop-append-le, drop-append-add}
+use Rattle.std.proofs.lemmas.List.{nil_from_length}
 use Rattle.laws.proofs.Tests.{le_or_lt}
 use Rattle.logs.specs.Paper.{pieces, cut}
-
--- the pieces of a log from a place on
-abbrev pub left : ℕ → List ℕ → ℕ
-left at log = (length log - at + 22) / 23
-
--- the next place
-abbrev pub ended : ℕ → List ℕ → ℕ
-ended at log = min (at + 23) (length log)
-
-pub one_less : (at : ℕ) (log : List ℕ) → at < length log → left at log ≡ suc (left (ended at log) log)
-one_less at log h = omega arith
-
--- the piece that is lent is the next piece of the log
-pub piece_is : (at : ℕ) (log : List ℕ) → at < length log → take (ended at log - at) (drop at log) ≡ take 23 (drop at log)
-piece_is at log h =
-    le_or_lt (at + 23) (length log)
-    (λ inside. let n : ended at log - at ≡ 23 = omega arith in rw n)
-    (λ short.
-    take_all (ended at log - at) (drop at log) (simp length-drop (omega arith)) ∙ sym (take_all 23 (drop at log) (simp length-drop (omega arith))))
-
--- after a tail no piece is left
-pieces_next : (at : ℕ) (log : List ℕ) → at < length log
-    → pieces (left (ended at log) log) (at + 23) log ≡ pieces (left (ended at log) log) (ended at log) log
-unfolding pieces
-pieces_next at log h =
-    le_or_lt (at + 23) (length log)
-    (λ inside. let n : ended at log ≡ at + 23 = omega arith in rw n)
-    (λ short. let none : left (ended at log) log ≡ 0 = omega arith in rw none)
-
-pub pieces_split : (at : ℕ) (log : List ℕ) → at < length log
-    → pieces (left at log) at log ≡ take 23 (drop at log) ∷ pieces (left (ended at log) log) (ended at log) log
-unfolding pieces
-pieces_split at log h = rw (one_less at log h) (ap (λ (l : List (List ℕ)). take 23 (drop at log) ∷ l) (pieces_next at log h))
 
 pub length_pieces : (k at : ℕ) (log : List ℕ) → length (pieces k at log) ≡ k
 unfolding pieces
@@ -79,3 +47,22 @@ cut_append k xs ys e =
     let these : (length xs + 22) / 23 ≡ k = omega arith in
     let end : 0 + 23 * k ≡ length xs + 0 = omega arith in
     rw (all, these, pieces_append k j 0 (xs ++ ys), pieces_front k 0 xs ys (omega arith), end) (ap (λ (l : List (List ℕ)). pieces k 0 xs ++ l) (pieces_back j 0 xs ys))
+
+-- a log of one piece
+cut_one : (p : List ℕ) → 0 < length p → length p ≤ 23 → cut p ≡ p ∷ []
+unfolding pieces
+cut_one p some few =
+    let one : (length p + 22) / 23 ≡ 1 = omega arith in
+    rw (one, take_all 23 p few)
+
+-- the next piece, and the log behind it
+pub cut_next : (p rest : List ℕ) → length p ≡ min 23 (length (p ++ rest)) → 0 < length (p ++ rest) → cut (p ++ rest) ≡ p ∷ cut rest
+unfolding pieces
+cut_next p rest size some =
+    let both = length-append p rest in
+    let first = cut_one p (omega arith) (omega arith) in
+    le_or_lt 23 (length p)
+    (λ whole. cut_append 1 p rest (omega arith) ∙ rw first)
+    (λ short.
+    let none : rest ≡ [] = nil_from_length rest (omega arith) in
+    rw (none, append-nil) first)

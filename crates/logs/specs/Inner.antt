@@ -1,7 +1,8 @@
--- A chunk of a log: how many octets are read, how it ends, the number of the piece behind it, and how its text goes on.
-use Rattle.std.specs.Prelude.{◌≡◌, cond, List, ◌++◌, ℕ, ◌+◌, ◌-◌, ◌%◌, ◌≤◌, Result, Ok, Err, min, length, take, eqb}
-use Rattle.block.specs.Paper.{Given, start}
-use Rattle.block_history.specs.Claims.{after}
+-- A chunk of a log: how many octets are read, how it ends, the number of the piece behind it, the answers to its pieces, and how its text goes on.
+use Rattle.std.specs.Prelude.{◌≡◌, true, cond, List, ◌++◌, ℕ, ◌+◌, ◌-◌, ◌/◌, ◌%◌, ◌≤◌, Result, Ok, Err, min, length, take, eqb}
+use Rattle.sizes.specs.Paper.{whole_blocks}
+use Rattle.block.specs.Paper.{Kind, Given, start}
+use Rattle.block_history.specs.Claims.{after, completes}
 use Rattle.firmware.specs.Paper.{lent}
 use Rattle.logs.specs.Paper.{cut, listing}
 use Rattle.logs.specs.declared.Chunk.{Chunk}
@@ -30,6 +31,17 @@ pub record Reads (number : ℕ) (log : List ℕ) (r : Chunk) : Type 0 where
   pub whole : r.ending ≡ endings.More → r.octets ≡ 23552
   pub kept : r.ending ≡ endings.Fault → r.octets % 23 ≡ 0
   pub next : r.next ≡ moved_on number (take r.octets log)
+
+-- a message complete: whole blocks are received of it, and the output holds it
+pub record Handed (g : Given) (message : List ℕ) : Type 0 where
+  pub output : message ≡ g.octets
+  pub blocks : whole_blocks g.received ≡ true
+
+-- an answer as an intake call returns it, answer + 256 × octets received, beside what the call leaves in its output
+pub record Answers (g : Given) (returned : ℕ) (message : List ℕ) : Type 0 where
+  pub number : returned % 256 ≡ g.number
+  pub received : returned / 256 ≡ g.received
+  pub complete : (k : Kind) → g.number ≡ completes k → Handed g message
 
 -- 01 cblist: the text of a chunk goes on where that of the log before it ends, which is whole chunks of 1,024 pieces:
 -- the two are the listing of the log up to the chunk's end, from a start and number 1, and the state is what its pieces leave

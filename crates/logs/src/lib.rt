@@ -1,15 +1,21 @@
-// Logs read and written in chunks, and where a piece of one ends.
+// Logs: read in chunks, taken in piece by piece, and listed by what a program puts for each answer.
 #![tactic(auto)]
 
-ghost use Rattle.std.specs.Prelude.{◌≡◌, true, ◌+◌, ◌/◌, ◌≤◌, min, length};
-ghost use Rattle.block.specs.Paper.{start};
-ghost use Rattle.firmware.specs.Paper.{lent};
+ghost use Rattle.std.specs.Prelude.{◌≡◌, true, List, ℕ, ◌+◌, ◌*◌, ◌/◌, ◌≤◌, ◌<◌, length, take};
+ghost use Rattle.block.specs.Paper.{Given, start};
+ghost use Rattle.block_history.specs.Claims.{after};
+ghost use Rattle.firmware.specs.Paper.{lent, held_in};
 ghost use Rattle.files.specs.Inner.{filled};
-ghost use Rattle.logs.specs.Inner.{moved_on, ending_of, chunk_of, Reads};
+ghost use Rattle.lines.specs.Inner.{Puts};
+ghost use Rattle.logs.specs.Paper.{cut, listing};
+ghost use Rattle.logs.specs.Inner.{moved_on, ending_of, chunk_of, Reads, Answers, Continues};
 
+use block::BLOCK;
 use files::ReadFault;
 use firmware::STATE;
-use std::io::{Print, Read};
+use sizes::MESSAGE;
+use std::io::{Input, Print, Read};
+use std::rt::{Env, Files};
 
 // A whole chunk of a log: 1,024 pieces.
 pub const WHOLE: usize = 23552;
@@ -90,25 +96,12 @@ fn ending_of(octets: usize) -> Ending
 }
 
 // The number of the piece behind a chunk whose first piece has a number; it stops at the last.
+#[tactic(auto, using(crate::proofs::Pieces::length_cut), unfolding(crate::specs::Inner::moved_on))]
 pub fn moved_on(number: u64, chunk: &[u8]) -> u64
     ensures { result ≡ moved_on number chunk.now }
 {
-    let count = piece_count(chunk.len());
-    if LAST - count <= number {
-        return LAST;
-    }
-    number + count
-}
-
-// How many pieces so many octets are.
-fn piece_count(octets: usize) -> u64
-    ensures { result ≡ (octets + 22) / 23 }
-{
-    let whole = (octets / 23) as u64;
-    if octets % 23 == 0 {
-        return whole;
-    }
-    whole + 1
+    let count = chunk.len().div_ceil(BLOCK) as u64;
+    number.saturating_add(count).min(LAST)
 }
 
 // Writes the lines of a chunk, and answers whether a chunk is to follow.
@@ -132,15 +125,123 @@ pub fn write_chunk(
     }
 }
 
-// Where the piece at a place of a log ends.
-pub fn piece_end(at: usize, end: usize) -> usize
-    ensures { result ≡ min (at + 23) end }
-{
-    if end <= at {
-        return end;
+// What a program puts for the answers to the pieces of a log. The lines of a whole chunk have room in so many octets.
+pub trait Listing<const ROOM: usize> {
+    // The line of a numbered answer.
+    ghost line: { Self → ℕ → Given → List ℕ };
+
+    // The octets of the longest line.
+    ghost wide: { ℕ };
+
+    // Puts the line of a piece's answer behind the lines so far, and answers where they end. The number is the piece's, the
+    // answer that of the intake's call, and the message what the call left in its output.
+    fn put_line(
+        &self,
+        number: u64,
+        answer: u32,
+        message: &[u8; MESSAGE],
+        text: &mut [u8],
+        at: usize,
+    ) -> usize
+        requires { ((g : Given) × Answers g answer message.now) × (at + wide ≤ length text.old) }
+        ensures { (g : Given) → Answers g answer message.now → Puts (line self.now number g) wide at text.old text.new result };
+
+    ghost fits: { 1024 * wide ≤ ROOM };
+
+    // Memory has fewer than 2^63 octets.
+    ghost lendable: { ROOM < 9223372036854775808 };
+}
+
+// Lists the log that argument i names, or standard input: a heading, and then the lines of its pieces.
+pub fn list_named<R: Env + Files + Input, L: Listing<ROOM>, const ROOM: usize>(
+    rt: &R,
+    output: &impl Print,
+    errors: &impl Print,
+    program: &[u8],
+    i: usize,
+    heading: &[u8],
+    form: &L,
+) {
+    let mut name = io::buffer();
+    let opened = files::open_log(rt, errors, program, i, &mut name);
+    if let Some(mut log) = opened {
+        if files::write_text(output, errors, program, heading) {
+            list_opened(
+                output,
+                errors,
+                program,
+                &name[..log.length],
+                &mut log.file,
+                form,
+            );
+        }
     }
-    if 23 < end - at {
-        return at + 23;
+}
+
+fn list_opened<L: Listing<ROOM>, const ROOM: usize>(
+    output: &impl Print,
+    errors: &impl Print,
+    program: &[u8],
+    name: &[u8],
+    file: &mut impl Read,
+    form: &L,
+) {
+    let mut state = started();
+    let mut text = [0u8; ROOM];
+    list_all(
+        output, errors, program, name, file, form, &mut state, &mut text,
+    );
+}
+
+// Lists a log to its end, chunk after chunk. The text and the state are left as after the last chunk; answers the length of its lines.
+fn list_all<L: Listing<ROOM>, const ROOM: usize>(
+    output: &impl Print,
+    errors: &impl Print,
+    program: &[u8],
+    name: &[u8],
+    file: &mut impl Read,
+    form: &L,
+    state: &mut [u8; STATE],
+    text: &mut [u8],
+) -> usize
+    requires { (state.old ≡ lent start) × (length text.old ≡ ROOM) }
+    ensures { Continues (L.line form.now) state.new text.new result }
+{
+    let mut log = [0u8; WHOLE];
+    let mut message = [0u8; MESSAGE];
+    let mut number: u64 = 1;
+    let mut end = 0;
+    // Stays while: the log's end is known only when it is read.
+    while number < LAST {
+        let chunk = read_chunk(errors, program, name, file, number, &mut log);
+        let octets = chunk.octets;
+        end = list(form, state, number, &log[..octets], &mut message, text);
+        if !write_chunk(output, errors, program, chunk, &text[..end]) {
+            return end;
+        }
+        number = chunk.next;
+    }
+    end
+}
+
+// Lists a chunk of a log, whose first piece has a number: a shorter tail is a piece too. Answers the length of the lines.
+fn list<L: Listing<ROOM>, const ROOM: usize>(
+    form: &L,
+    state: &mut [u8; STATE],
+    first: u64,
+    log: &[u8],
+    message: &mut [u8; MESSAGE],
+    text: &mut [u8],
+) -> usize
+    requires { (length log.now ≤ 23552) × (length text.old ≡ ROOM) × (first < 1000000000000000000) }
+    ensures { (take result text.new ≡ listing (L.line form.now) (held_in state.old) first (cut log.now)) × (state.new ≡ lent (after (held_in state.old) (cut log.now))) × (result ≤ ROOM) }
+{
+    let mut number = first;
+    let mut end = 0;
+    for piece in log.chunks(BLOCK) {
+        let answer = firmware::cb_intake(state, piece, message);
+        end = form.put_line(number, answer, message, text, end);
+        number += 1;
     }
     end
 }

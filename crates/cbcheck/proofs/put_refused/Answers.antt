@@ -1,5 +1,7 @@
 -- `cbcheck::put_refused` meets its contract: the numbers, the words, and the line's end.
-use Rattle.laws.proofs.Base.{ne_eqb}
+use Rattle.laws.proofs.Base.{◌≡◌, ne_eqb}
+use Rattle.std.proofs.Common.{rules}
+use Rattle.refusals.specs.Number.{number_of}
 use Rattle.refusals.proofs.Inverse.{number_of_positive}
 use Rattle.lines.proofs.Texts.{and_last, and_others}
 use Rattle.cbcheck.specs.Paper.{numbers, reason, said}
@@ -9,6 +11,7 @@ pub returns : goal.returns
 unfolding said
 returns c =
     let a = c.args in
+    let answer : c.from-answer.result ≡ number_of a.refusal = search rules in
     rw (ne_eqb _ 0 (number_of_positive a.refusal))
-    (and_others (numbers _ _ _) _ _ _ (rw c.number-answer.ensures at c.put_numbers-a.ensures)
+    (and_others (numbers _ _ _) _ _ _ (rw answer at c.put_numbers-a.ensures)
     (and_others (reason _ _ _) _ _ _ c.put_reason-b.ensures (and_last _ _ _ c.put_octet.ensures)))

@@ -1,4 +1,5 @@
 -- `cbtext::put_body` meets its contract: the text reader's answer tells which form the line has.
+use Rattle.std.proofs.Common.{rules}
 use Rattle.laws.proofs.Base.{◌≡◌, sym, ap, ◌∙◌, true, List, ℕ, ◌-◌, ◌≤◌, min-le_left, arith, length, take, drop, replicate, length-take, length-replicate, length-take-le}
 use Rattle.refusals.specs.Number.{number_of}
 use Rattle.refusals.proofs.Inverse.{number_of_positive}
@@ -34,34 +35,39 @@ content_few p n s blocks q = rw (q, length-take) (omega (arith, min-le_left (n -
 
 pub slice_bounds-points-end : goal.slice_bounds-points-end
 slice_bounds-points-end c =
-    let reads = reads _ _ _ _ _ c.requires.0 c.requires.1 c.in-Characters.is c.read_text-got.ensures in
+    let long : length c.args.page.now ≡ 88 = search rules in
+    let reads = reads _ _ _ _ _ long c.requires.0 c.in-Characters.is c.read_text-got.ensures in
     omega (arith, reads.few, c.read_text-got.auto.text, zeros_size)
 
 pub slice_bounds-put_text-end : goal.slice_bounds-put_text-end
 slice_bounds-put_text-end c =
-    let reads = reads _ _ _ _ _ c.requires.0 c.requires.1 c.in-Characters.is c.read_text-got.ensures in
+    let long : length c.args.page.now ≡ 88 = search rules in
+    let reads = reads _ _ _ _ _ long c.requires.0 c.in-Characters.is c.read_text-got.ensures in
     sym (length-take-le _ _ (omega (arith, reads.few, c.read_text-got.auto.text, zeros_size)))
 
 pub returns-in-Characters : goal.returns-in-Characters
 returns-in-Characters c =
+    let long : length c.args.page.now ≡ 88 = search rules in
     let count : ℕ = c.in-Characters.count in
     let points : List ℕ = c.read_text-got.new.text in
-    let reads = reads _ _ points _ count c.requires.0 c.requires.1 c.in-Characters.is c.read_text-got.ensures in
+    let reads = reads _ _ points _ count long c.requires.0 c.in-Characters.is c.read_text-got.ensures in
     let shown_size : length (take count points) ≡ count = length-take-le count points (omega (arith, reads.few, c.read_text-got.auto.text, zeros_size)) in
     rw reads.shows (puts_wider 285 (omega (arith, shown_size, reads.few)) c.put_text.ensures)
 
 pub put_content-requires : goal.put_content-requires
 put_content-requires c =
-    let handed = ap (λ (q : Part). q.octets) (c.content.ensures ∙ handed_content (part_of c.args.page) c.args.received c.requires.0 c.requires.1) in
-    omega (arith, content_few c.args.page.now c.args.received c.content.result.now c.requires.1 handed, c.requires.2)
+    let long : length c.args.page.now ≡ 88 = search rules in
+    let handed = ap (λ (q : Part). q.octets) (c.content.ensures ∙ handed_content (part_of c.args.page) c.args.received long c.requires.0) in
+    omega (arith, content_few c.args.page.now c.args.received c.content.result.now c.requires.0 handed, c.requires.1)
 
 pub returns : goal.returns
 returns c =
+    let long : length c.args.page.now ≡ 88 = search rules in
     let content : List ℕ = take (c.args.received - 6) (drop 6 c.args.page.now) in
     let points : List ℕ = c.read_text-got.new.text in
     let refusal = c.in_default.field-0 in
     let foreign : body c.args.page.now c.args.received ≡ hex_part content =
-    reads_none c.args.page.now c.args.received zeros points zeros_size c.requires.0 c.requires.1 (number_of refusal) (number_of_positive refusal)
+    reads_none c.args.page.now c.args.received zeros points zeros_size long c.requires.0 (number_of refusal) (number_of_positive refusal)
     (ap (λ (g : Got). reading_of g points) (sym c.in_default.is) ∙ c.read_text-got.ensures) in
-    let handed : c.content.result.now ≡ content = ap (λ (q : Part). q.octets) (c.content.ensures ∙ handed_content (part_of c.args.page) c.args.received c.requires.0 c.requires.1) in
-    rw (foreign, ← handed) (puts_wider 285 (omega (arith, content_few c.args.page.now c.args.received c.content.result.now c.requires.1 handed)) c.put_content.ensures)
+    let handed : c.content.result.now ≡ content = ap (λ (q : Part). q.octets) (c.content.ensures ∙ handed_content (part_of c.args.page) c.args.received long c.requires.0) in
+    rw (foreign, ← handed) (puts_wider 285 (omega (arith, content_few c.args.page.now c.args.received c.content.result.now c.requires.0 handed)) c.put_content.ensures)

@@ -2,10 +2,10 @@
 use Rattle.cbtext.proofs.Characters.{joins_start, joins_turn}
 use Rattle.cbtext.proofs.put_characters.Goals as goal
 
-pub loop-i-init : goal.loop-i-init
-loop-i-init c = joins_start
+pub loop-point-init : goal.loop-point-init
+loop-point-init c = joins_start
 
-pub loop-i-preserved : goal.loop-i-preserved
-loop-i-preserved c =
+pub loop-point-preserved : goal.loop-point-preserved
+loop-point-preserved c =
     let put = c.put_character-end in
-    joins_turn c.loop-i.invariant c.loop-i-test.true put.auto.out put.ensures
+    joins_turn c.loop-point.invariant c.loop-point-test.true put.auto.out put.ensures

@@ -1,12 +1,11 @@
--- `cbtext::list_all` meets its contract. The invariant: state, number and text are those that the log so far leaves.
-use Rattle.laws.proofs.Base.{arith}
+-- `logs::list_all` meets its contract. The invariant: state, number and text are those that the log so far leaves.
+use Rattle.laws.proofs.Base.{◌≡◌, sym, ◌∙◌, length, arith}
 use Rattle.logs.proofs.Turns.{going_start, goes_higher, turn_told, turn_going}
-use Rattle.cbtext.specs.Paper.{line_of}
 use Rattle.std.proofs.Common.{rules}
-use Rattle.cbtext.proofs.list_all.Goals as goal
+use Rattle.logs.proofs.list_all.Goals as goal
 
 pub loop-number-init : goal.loop-number-init
-loop-number-init g c = going_start line_of 366592 c.requires (search rules) (search rules)
+loop-number-init g c = going_start _ _ c.requires (search rules) (search rules)
 
 pub returns-then-not-write_chunk : goal.returns-then-not-write_chunk
 returns-then-not-write_chunk g c = turn_told c.loop-number.invariant c.loop-number-test.true c.read_chunk-chunk.ensures c.list-end.ensures
@@ -19,5 +18,7 @@ loop-number-smaller g c =
 
 pub loop-number-preserved : goal.loop-number-preserved
 loop-number-preserved g c =
+    let state_size : length c.list-end.new.state ≡ 90 = search rules in
+    let message_size : length c.list-end.new.message ≡ 88 = search rules in
     turn_going c.loop-number.invariant c.loop-number-test.true c.read_chunk-chunk.ensures c.list-end.ensures
-    (c.write_chunk.ensures.0 c.if-not-write_chunk.false) c.list-end.auto.state c.list-end.auto.page c.list-end.auto.out
+    (c.write_chunk.ensures.0 c.if-not-write_chunk.false) (state_size ∙ sym c.loop-number.invariant.state_size) (message_size ∙ sym c.loop-number.invariant.message_size) c.list-end.auto.text

@@ -1,0 +1,6 @@
+-- `logs::list_opened` meets its contract: memory for the lines can be lent.
+use Rattle.laws.proofs.Base.{arith}
+use Rattle.logs.proofs.list_opened.Goals as goal
+
+pub whole_as_slice-list_all : goal.whole_as_slice-list_all
+whole_as_slice-list_all g c = let h = g.met.L.Listing.lendable in omega arith
