@@ -1,6 +1,6 @@
 -- Laws of the new bits.
 use Rattle.laws.proofs.Base.{◌≡◌, refl, sym, ap, ◌∙◌, Bool, true, false, not, bool_beq, false≢true, List, ℕ, ◌+◌, ◌-◌, ◌/◌, ◌%◌, ◌^◌, ◌≤◌, ◌<◌, zero-div}
-use Rattle.laws.proofs.Base.{min-le_left, arith, length, take, drop, length-take, list_get_d_eq_default, get_or-take, get_or-drop, eqb, le-leb, lt-leb}
+use Rattle.laws.proofs.Base.{min-le_left, arith, length, take, drop, length-take, list_get_d_eq_default, get_or-take, get_or-drop, eqb, le-leb}
 use Rattle.schedule.specs.Paper.{octet_at, end, new, new_past, grouped}
 
 beq_self : (a : Bool) → bool_beq a a ≡ true
@@ -40,10 +40,7 @@ module _ (m : List ℕ) (i : ℕ) where
   pub grouped_own : grouped m (new m i) i ≡ true
   grouped_own = beq_self (new m i)
 
-  -- a slot up to End is not past it, and one past End is so by its new bit
-  pub new_past_below : i < end m → new_past m i ≡ false
-  new_past_below h = rw (lt-leb (end m) i h)
-
+  -- a slot past End is refused by its new bit
   pub new_past_from : (b : Bool) → end m ≤ i → b ≡ new m i → new_past m i ≡ b
   new_past_from b h e = rw (le-leb (end m) i h) (sym e)
 

@@ -1,7 +1,7 @@
 -- Laws of the places where descriptions start, and of what stands there.
-use Rattle.laws.proofs.Base.{◌≡◌, refl, ◌∙◌, Bool, true, false, cond, List, ℕ, zero, suc, ◌+◌, ◌≤◌, ◌<◌, eq-or-lt_of_le, le_of_suc-le-suc}
-use Rattle.laws.proofs.Base.{not-suc-le-zero, add-one, arith, ⊎_elim, length, list_get_d_eq_default, leb, leb-true, leb-false, le-leb, lt-leb}
-use Rattle.schedule.specs.Paper.{octet_at, width, short, long, told, place}
+use Rattle.laws.proofs.Base.{◌≡◌, Bool, true, false, cond, List, ℕ, zero, suc, ◌+◌, ◌≤◌, ◌<◌, eq-or-lt_of_le, le_of_suc-le-suc}
+use Rattle.laws.proofs.Base.{not-suc-le-zero, add-one, arith, ⊎_elim, leb}
+use Rattle.schedule.specs.Paper.{octet_at, width, place}
 
 pub width_some : (x : ℕ) → 1 ≤ width x
 width_some x = go (leb 128 x)
@@ -9,21 +9,6 @@ width_some x = go (leb 128 x)
     go : (b : Bool) → 1 ≤ cond b 2 1
     go true = omega arith
     go false = omega arith
-
--- the description at a place by its first octet n
-module _ (m : List ℕ) (at n : ℕ) (e : n ≡ octet_at m at) where
-  pub octet_inside : 0 < n → at < length m
-  octet_inside l = go (leb (length m) at) refl
-    where
-      go : (b : Bool) → leb (length m) at ≡ b → at < length m
-      go true q = let z : n ≡ 0 = e ∙ list_get_d_eq_default m 0 (leb-true (length m) at q) in absurd (omega arith)
-      go false q = leb-false (length m) at q
-
-  pub told_is_short : n < 128 → short n ≡ told m at
-  told_is_short l = rw (← e, lt-leb 128 n l)
-
-  pub told_is_long : 128 ≤ n → long n (octet_at m (at + 1)) ≡ told m at
-  told_is_long l = rw (← e, le-leb 128 n l)
 
 module _ (m : List ℕ) where
   pub place_next : (k : ℕ) → place m (k + 1) ≡ place m k + width (octet_at m (place m k))

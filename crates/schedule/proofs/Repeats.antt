@@ -1,6 +1,6 @@
 -- Laws of repeats: what makes one false, and what does not.
-use Rattle.laws.proofs.Base.{◌≡◌, refl, ap, ◌∙◌, Bool, true, false, cond, or-true, List, ℕ, suc, ◌+◌, ◌-◌, ◌≤◌, ◌<◌, arith, eqb, leb, eq-eqb, ne_eqb, le-leb, lt-leb, eqb-false, leb-false}
-use Rattle.schedule.specs.Paper.{octet_at, Told, first, again, optional, advised, long, told, is_first, false_in, false_repeat}
+use Rattle.laws.proofs.Base.{◌≡◌, refl, ap, ◌∙◌, Bool, true, false, or-true, List, ℕ, suc, ◌-◌, ◌<◌, arith, eqb, leb, eq-eqb, le-leb, lt-leb, eqb-false, leb-false}
+use Rattle.schedule.specs.Paper.{octet_at, Told, first, again, optional, advised, told, is_first, false_in, false_repeat}
 
 module _ (t : ℕ → Told) (i n : ℕ) (e : t i ≡ again n) where
   pub false_zero : n ≡ 0 → false_repeat t i ≡ true
@@ -11,11 +11,6 @@ module _ (t : ℕ → Told) (i n : ℕ) (e : t i ≡ again n) where
 
   pub false_other : is_first (t (n - 1)) ≡ false → false_repeat t i ≡ true
   false_other h = ap (false_in t i) e ∙ rw (h, or-true, or-true)
-
-  pub true_repeat : (n ≡ 0 → ⊥) → n ≤ i → is_first (t (n - 1)) ≡ true → false_repeat t i ≡ false
-  true_repeat a b h =
-      let low : n < suc i = omega arith in
-      ap (false_in t i) e ∙ rw (ne_eqb n 0 a, lt-leb (suc i) n low, h)
 
 -- descriptions that agree up to slot e tell of the same false repeats
 pub false_repeat_agree : (t u : ℕ → Told) (e i : ℕ) → ((j : ℕ) → j < e → t j ≡ u j) → i < e → false_repeat t i ≡ false_repeat u i
@@ -40,12 +35,3 @@ false_repeat_agree t u e i h l = ap (false_in t i) (h i l) ∙ go (u i)
 module _ (m : List ℕ) (a n : ℕ) (e : n ≡ octet_at m a) where
   pub told_repeat : n < 64 → told m a ≡ again n
   told_repeat l = rw (← e, lt-leb 128 n (omega arith), le-leb n 63 (omega arith))
-
-  -- a description of another kind is no false repeat
-  pub no_repeat : (t : ℕ → Told) (i : ℕ) → t i ≡ told m a → 64 ≤ n → false_repeat t i ≡ false
-  no_repeat t i q l = ap (false_in t i) q ∙ rw (← e, lt-leb n 63 (omega arith)) (go (leb 128 n) (eqb n 65))
-    where
-      go : (p q : Bool) → false_in t i (cond p (long n (octet_at m (a + 1))) (cond q advised optional)) ≡ false
-      go true q = refl
-      go false true = refl
-      go false false = refl

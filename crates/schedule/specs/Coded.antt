@@ -1,11 +1,12 @@
 -- The code's values as document 01's numbers and lists.
+use Rattle.std.specs.Prelude.{Result, Ok, Err}
+use Rattle.refusals.specs.declared.Refusal.{Refusal}
 use Rattle.refusals.specs.Number.{number_of}
 use Rattle.schedule.specs.declared.Description.{Description}
 use Rattle.schedule.specs.declared.Description.TheVariants.{First, Repeat, Optional, Advised}
 use Rattle.schedule.specs.declared.Slot.{Slot}
-use Rattle.schedule.specs.declared.Reading.{Reading}
+use Rattle.schedule.specs.declared.Span.{Span}
 use Rattle.schedule.specs.Paper.{Told, first, again, optional, advised, Shown, Read, unread}
-use Rattle.schedule.specs.declared.Reading.TheVariants as readings
 
 -- the four kinds of description
 abbrev pub told_of : Description → Told
@@ -18,6 +19,6 @@ abbrev pub shown_of : Slot → Shown
 shown_of s = record { new = s.new; told = told_of s.description }
 
 -- 0 with Begin and End, or the refusal's number
-abbrev pub read_of : Reading → Read
-read_of (readings.Read b e) = record { number = 0; begin = b; end = e }
-read_of (readings.Refused r) = unread (number_of r)
+abbrev pub read_of : Result Span Refusal → Read
+read_of (Ok s) = record { number = 0; begin = s.begin; end = s.end }
+read_of (Err r) = unread (number_of r)

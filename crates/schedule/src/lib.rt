@@ -14,7 +14,7 @@ use sizes::{MESSAGE, SLOTS, whole_blocks};
 pub const HEADER: usize = 8;
 
 // What a message tells of a slot.
-#[derive(Clone, Copy)]
+#[derive(Clone, Copy, Debug, PartialEq, Eq)]
 pub enum Description {
     // a first transmission, by the low 15 bits of its identifier
     First(u16),
@@ -24,30 +24,29 @@ pub enum Description {
     Advised,
 }
 
-#[derive(Clone, Copy)]
+// A slot's new bit and its description (000 3.5.2 and 3.5.5).
+#[derive(Clone, Copy, Debug, PartialEq, Eq)]
 pub struct Slot {
     pub new: bool,
     pub description: Description,
 }
 
-// What the reader answers: Begin and End, or a refusal.
-#[derive(Clone, Copy)]
-pub enum Reading {
-    Read(usize, usize),
-    Refused(Refusal),
+// The slots that a message tells of, by its Begin and End (000 3.5.1): they are numbered from 1, and `end` is the last.
+#[derive(Clone, Copy, Debug, PartialEq, Eq)]
+pub struct Span {
+    pub begin: usize,
+    pub end: usize,
 }
 
 // An octet of a message, and 0 past its end.
 pub fn octet_at(message: &[u8], at: usize) -> u8
     ensures { result ≡ octet_at message.now at }
 {
-    if at >= message.len() {
-        return 0;
-    }
-    message[at]
+    message.get(at).copied().unwrap_or(0)
 }
 
 // Whether slot i, counted from 0, has its new bit set.
+#[tactic(auto, using(crate::proofs::News::new_octet, crate::proofs::News::new_beyond))]
 pub fn is_new(message: &[u8], i: usize) -> bool
     ensures { result ≡ new_of message.now i }
 {
@@ -62,25 +61,25 @@ pub fn told_at(message: &[u8], at: usize) -> Description
     ensures { told_of result ≡ told message.now at }
 {
     let octet = octet_at(message, at);
-    if octet < 0x80 {
-        return short_description(octet);
+    match octet {
+        0x80.. => {
+            let high = octet as u16 - 0x80;
+            let low = octet_at(message, at + 1) as u16;
+            Description::First(256 * high + low)
+        }
+        _ => short_description(octet),
     }
-    let high = octet as u16 - 0x80;
-    let low = octet_at(message, at + 1) as u16;
-    Description::First(256 * high + low)
 }
 
 // The description of one octet.
 fn short_description(octet: u8) -> Description
     ensures { told_of result ≡ short octet }
 {
-    if octet < 0x40 {
-        return Description::Repeat(octet);
+    match octet {
+        slot @ 0x00..=0x3F => Description::Repeat(slot),
+        0x41 => Description::Advised,
+        _ => Description::Optional,
     }
-    if octet == 0x41 {
-        return Description::Advised;
-    }
-    Description::Optional
 }
 
 // Slot i, counted from 0, as it is told by the description that starts at a place.
@@ -93,53 +92,46 @@ pub fn shown(message: &[u8], i: usize, at: usize) -> Slot
 }
 
 // Begin and End of a message, as far as its header settles the answer.
-pub fn read_header(message: &[u8], received: usize) -> Reading
+#[tactic(auto, unfolding(crate::specs::Inner::head_read))]
+pub fn read_header(message: &[u8], received: usize) -> Result<Span, Refusal>
     ensures { read_of result ≡ head_read message.now received }
 {
-    if message.len() != MESSAGE {
-        return Reading::Refused(Refusal::MessageLength);
-    }
+    let Ok(message) = <&[u8; MESSAGE]>::try_from(message) else {
+        return Err(Refusal::MessageLength);
+    };
     if !whole_blocks(received) {
-        return Reading::Refused(Refusal::ReceivedOctets);
+        return Err(Refusal::ReceivedOctets);
     }
     let begin = message[0] as usize;
     let end = message[1] as usize % 64;
     if begin >= 64 {
-        return Reading::Refused(Refusal::ScheduleType);
+        return Err(Refusal::ScheduleType);
     }
     if !is_in_bounds(begin, end) {
-        return Reading::Refused(Refusal::BeginOrEnd);
+        return Err(Refusal::BeginOrEnd);
     }
     if has_new_past(message, end) {
-        return Reading::Refused(Refusal::NewPastEnd);
+        return Err(Refusal::NewPastEnd);
     }
-    Reading::Read(begin, end)
+    Ok(Span { begin, end })
 }
 
 // Whether Begin is from 1 to End, and End at most 48.
 fn is_in_bounds(begin: usize, end: usize) -> bool
     ensures { result ≡ bounded begin end }
 {
-    if begin == 0 {
-        return false;
-    }
-    if begin > end {
-        return false;
-    }
-    end <= SLOTS
+    1 <= begin && begin <= end && end <= SLOTS
 }
 
 // Whether the new bit of a slot past End is set.
-fn has_new_past(message: &[u8], end: usize) -> bool
-    requires { (length message.now ≡ 88) × (end ≡ end_of message.now) × (end ≤ 48) }
+fn has_new_past(message: &[u8; MESSAGE], end: usize) -> bool
+    requires { end ≡ end_of message.now }
     ensures { result ≡ some_below (new_past message.now) 48 }
 {
-    let mut i = end;
-    while i < SLOTS {
+    for i in end..SLOTS {
         if is_new(message, i) {
             return true;
         }
-        i += 1;
     }
     false
 }

@@ -15,4 +15,4 @@ returns-then-is_new c =
 pub returns : goal.returns
 returns c =
     let m = c.args.message.now in
-    sym (some_none (new_past m) 48 (λ k h. c.loop-i.invariant.2 k (omega arith)))
+    sym (some_none (new_past m) 48 (λ k h. c.loop-i.invariant k (omega arith)))
