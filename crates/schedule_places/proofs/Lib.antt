@@ -1,6 +1,5 @@
 -- What `schedule_places` proves.
 pub mod Bits
-pub mod Steps
 pub mod Finds
 pub mod Placing
 pub mod Known

@@ -1,5 +1,5 @@
 -- The cases of the reader with all places: refused by the header, by 23 or by 24, or the places of all descriptions.
-use Rattle.laws.proofs.Base.{◌≡◌, refl, sym, ap, ◌∙◌, Bool, true, false, List, ℕ, ◌+◌, ◌≤◌, ◌<◌, arith, length, get_or, replicate}
+use Rattle.laws.proofs.Base.{◌≡◌, refl, sym, ap, ◌∙◌, Bool, true, false, List, ℕ, ◌+◌, ◌≤◌, ◌<◌, arith, length, get_or, take, get_or-take, replicate}
 use Rattle.laws.proofs.Base.{get_or-replicate, ext_get_or, eqb, ltb, eqb-true, lt-ltb, le-ltb, ltb-true, not-false}
 use Rattle.sizes.specs.Paper.{whole_blocks}
 use Rattle.laws.specs.Ruled.{ruled}
@@ -10,8 +10,8 @@ use Rattle.laws.proofs.Upto.{some_agree, each_length, each_at}
 use Rattle.refusals.specs.Number.{number_of}
 use Rattle.refusals.proofs.Inverse.{number_of_positive}
 use Rattle.refusals.specs.declared.Refusal.{Refusal}
-use Rattle.schedule.specs.Paper.{end, place, grouped, base, told, tells, is_first, in_bounds, head_faults, body_faults, faults, false_repeat, Read, unread, good}
-use Rattle.schedule_places.specs.Inner.{place_at, Placed, unplaced, whole, placed, Readable, over, Over, start, Finds, Firsts}
+use Rattle.schedule.specs.Paper.{end, place, grouped, base, told, tells, in_bounds, head_faults, body_faults, faults, false_repeat, Read, unread, good}
+use Rattle.schedule_places.specs.Inner.{place_at, Placed, unplaced, whole, placed, Readable, over, start, Finds}
 use Rattle.schedule.specs.Inner.{head_read, told_by}
 use Rattle.schedule.proofs.Answers.{head_some}
 use Rattle.schedule.proofs.Header.{within}
@@ -80,19 +80,18 @@ module _ (m : List ℕ) (received : ℕ) where
     pub placed_short_rest : received < place m (base m false + count (grouped m false) (end m)) → unplaced 23 ≡ placed m received
     placed_short_rest l = placed_short (rw (groups_whole m) at l)
 
-    module _ (t s : List ℕ) (f g : List Bool) (n k : ℕ)
-        (news : Finds m true (end m) (replicate 48 0) (replicate 48 false) t f n) (others : Finds m false (end m) t f s g k) (inside : k ≤ received) where
-      -- what both groups together have of a slot up to End
-      both_groups : {A : Type 0} (v : ℕ → A) (d : A) (x y z : List A) → Over v d m true (end m) x y
-          → Over v d m false (end m) y z → (i : ℕ) → i < 48 → i < end m → get_or z i d ≡ v i
-      both_groups v d x y z p q i h l = q i h ∙ go (grouped m true i) refl
-        where
-          go : (b : Bool) → grouped m true i ≡ b → over v d m false (end m) y i ≡ v i
-          go true e = rw (grouped_flip m i, lt-ltb i (end m) l, e) (p i h ∙ rw (lt-ltb i (end m) l, e))
-          go false e = rw (grouped_flip m i, lt-ltb i (end m) l, e)
-
+    module _ (t s : List ℕ) (n k : ℕ)
+        (news : Finds m true (end m) (replicate 48 0) t n) (others : Finds m false (end m) t s k) (inside : k ≤ received) where
+      -- both groups together place a slot up to End
       there : (i : ℕ) → i < end m → get_or s i 0 ≡ start m i
-      there i l = both_groups (start m) 0 (replicate 48 0) t s news.starts others.starts i (omega (arith, h.last, h.ends)) l
+      there i l = others.starts i low ∙ go (grouped m true i) refl
+        where
+          low : i < 48
+          low = omega (arith, h.last, h.ends)
+
+          go : (b : Bool) → grouped m true i ≡ b → over m false (end m) t i ≡ start m i
+          go true e = rw (grouped_flip m i, lt-ltb i (end m) l, e) (news.starts i low ∙ rw (lt-ltb i (end m) l, e))
+          go false e = rw (grouped_flip m i, lt-ltb i (end m) l, e)
 
       -- both groups together place every slot
       all_placed : (i : ℕ) → i < 48 → get_or s i 0 ≡ place_at m i
@@ -102,27 +101,20 @@ module _ (m : List ℕ) (received : ℕ) where
           go true e = there i (ltb-true i (end m) e) ∙ rw e
           go false e = others.starts i l ∙ rw e (news.starts i l ∙ rw e (get_or-replicate 48 i 0 0 l))
 
-      pub all_firsts : Firsts m s g e
-      unfolding tells
-      all_firsts i l =
-          let low : i < end m = omega (arith, h.ends) in
-          both_groups (λ (j : ℕ). is_first (tells m j)) false (replicate 48 false) f g news.firsts others.firsts i (omega (arith, h.last)) low
-          ∙ ap (λ (a : ℕ). is_first (told m a)) (sym (there i low))
-
       reached : place m (end m) ≤ received
       reached = let q : k ≡ place m (end m) = others.reached ∙ ap (place m) (groups_whole m) in omega arith
 
-      agrees : some_below (false_repeat (told_by m s)) e ≡ some_below (false_repeat (tells m)) (end m)
+      agrees : some_below (false_repeat (told_by m (take e s))) e ≡ some_below (false_repeat (tells m)) (end m)
       unfolding tells
       agrees =
           rw h.ends
-          (some_agree (false_repeat (told_by m s)) (false_repeat (tells m)) (end m)
-          (λ i l. false_repeat_agree (told_by m s) (tells m) (end m) i (λ j w. ap (told m) (there j w)) l))
+          (some_agree (false_repeat (told_by m (take (end m) s))) (false_repeat (tells m)) (end m)
+          (λ i l. false_repeat_agree (told_by m (take (end m) s)) (tells m) (end m) i (λ j w. ap (told m) (get_or-take (end m) s j 0 w ∙ there j w)) l))
 
-      pub placed_false : some_below (false_repeat (told_by m s)) e ≡ true → unplaced 24 ≡ placed m received
+      pub placed_false : some_below (false_repeat (told_by m (take e s))) e ≡ true → unplaced 24 ≡ placed m received
       placed_false w = sym (h.places ∙ rw (le-ltb received (place m (end m)) reached, sym agrees ∙ w))
 
-      pub placed_good : (r : Read) → r ≡ head_read m received → length s ≡ 48 → some_below (false_repeat (told_by m s)) e ≡ false
+      pub placed_good : (r : Read) → r ≡ head_read m received → length s ≡ 48 → some_below (false_repeat (told_by m (take e s))) e ≡ false
           → ◌≡◌ {A = Placed} (record { read = r; places = s }) (placed m received)
       placed_good r q size w =
           let good_end : placed m received ≡ whole m = h.places ∙ rw (le-ltb received (place m (end m)) reached, sym agrees ∙ w) in

@@ -5,26 +5,26 @@ use Rattle.schedule_places.proofs.new_bits.Goals as goal
 
 pub loop-j-init : goal.loop-j-init
 unfolding joined
-loop-j-init c = (omega arith, refl)
+loop-j-init c = refl
 
 pub overflow_mul-bits : goal.overflow_mul-bits
 overflow_mul-bits c =
-    let room : c.loop-j.bits < 2 ^ 40 = let l = c.loop-j in rw l.invariant.1 (joined_room _ (λ i. (c.type_inv.message i).fits) l.j c.loop-j-test.true) in
+    let room : c.loop-j.bits < 2 ^ 40 = let l = c.loop-j in rw l.invariant (joined_room _ (λ i. (c.type_inv.message i).fits) l.j c.loop-j-test.true) in
     record { fits = omega (arith, room) }
 
 pub overflow_add-bits : goal.overflow_add-bits
 overflow_add-bits c =
-    let room : c.loop-j.bits < 2 ^ 40 = let l = c.loop-j in rw l.invariant.1 (joined_room _ (λ i. (c.type_inv.message i).fits) l.j c.loop-j-test.true) in
+    let room : c.loop-j.bits < 2 ^ 40 = let l = c.loop-j in rw l.invariant (joined_room _ (λ i. (c.type_inv.message i).fits) l.j c.loop-j-test.true) in
     record { fits = omega (arith, room) }
 
 pub loop-j-preserved : goal.loop-j-preserved
 unfolding joined
 loop-j-preserved c =
     let l = c.loop-j in
-    (omega arith, rw (add-one l.j, ← l.invariant.1, c.octet_at.ensures))
+    rw (add-one l.j, ← l.invariant, c.octet_at.ensures)
 
 pub returns : goal.returns
 returns c =
     let l = c.loop-j in
     let all : l.j ≡ 6 = omega arith in
-    rw (l.invariant.1, all) (joined_new _ (λ i. (c.type_inv.message i).fits))
+    rw (l.invariant, all) (joined_new _ (λ i. (c.type_inv.message i).fits))
