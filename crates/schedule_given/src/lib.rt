@@ -1,45 +1,41 @@
 // The description that a schedule message has after a given number of others, with its slot.
 #![tactic(auto)]
 
-ghost use Rattle.std.specs.Prelude.{◌≡◌, true, false, ◌<◌, ◌≤◌, length};
+ghost use Rattle.std.specs.Prelude.{◌≡◌, true, false, ◌<◌, ◌≤◌};
 ghost use Rattle.laws.specs.Upto.{count};
 ghost use Rattle.schedule.specs.Paper.{end as end_of, grouped, slot_of, given};
 ghost use Rattle.schedule_given.specs.Coded.{given_of};
 ghost use Rattle.schedule.specs.Inner.{Picks};
 
 use refusals::Refusal;
-use schedule::{Reading, Slot};
+use schedule::Slot;
 
-// What the description reader answers: a slot by its number, no more, or a refusal.
-#[derive(Clone, Copy)]
-pub enum Given {
-    Next(usize, Slot),
-    NoMore,
-    Refused(Refusal),
+// A slot by its number, of which the first is 1.
+#[derive(Clone, Copy, Debug, PartialEq, Eq)]
+pub struct Numbered {
+    pub number: usize,
+    pub slot: Slot,
 }
 
-// The description that stands after the given number of others, with its slot.
-pub fn description_at(message: &[u8], received: usize, place: usize) -> Given
+// The description that stands after the given number of others, with its slot, if the message has one there.
+pub fn description_at(message: &[u8], received: usize, place: usize) -> Result<Option<Numbered>, Refusal>
     ensures { given_of result ≡ given message.now received place }
 {
-    let found = schedule_places::read_places(message, received);
-    let answer = found.answer;
-    match answer {
-        Reading::Refused(refusal) => Given::Refused(refusal),
-        Reading::Read(_, end) => {
-            if place >= end {
-                return Given::NoMore;
-            }
-            let i = slot_at(message, end, place);
-            let places = found.places;
-            Given::Next(i + 1, schedule::shown(message, i, places[i] as usize))
-        }
+    let found = schedule_places::read_places(message, received)?;
+    let end = found.span.end;
+    if place >= end {
+        return Ok(None);
     }
+    let i = slot_at(message, end, place);
+    let at = found.places[i];
+    let slot = schedule::shown(message, i, at as usize);
+    let number = i + 1;
+    Ok(Some(Numbered { number, slot }))
 }
 
 // The slot, counted from 0, whose description stands after the given number of others.
 fn slot_at(message: &[u8], end: usize, place: usize) -> usize
-    requires { (length message.now ≡ 88) × (end ≡ end_of message.now) × (end ≤ 48) × (place < end) }
+    requires { (end ≡ end_of message.now) × (end ≤ 48) × (place < end) }
     ensures { (result ≡ slot_of message.now place) × (result < end) }
 {
     let news = count_new(message, end);
@@ -51,35 +47,31 @@ fn slot_at(message: &[u8], end: usize, place: usize) -> usize
 
 // How many of the slots up to End have their new bit set.
 fn count_new(message: &[u8], end: usize) -> usize
-    requires { (length message.now ≡ 88) × (end ≤ 48) }
+    requires { end ≤ 48 }
     ensures { result ≡ count (grouped message.now true) end }
 {
     let mut n = 0;
-    let mut i = 0;
-    while i < end {
+    for i in 0..end {
         if schedule::is_new(message, i) {
             n += 1;
         }
-        i += 1;
     }
     n
 }
 
 // The slot, counted from 0, before which the given number of slots up to End have the same new bit, as given.
 fn pick(message: &[u8], end: usize, new: bool, place: usize) -> usize
-    requires { (length message.now ≡ 88) × (end ≡ end_of message.now) × (end ≤ 48) × (place < count (grouped message.now new) end) }
+    requires { (end ≡ end_of message.now) × (end ≤ 48) × (place < count (grouped message.now new) end) }
     ensures { Picks message.now new place result }
 {
     let mut left = place;
-    let mut i = 0;
-    while i < end {
+    for i in 0..end {
         if schedule::is_new(message, i) == new {
             if left == 0 {
                 return i;
             }
             left -= 1;
         }
-        i += 1;
     }
-    i
+    end
 }

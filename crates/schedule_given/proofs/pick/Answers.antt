@@ -7,17 +7,15 @@ use Rattle.schedule_given.proofs.pick.Goals as goal
 use Rattle.schedule_given.proofs.pick.Goals.{else-is_new-new, then-is_new-new+else-left-eq0}
 
 pub loop-i-init : goal.loop-i-init
-loop-i-init c = (omega arith, omega (arith, count_none (grouped c.args.message.now c.args.new)))
+loop-i-init c = omega (arith, count_none (grouped c.args.message.now c.args.new))
 
 pub loop-i-preserved : goal.loop-i-preserved
 loop-i-preserved c =
     let a = c.args in
     let l = c.loop-i in
     let bit = c.is_new in
-    let g = grouped a.message.now a.new in (
-      omega arith,
-      elim c.if-is_new-new.branch [
-        | then-is_new-new+else-left-eq0 w ↦ omega (arith, w.if-left-eq0, w.left-is, count_yes g l.i (grouped_told a.message.now l.i a.new _ _ bit.ensures w.if-is_new-new.true))
-        | else-is_new-new w ↦ omega (arith, w.left-is, count_no g l.i (grouped_told a.message.now l.i a.new _ _ bit.ensures w.if-is_new-new.false))
-      ],
-    )
+    let g = grouped a.message.now a.new in
+    elim c.if-is_new-new.branch [
+      | then-is_new-new+else-left-eq0 w ↦ omega (arith, w.if-left-eq0, w.left-is, count_yes g l.i (grouped_told a.message.now l.i a.new _ _ bit.ensures w.if-is_new-new.true))
+      | else-is_new-new w ↦ omega (arith, w.left-is, count_no g l.i (grouped_told a.message.now l.i a.new _ _ bit.ensures w.if-is_new-new.false))
+    ]

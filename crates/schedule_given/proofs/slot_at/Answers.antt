@@ -14,18 +14,14 @@ returns-then-place-news c =
 
 pub pick-requires-2 : goal.pick-requires-2
 pick-requires-2 c =
-    let m = c.args.message.now in (
-      search rules,
-      search rules,
-      search rules,
-      rw c.requires.1 (omega (arith, groups_whole m, rw c.requires.1 at c.count_new-news.ensures)),
-    )
+    let m = c.args.message.now in
+    (search rules, search rules, rw c.requires.0 (omega (arith, groups_whole m, rw c.requires.0 at c.count_new-news.ensures)))
 
 pub returns : goal.returns
 returns c =
     let a = c.args in
     let m = a.message.now in
     let w = c.pick-2.ensures in
-    let news = rw c.requires.1 at c.count_new-news.ensures in
+    let news = rw c.requires.0 at c.count_new-news.ensures in
     let back : count (grouped m true) (end_of m) + (a.place - c.count_new-news.result) ≡ a.place = omega arith in
     (sym (order_picks m false _ _ w) ∙ rw back, omega (arith, w.below))
