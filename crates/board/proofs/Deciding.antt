@@ -1,10 +1,7 @@
 -- Whether a slot is read, by way of the places of the descriptions.
 use Rattle.laws.proofs.Base.{◌≡◌, refl, sym, ap, ◌∙◌, Bool, true, false, ◌&&◌, not, List, ℕ, ◌+◌, ◌-◌, ◌≤◌, ◌<◌, arith}
-use Rattle.schedule_places.specs.declared.Placed.{Placed}
 use Rattle.schedule.specs.Paper.{Told, first, again, optional, advised, false_repeat, end, tells}
-use Rattle.schedule_places.specs.Inner.{placed}
-use Rattle.schedule.specs.Coded.{read_of}
-use Rattle.schedule_places.specs.Coded.{placed_of}
+use Rattle.schedule_places.specs.Inner.{Placed, placed}
 use Rattle.schedule.specs.Inner.{told_by}
 use Rattle.board_held.specs.Paper.{is_held, entry_for}
 use Rattle.board_held.specs.Inner.{answers}
@@ -45,7 +42,7 @@ reads_agree t u w h e i same l f = go (t i) refl ∙ ap (reads_for u w h) (same 
     go advised q = refl
 
 -- the decision by way of the places, where there is a schedule: r is whether the board reads
-pub decided_slots : (known : Bool) (m : List ℕ) (received n : ℕ) (t : Placed) (q : placed_of t ≡ placed m received) → known ≡ true → answers (read_of t.answer) n ≡ true
+pub decided_slots : (known : Bool) (m : List ℕ) (received n : ℕ) (t : Placed) (q : t ≡ placed m received) → known ≡ true → answers (t.read) n ≡ true
     → (w : Wanted) (h : ℕ) (r b : Bool) → Slot n → w.count ≤ 64 → r ≡ reads_for (told_by m t.places) w h (told_by m t.places (n - 1)) → r ≡ b
     → record { number = 0; read = b } ≡ decide (lent_schedule known m received) n w h
 decided_slots known m received n t q k e w h r b i few p d =

@@ -141,9 +141,10 @@ fn decide_by(
     if !known {
         return Decision::Read;
     }
-    let found = schedule_places::read_places(message, received);
-    let answer = found.answer;
-    if !board_held::tells_of(answer, slot) {
+    let Ok(found) = schedule_places::read_places(message, received) else {
+        return Decision::Read;
+    };
+    if !board_held::tells_of(Ok(found.span), slot) {
         return Decision::Read;
     }
     let places = found.places;

@@ -3,7 +3,9 @@ use Rattle.laws.proofs.Base.{◌≡◌, Bool, List, ℕ}
 use Rattle.laws.specs.Determined.{Determined}
 use Rattle.laws.proofs.Determined.{determined, determined_by}
 use Rattle.schedule.specs.declared.Description.{Description}
-use Rattle.schedule.specs.declared.Reading.{Reading}
+use Rattle.std.specs.Prelude.{Result}
+use Rattle.refusals.specs.declared.Refusal.{Refusal}
+use Rattle.schedule.specs.declared.Span.{Span}
 use Rattle.schedule.specs.Coded.{told_of, read_of}
 use Rattle.board_held.specs as defs
 use defs.declared.Held.{Held}
@@ -18,7 +20,7 @@ determined_is_held held slot = determined
 pub determined_with : (held : Held) (slot : ℕ) → Determined (λ (r : Held). r.0 ≡ enter held.0 slot)
 determined_with held slot = determined_by (λ (r : Held). r.0) (λ r s e i. record { 0 = e i })
 
-pub determined_tells_of : (answer : Reading) (slot : ℕ) → Determined (λ (r : Bool). r ≡ answers (read_of answer) slot)
+pub determined_tells_of : (answer : Result Span Refusal) (slot : ℕ) → Determined (λ (r : Bool). r ≡ answers (read_of answer) slot)
 determined_tells_of answer slot = determined
 
 pub determined_entry_for : (slot : ℕ) (description : Description) → Determined (λ (r : ℕ). r ≡ entry_for slot (told_of description))

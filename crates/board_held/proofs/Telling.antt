@@ -7,11 +7,8 @@ use Rattle.laws.proofs.Upto.{some_false}
 use Rattle.refusals.specs.declared.Refusal.{Refusal}
 use Rattle.refusals.specs.Number.{number_of}
 use Rattle.refusals.proofs.Inverse.{number_of_positive}
-use Rattle.schedule_places.specs.declared.Placed.{Placed}
 use Rattle.schedule.specs.Paper.{Told, first, again, optional, advised, is_first, false_in, false_repeat, begin, end, in_bounds, faults, tells, Read, unread, good, read}
-use Rattle.schedule_places.specs.Inner.{Placed as Places, placed}
-use Rattle.schedule.specs.Coded.{read_of}
-use Rattle.schedule_places.specs.Coded.{placed_of}
+use Rattle.schedule_places.specs.Inner.{Placed, placed}
 use Rattle.schedule.specs.Inner.{told_by}
 use Rattle.schedule_places.proofs.Known.{read_placed, given_good, told_at}
 use Rattle.schedule.proofs.Repeats.{false_repeat_agree}
@@ -56,26 +53,26 @@ module _ (m : List ℕ) (received n : ℕ) where
     pub shows : (j : ℕ) → j < end m → told_by m p j ≡ tells m j
     pub repeats : false_repeat (told_by m p) (n - 1) ≡ false
 
-  module _ (t : Placed) (q : placed_of t ≡ placed m received) where
-    same : read_of t.answer ≡ read m received
-    same = ap (λ (l : Places). l.read) q ∙ read_placed m received
+  module _ (t : Placed) (q : t ≡ placed m received) where
+    same : t.read ≡ read m received
+    same = ap (λ (l : Placed). l.read) q ∙ read_placed m received
 
     -- the places tell whether the schedule tells of the slot
-    pub tells_by : (known b : Bool) → known ≡ true → answers (read_of t.answer) n ≡ b → tells_of (lent_schedule known m received) n ≡ b
+    pub tells_by : (known b : Bool) → known ≡ true → answers (t.read) n ≡ b → tells_of (lent_schedule known m received) n ≡ b
     tells_by known b k e = rw k (tells_answers ∙ rw same at e)
 
-    pub telling : answers (read_of t.answer) n ≡ true → Telling t.places
+    pub telling : answers (t.read) n ≡ true → Telling t.places
     telling e =
-        let r : Read = read_of t.answer in
+        let r : Read = t.read in
         let parts = both (eqb r.number 0) (leb 1 n && leb n r.end) e in
         let range = both (leb 1 n) (leb n r.end) parts.1 in
         let zero = eqb-true r.number 0 parts.0 in
         let some = leb-true 1 n range.0 in
         let reach = leb-true n r.end range.1 in
-        let g = given_good m received (placed_of t) q r.begin r.end (λ i. record { number = zero i; begin = r.begin; end = r.end }) in
+        let g = given_good m received t q r.begin r.end (λ i. record { number = zero i; begin = r.begin; end = r.end }) in
         let known = is_read m received (sym (ap (λ (y : Read). y.number) same) ∙ zero) in
         let below : n - 1 < end m = omega (arith, g.ends) in
-        let shows : (j : ℕ) → j < end m → told_by m t.places j ≡ tells m j = λ j l. told_at m received (placed_of t) q r.end g j (omega (arith, g.ends)) in
+        let shows : (j : ℕ) → j < end m → told_by m t.places j ≡ tells m j = λ j l. told_at m received t q r.end g j (omega (arith, g.ends)) in
         record {
           some = some;
           low = omega (arith, g.last);
@@ -111,8 +108,8 @@ entry_named t i f = go (t i) refl
     go advised q = own
 
 -- the entry by way of the places, where there is a schedule
-pub entered_slot : (known : Bool) (m : List ℕ) (received n : ℕ) (t : Placed) (q : placed_of t ≡ placed m received) → known ≡ true
-    → answers (read_of t.answer) n ≡ true → entry_for n (told_by m t.places (n - 1)) ≡ entered_under (lent_schedule known m received) n
+pub entered_slot : (known : Bool) (m : List ℕ) (received n : ℕ) (t : Placed) (q : t ≡ placed m received) → known ≡ true
+    → answers (t.read) n ≡ true → entry_for n (told_by m t.places (n - 1)) ≡ entered_under (lent_schedule known m received) n
 entered_slot known m received n t q k e =
     let g = telling m received n t q e in
     ap (entry_for n) (g.shows (n - 1) g.below) ∙ sym (entered_told (lent_schedule known m received) n (tells_by m received n t q known true k e))

@@ -7,7 +7,8 @@ ghost use Rattle.board_held.specs.Paper.{is_held, enter, entry_for, entered_unde
 ghost use Rattle.board_held.specs.Inner.{answers};
 ghost use Rattle.board_held.specs.Coded.{schedule_of, lent_schedule};
 
-use schedule::{Description, Reading};
+use refusals::Refusal;
+use schedule::{Description, Span};
 use sizes::{MESSAGE, SLOTS};
 
 // The slots whose pages are held: slot n in bit n - 1, and the bits from 48 on mean nothing.
@@ -54,16 +55,16 @@ impl Held {
 }
 
 // Whether a schedule that the reader answered so tells of a slot.
-pub fn tells_of(answer: Reading, slot: usize) -> bool
+pub fn tells_of(answer: Result<Span, Refusal>, slot: usize) -> bool
     ensures { result ≡ answers (read_of answer) slot }
 {
-    let Reading::Read(_, end) = answer else {
+    let Ok(span) = answer else {
         return false;
     };
     if slot < 1 {
         return false;
     }
-    slot <= end
+    slot <= span.end
 }
 
 // The slot that a page got at a slot is entered under, by what is told of the slot.
@@ -85,9 +86,10 @@ pub fn entered_under_on(known: bool, message: &[u8], received: usize, slot: usiz
     if !known {
         return slot;
     }
-    let found = schedule_places::read_places(message, received);
-    let answer = found.answer;
-    if !tells_of(answer, slot) {
+    let Ok(found) = schedule_places::read_places(message, received) else {
+        return slot;
+    };
+    if !tells_of(Ok(found.span), slot) {
         return slot;
     }
     let places = found.places;

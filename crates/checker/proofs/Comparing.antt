@@ -8,13 +8,8 @@ use Rattle.laws.proofs.Upto.{each_at, each_agree}
 use Rattle.refusals.specs.Number.{number_of}
 use Rattle.refusals.specs.declared.Refusal.{Refusal}
 use Rattle.refusals.proofs.Inverse.{number_of_positive}
-use Rattle.schedule.specs.declared.Reading.{Reading}
-use Rattle.schedule.specs.declared.Reading.TheVariants.{Read, Refused}
-use Rattle.schedule_places.specs.declared.Placed.{Placed}
-use Rattle.schedule.specs.Paper.{new, Told, shown, end, read, Read as Reads}
-use Rattle.schedule_places.specs.Inner.{placed, Placed as Places}
-use Rattle.schedule.specs.Coded.{read_of}
-use Rattle.schedule_places.specs.Coded.{placed_of}
+use Rattle.schedule.specs.Paper.{new, Told, shown, end, Read, unread, read}
+use Rattle.schedule_places.specs.Inner.{Placed, placed}
 use Rattle.schedule_places.proofs.Known.{Good, read_placed, given_good, told_at}
 use Rattle.plan_slots.specs.declared.Planned.{Planned as PlannedCode}
 use Rattle.plan_slots.specs.Paper.{Planned}
@@ -37,25 +32,25 @@ lowest_breaks n v m few =
     at : (i : ℕ) → i < 48 → breaks (each (rule_to n v m) 48) i ≡ not (eqb (rule_to n v m i) 0)
     at i l = ap (λ (x : ℕ). not (eqb x 0)) (each_at (rule_to n v m) 48 i 0 l)
 
-module _ (n : ℕ) (xs : List PlannedCode) (m : List ℕ) (received : ℕ) (w : List ℕ) (t : Placed) (q : placed_of t ≡ placed m received) where
+module _ (n : ℕ) (xs : List PlannedCode) (m : List ℕ) (received : ℕ) (w : List ℕ) (t : Placed) (q : t ≡ placed m received) where
   abbrev answer : SlotsChecked
   answer = compared n (map planned_of xs) m received w
 
-  read_number : (read m received).number ≡ (read_of t.answer).number
-  read_number = sym (ap (λ (l : Places). l.read.number) q ∙ ap (λ (r : Reads). r.number) (read_placed m received))
+  read_number : (read m received).number ≡ t.read.number
+  read_number = sym (ap (λ (l : Placed). l.read.number) q ∙ ap (λ (r : Read). r.number) (read_placed m received))
 
-  pub found_refused : (r : Refusal) → t.answer ≡ Refused r → unjudged 0 w (number_of r) ≡ answer
+  pub found_refused : (r : Refusal) → t.read ≡ unread (number_of r) → unjudged 0 w (number_of r) ≡ answer
   unfolding compared
   found_refused r a =
-      let number : (read m received).number ≡ number_of r = read_number ∙ ap (λ (x : Reading). (read_of x).number) a in
+      let number : (read m received).number ≡ number_of r = read_number ∙ ap (λ (x : Read). x.number) a in
       rw (number, ne_eqb (number_of r) 0 (number_of_positive r))
 
-  module _ (b e : ℕ) (a : t.answer ≡ Read b e) where
-    good : Good m received (placed_of t) q e
-    good = given_good m received (placed_of t) q b e (ap read_of a)
+  module _ (b e : ℕ) (a : t.read ≡ record { number = 0; begin = b; end = e }) where
+    good : Good m received t q e
+    good = given_good m received t q b e a
 
     reads : (read m received).number ≡ 0
-    reads = read_number ∙ ap (λ (x : Reading). (read_of x).number) a
+    reads = read_number ∙ ap (λ (x : Read). x.number) a
 
     pub found_differs : (e ≡ n → ⊥) → record { checked = untrue_at 0; verdicts = w } ≡ answer
     unfolding compared
@@ -67,7 +62,7 @@ module _ (n : ℕ) (xs : List PlannedCode) (m : List ℕ) (received : ℕ) (w : 
         true_or_false (ltb i e)
         (λ l.
         rw l
-        (ap (λ (d : Told). failing_rule (planned_of (get_or xs i nothing)) (suc i) (record { new = new m i; told = d })) (told_at m received (placed_of t) q e good i (ltb-true i e l))
+        (ap (λ (d : Told). failing_rule (planned_of (get_or xs i nothing)) (suc i) (record { new = new m i; told = d })) (told_at m received t q e good i (ltb-true i e l))
         ∙ ap (λ (v : Planned). failing_rule v (suc i) (shown m i)) (sym (list_get_d_map planned_of xs i nothing))))
         (λ l. rw l)
 

@@ -14,7 +14,6 @@ use checker_plans::Plans;
 use plan::{Plan, Verdict};
 use plan_slots::Planned;
 use refusals::Refusal;
-use schedule::Reading;
 use sizes::SLOTS;
 
 // What the checker answers: the message is true, or it is refused, with the slot that 40 names, or whose entry 36 and 37 name; with other
@@ -83,11 +82,11 @@ fn compare(
     requires { length verdicts.old ≡ 48 }
     ensures { record { checked = checked_of result; verdicts = verdicts.new } ≡ compared count (map planned_of said) message.now received verdicts.old }
 {
-    let found = schedule_places::read_places(message, received);
-    let answer = found.answer;
+    let answer = schedule_places::read_places(message, received);
     match answer {
-        Reading::Refused(why) => Checking::Refused(why, 0),
-        Reading::Read(_, end) => {
+        Err(why) => Checking::Refused(why, 0),
+        Ok(found) => {
+            let end = found.span.end;
             if end != count {
                 return Checking::Refused(Refusal::Untrue, 0);
             }

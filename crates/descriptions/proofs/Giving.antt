@@ -8,8 +8,8 @@ use Rattle.schedule.specs.declared.Description.TheVariants.{Optional}
 use Rattle.schedule.specs.Paper.{end, GivenSlot, next, no_more, refusal, given_at, given}
 use Rattle.schedule.specs.Coded.{shown_of}
 use Rattle.schedule.specs.Inner.{zeroed}
+use Rattle.schedule_given.specs.declared.Numbered.{Numbered as NumberedCode}
 use Rattle.descriptions.specs as defs
-use defs.declared.Numbered.{Numbered as NumberedCode}
 use defs.Paper.{Numbered, nothing, entry, Ordered, ordered}
 use defs.Coded.{numbered_of}
 use Rattle.descriptions.proofs.Stepping.{Told, refused, whole, told}

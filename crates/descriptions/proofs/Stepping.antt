@@ -1,7 +1,9 @@
 -- A call of the reader of descriptions: what it gives, and the place that it leaves.
 use Rattle.laws.proofs.Base.{◌≡◌, sym, ap, ◌∙◌, List, ℕ, ◌+◌, ◌≤◌, ◌<◌, ◌^◌, arith, lt-ltb, le-ltb}
 use Rattle.laws.proofs.Tests.{le_or_lt}
-use Rattle.schedule_given.specs.declared.Given.{Given as GivenCode}
+use Rattle.std.specs.Prelude.{Option, Result}
+use Rattle.refusals.specs.declared.Refusal.{Refusal}
+use Rattle.schedule_given.specs.declared.Numbered.{Numbered as NumberedCode}
 use Rattle.schedule.specs.Paper.{end, GivenSlot, refusal, given_at, given}
 use Rattle.schedule_given.specs.Coded.{given_of}
 use Rattle.schedule.proofs.Answers.{Answered, answered}
@@ -40,7 +42,7 @@ module _ (m : List ℕ) (received : ℕ) where
     step_made = let q = passes ∙ ap passed gives in λ i. record { given = gives i; place = k + q i }
 
   -- a step at place k that gave x
-  module _ (k : ℕ) (t : SteppedCode) (step : stepped_of t ≡ stepped m received k) (x : GivenCode) (gave : t.given ≡ x) where
+  module _ (k : ℕ) (t : SteppedCode) (step : stepped_of t ≡ stepped m received k) (x : Result (Option NumberedCode) Refusal) (gave : t.given ≡ x) where
     pub step_gave : given_of x ≡ given m received k
     step_gave = sym (ap given_of gave) ∙ ap (λ (s : Stepped). s.given) step
 

@@ -1,13 +1,11 @@
 -- The code's values as document 01's numbers and lists.
-use Rattle.std.specs.Prelude.{map, ℕ}
+use Rattle.std.specs.Prelude.{map, ℕ, Option, Result, Ok, Err}
+use Rattle.refusals.specs.declared.Refusal.{Refusal}
 use Rattle.refusals.specs.Number.{number_of}
-use Rattle.schedule_given.specs.declared.Given.{Given as GivenCode}
+use Rattle.schedule_given.specs.declared.Numbered.{Numbered as NumberedCode}
 use Rattle.schedule.specs.Paper.{GivenSlot}
 use Rattle.schedule.specs.Coded.{shown_of}
 use Rattle.schedule_given.specs.Coded.{given_of}
-use Rattle.descriptions.specs.declared.Numbered.{Numbered as NumberedCode}
-use Rattle.descriptions.specs.declared.Counted.{Counted}
-use Rattle.descriptions.specs.declared.Counted.TheVariants.{Count, Refused}
 use Rattle.descriptions.specs.declared.Ordered.{Ordered as OrderedCode}
 use Rattle.descriptions.specs.declared.Stepped.{Stepped as SteppedCode}
 use Rattle.descriptions.specs.declared.Descriptions.{Descriptions}
@@ -21,7 +19,7 @@ pub record Called : Type 0 where
   pub given : GivenSlot
   pub left : Descriptions
 
-abbrev pub called_of : GivenCode → Descriptions → Called
+abbrev pub called_of : Result (Option NumberedCode) Refusal → Descriptions → Called
 called_of g d = record { given = given_of g; left = d }
 
 -- 01 Schedule message: the message and the octets received of it stay, and the place is the one that the step leaves
@@ -36,9 +34,9 @@ abbrev pub numbered_of : NumberedCode → Numbered
 numbered_of x = record { number = x.number; shown = shown_of x.slot }
 
 -- 0 with the number of slots given, or the refusal's number with 0
-abbrev pub count_of : Counted → ℕ × ℕ
-count_of (Count k) = (0, k)
-count_of (Refused r) = (number_of r, 0)
+abbrev pub count_of : Result ℕ Refusal → ℕ × ℕ
+count_of (Ok k) = (0, k)
+count_of (Err r) = (number_of r, 0)
 
 abbrev pub ordered_of : OrderedCode → Ordered
 ordered_of o =

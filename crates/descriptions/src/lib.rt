@@ -8,34 +8,20 @@ ghost use Rattle.descriptions.specs.Coded.{stepped_of, called_of, called, ordere
 
 use refusals::Refusal;
 use schedule::{Description, Slot};
-use schedule_given::Given;
+use schedule_given::Numbered;
 use sizes::SLOTS;
 
-// A slot by its number.
-#[derive(Clone, Copy)]
-pub struct Numbered {
-    pub number: usize,
-    pub slot: Slot,
-}
-
-// How many slots are given, or a refusal.
-#[derive(Clone, Copy)]
-pub enum Counted {
-    Count(usize),
-    Refused(Refusal),
-}
-
-// All that the description reader gives, in the message's order.
+// All that the description reader gives, in the message's order: how many slots, or the refusal, and the slots themselves.
 #[derive(Clone, Copy)]
 pub struct Ordered {
-    pub answer: Counted,
+    pub answer: Result<usize, Refusal>,
     pub given: [Numbered; SLOTS],
 }
 
 // What a call gives, and the place that it leaves.
 #[derive(Clone, Copy)]
 pub struct Stepped {
-    pub given: Given,
+    pub given: Result<Option<Numbered>, Refusal>,
     pub place: usize,
 }
 
@@ -59,13 +45,13 @@ pub fn open<'a>(message: &'a [u8], received: usize) -> Descriptions<'a>
 }
 
 // How many descriptions a call passes.
-fn passed(given: Given) -> usize
+fn passed(given: Result<Option<Numbered>, Refusal>) -> usize
     ensures { result ≡ passed (given_of given) }
 {
     match given {
-        Given::Next(_, _) => 1,
-        Given::NoMore => 0,
-        Given::Refused(_) => 0,
+        Ok(Some(_)) => 1,
+        Ok(None) => 0,
+        Err(_) => 0,
     }
 }
 
@@ -81,7 +67,7 @@ fn step_at(message: &[u8], received: usize, place: usize) -> Stepped
 }
 
 // What stands at the place is given, and the place moves past it.
-pub fn next<'s, 'a>(descriptions: &'s mut Descriptions<'a>) -> Given
+pub fn next<'s, 'a>(descriptions: &'s mut Descriptions<'a>) -> Result<Option<Numbered>, Refusal>
     ensures { called_of result descriptions.new ≡ called descriptions.old }
 {
     let step = step_at(
@@ -120,31 +106,29 @@ pub fn all_given(message: &[u8], received: usize) -> Ordered
             description: Description::Optional,
         },
     }; SLOTS];
-    let mut place = 0;
-    while place < SLOTS {
+    for place in 0..SLOTS {
         let step = given_at(message, received, place);
         let given = step.given;
         match given {
-            Given::Next(number, slot) => {
-                slots[place] = Numbered { number, slot };
+            Ok(Some(one)) => {
+                slots[place] = one;
             }
-            Given::NoMore => {
+            Ok(None) => {
                 return Ordered {
-                    answer: Counted::Count(place),
+                    answer: Ok(place),
                     given: slots,
                 };
             }
-            Given::Refused(refusal) => {
+            Err(refusal) => {
                 return Ordered {
-                    answer: Counted::Refused(refusal),
+                    answer: Err(refusal),
                     given: slots,
                 };
             }
         }
-        place = step.place;
     }
     Ordered {
-        answer: Counted::Count(place),
+        answer: Ok(SLOTS),
         given: slots,
     }
 }

@@ -1,11 +1,9 @@
 -- What the schedule room's answers pack fits its place.
 use Rattle.laws.proofs.Base.{◌≡◌, refl, ap, Bool, true, false, List, ℕ, ◌+◌, ◌*◌, ◌<◌, arith, ltb, ltb-true}
 use Rattle.laws.proofs.Ruled.{Ruling, refuses, passes, ruling}
-use Rattle.schedule.specs.declared.Slot.{Slot}
-use Rattle.schedule.specs.declared.Reading.{Reading}
-use Rattle.schedule.specs.declared.Reading.TheVariants as readings
-use Rattle.schedule_given.specs.declared.Given.{Given as GivenCode}
-use Rattle.schedule_given.specs.declared.Given.TheVariants as givens
+use Rattle.std.specs.Prelude.{Some, Ok}
+use Rattle.schedule.specs.declared.Span.{Span}
+use Rattle.schedule_given.specs.declared.Numbered.{Numbered}
 use Rattle.schedule.specs.Paper.{end, faults, Read, unread, good, read, GivenSlot, next, no_more, refusal, given_at, given}
 use Rattle.schedule.specs.Coded.{read_of}
 use Rattle.schedule_given.specs.Coded.{given_of}
@@ -40,13 +38,12 @@ slot_small m received k = go (ruling refusal (faults m received) (given_at m k))
     go (refuses n a e) = rw e (omega arith)
     go (passes h e) = rw e (at (ltb k (end m)) refl)
 
-pub begin_end_small : (m : List ℕ) (received : ℕ) {x : Reading} {b d : ℕ} → read_of x ≡ read m received → x ≡ readings.Read b d → (b < 64) × (d < 64)
-begin_end_small m received e k =
-    let w = rw k at e in
-    (omega (arith, (ends_small m received).0, ap (λ (r : Read). r.begin) w), omega (arith, (ends_small m received).1, ap (λ (r : Read). r.end) w))
+pub begin_end_small : (m : List ℕ) (received : ℕ) (s : Span) → read_of (Ok s) ≡ read m received → (s.begin < 64) × (s.end < 64)
+begin_end_small m received s e =
+    (omega (arith, (ends_small m received).0, ap (λ (r : Read). r.begin) e), omega (arith, (ends_small m received).1, ap (λ (r : Read). r.end) e))
 
-pub reads_schedule : {x : Reading} {r : Read} {b d : ℕ} → read_of x ≡ r → x ≡ readings.Read b d → 0x100 * b + 0x10000 * d ≡ packed_read r
-reads_schedule e k = omega (arith, ap packed_read (rw k at e))
+pub reads_schedule : (r : Read) (s : Span) → read_of (Ok s) ≡ r → 0x100 * s.begin + 0x10000 * s.end ≡ packed_read r
+reads_schedule r s e = omega (arith, ap packed_read e)
 
-pub given_small : (m : List ℕ) (received place : ℕ) {x : GivenCode} {i : ℕ} {s : Slot} → given_of x ≡ given m received place → x ≡ givens.Next i s → i < 64
-given_small m received place e k = omega (arith, slot_small m received place, ap slot_number (rw k at e))
+pub given_small : (m : List ℕ) (received place : ℕ) (x : Numbered) → given_of (Ok (Some x)) ≡ given m received place → x.number < 64
+given_small m received place x e = omega (arith, slot_small m received place, ap slot_number e)

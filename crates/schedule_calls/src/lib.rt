@@ -5,10 +5,10 @@ ghost use Rattle.std.specs.Prelude.{◌≡◌};
 ghost use Rattle.schedule.specs.Coded.{told_of};
 ghost use Rattle.schedule_calls.specs.Paper.{code_of, schedule_call, description_call};
 
-use schedule::{Description, Reading};
-use schedule_given::Given;
+use schedule::Description;
 
 // A description as one number.
+// Stays a function: Description and u32 are both of other crates, so From can't stand here.
 pub fn code(description: Description) -> u32
     ensures { result ≡ code_of (told_of description) }
 {
@@ -26,8 +26,8 @@ pub fn cb_read_schedule(message: &[u8], received: usize) -> u32
 {
     let answer = schedule_places::read_schedule(message, received);
     match answer {
-        Reading::Read(begin, end) => 0x100 * begin as u32 + 0x10000 * end as u32,
-        Reading::Refused(refusal) => refusals::number(refusal) as u32,
+        Ok(span) => 0x100 * span.begin as u32 + 0x10000 * span.end as u32,
+        Err(refusal) => u32::from(u8::from(refusal)),
     }
 }
 
@@ -37,12 +37,12 @@ pub fn cb_description(message: &[u8], received: usize, place: usize) -> u64
 {
     let answer = schedule_given::description_at(message, received, place);
     match answer {
-        Given::Next(number, slot) => {
-            let description = slot.description;
-            let high = 0x100000000 * code(description) as u64;
-            high + 0x10000 * slot.new as u64 + 0x100 * number as u64
+        Ok(Some(given)) => {
+            let slot = given.slot;
+            let high = 0x100000000 * code(slot.description) as u64;
+            high + 0x10000 * slot.new as u64 + 0x100 * given.number as u64
         }
-        Given::NoMore => 0,
-        Given::Refused(refusal) => refusals::number(refusal) as u64,
+        Ok(None) => 0,
+        Err(refusal) => u64::from(u8::from(refusal)),
     }
 }

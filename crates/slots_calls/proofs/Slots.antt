@@ -6,8 +6,8 @@ use Rattle.laws.proofs.Outcome.{Outcome, refuses, passes, outcome}
 use Rattle.refusals.specs.declared.Refusal.{Refusal}
 use Rattle.refusals.specs.Number.{number_of}
 use Rattle.refusals.proofs.Inverse.{number_of_positive}
+use Rattle.std.specs.Prelude.{Ok, Err}
 use Rattle.schedule_places.specs.declared.Placed.{Placed as PlacedCode}
-use Rattle.schedule.specs.declared.Reading.TheVariants.{Read, Refused}
 use Rattle.schedule.specs.Paper.{new, tells, faults, Read as Reads, unread, good, read}
 use Rattle.schedule_places.specs.Inner.{Placed, placed}
 use Rattle.schedule.specs.Coded.{read_of}
@@ -71,31 +71,30 @@ module _ (m : List ℕ) (received : ℕ) where
         go (refused n z a b) = omega (arith, ap (λ (l : CallLeft). l.returned) a, ap packed_read b)
         go (told a b) = ap (λ (l : CallLeft). l.returned) a ∙ sym (ap packed_read b)
 
-  module _ (t : PlacedCode) (q : placed_of t ≡ placed m received) where
-    same : read_of t.answer ≡ read m received
+  pub refuses_slots : (o : List ℕ) → length o ≡ 48 → (f : Refusal) → placed_of (Err f) ≡ placed m received
+      → IsLeft (number_of f) o (slots_call m received o)
+  refuses_slots o room f q = go (answers o room) (sym (ap (λ (l : Placed). l.read.number) q ∙ ap (λ (x : Reads). x.number) (read_placed m received)))
+    where
+      go : {l : CallLeft} {x : Reads} → Answers o l x → x.number ≡ number_of f → IsLeft (number_of f) o l
+      go (refused k z p b) e = ap (refusal o) (sym e ∙ ap (λ (x : Reads). x.number) b) ∙ sym p
+      go (told p b) e = absurd (number_of_positive f (sym e ∙ ap (λ (x : Reads). x.number) b))
+
+  module _ (t : PlacedCode) (q : placed_of (Ok t) ≡ placed m received) where
+    same : read_of (Ok t.span) ≡ read m received
     same = ap (λ (l : Placed). l.read) q ∙ read_placed m received
 
-    pub refuses_slots : (o : List ℕ) → length o ≡ 48 → {f : Refusal} {r : ℕ} → r ≡ number_of f → t.answer ≡ Refused f → IsLeft r o (slots_call m received o)
-    refuses_slots o room {f} {r} n a = go (answers o room) (sym (ap (λ (x : Reads). x.number) (rw a at same)))
-      where
-        go : {l : CallLeft} {x : Reads} → Answers o l x → x.number ≡ number_of f → IsLeft r o l
-        go (refused k z p b) e = ap (refusal o) (n ∙ sym e ∙ ap (λ (x : Reads). x.number) b) ∙ sym p
-        go (told p b) e = absurd (number_of_positive f (sym e ∙ ap (λ (x : Reads). x.number) b))
+    found : Good m received (placed_of (Ok t)) q t.span.end
+    found = given_good m received (placed_of (Ok t)) q t.span.begin t.span.end refl
 
-    module _ {b e : ℕ} (a : t.answer ≡ Read b e) where
-      found : Good m received (placed_of t) q e
-      found = given_good m received (placed_of t) q b e (ap read_of a)
+    pub found_shows : Shows m t.places t.span.end
+    found_shows = record { ends = found.ends; shows = told_at m received (placed_of (Ok t)) q t.span.end found }
 
-      pub found_shows : Shows m t.places e
-      found_shows = record { ends = found.ends; shows = told_at m received (placed_of t) q e found }
+    pub found_small : (t.span.begin < 64) × (t.span.end < 64)
+    found_small = begin_end_small m received t.span same
 
-      pub found_small : (b < 64) × (e < 64)
-      found_small = begin_end_small m received same a
-
-    pub tells_slots : (o : List ℕ) → length o ≡ 48 → {b e : ℕ} {x : List ℕ} → t.answer ≡ Read b e → x ≡ each (packed_slot m) 48
-        → IsLeft (0x100 * b + 0x10000 * e) x (slots_call m received o)
-    tells_slots o room a s =
-        let w = rw a at same in
-        let l = slots_told o room (sym (ap (λ (r : Reads). r.number) w)) in
-        let packed = reads_schedule same a ∙ ap packed_read l.1 in
+    pub tells_slots : (o : List ℕ) → length o ≡ 48 → (x : List ℕ) → x ≡ each (packed_slot m) 48
+        → IsLeft (0x100 * t.span.begin + 0x10000 * t.span.end) x (slots_call m received o)
+    tells_slots o room x s =
+        let l = slots_told o room (sym (ap (λ (r : Reads). r.number) same)) in
+        let packed = reads_schedule _ t.span same ∙ ap packed_read l.1 in
         (λ i. record { returned = packed i; memory = s i }) ∙ sym l.0

@@ -7,11 +7,11 @@ ghost use Rattle.slots_calls.specs.Paper.{packed_slot, slots_call};
 ghost use Rattle.slots_calls.specs.Inner.{Shows, packed_by};
 
 use refusals::Refusal;
-use schedule::Reading;
 use schedule_calls::code;
 use sizes::SLOTS;
 
 // Slot i, counted from 0, as one number, by its description's place: code + 2^16 × new bit, and 0 past End.
+// Stays a number with 0 for none: cb_slots lends its slots as numbers, and DECISIONS has 0 there.
 fn packed_at(message: &[u8], end: usize, i: usize, at: usize) -> u32
     ensures { result ≡ packed_by message.now end i at }
 {
@@ -28,10 +28,8 @@ fn tell(message: &[u8], places: [u8; SLOTS], end: usize, slots: &mut [u32])
     requires { (length slots.old ≡ 48) × Shows message.now places end }
     ensures { slots.new ≡ each (packed_slot message.now) 48 }
 {
-    let mut i = 0;
-    while i < SLOTS {
+    for i in 0..SLOTS {
         slots[i] = packed_at(message, end, i, places[i] as usize);
-        i += 1;
     }
 }
 
@@ -40,16 +38,15 @@ pub fn cb_slots(message: &[u8], received: usize, slots: &mut [u32]) -> u32
     ensures { record { returned = result; memory = slots.new } ≡ slots_call message.now received slots.old }
 {
     if slots.len() != SLOTS {
-        return refusals::number(Refusal::OutputLength) as u32;
+        return u32::from(u8::from(Refusal::OutputLength));
     }
-    let found = schedule_places::read_places(message, received);
-    let answer = found.answer;
+    let answer = schedule_places::read_places(message, received);
     match answer {
-        Reading::Refused(refusal) => refusals::number(refusal) as u32,
-        Reading::Read(begin, end) => {
-            let places = found.places;
-            tell(message, places, end, slots);
-            0x100 * begin as u32 + 0x10000 * end as u32
+        Err(refusal) => u32::from(u8::from(refusal)),
+        Ok(found) => {
+            let span = found.span;
+            tell(message, found.places, span.end, slots);
+            0x100 * span.begin as u32 + 0x10000 * span.end as u32
         }
     }
 }

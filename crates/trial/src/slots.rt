@@ -6,8 +6,7 @@ use crate::told::{DIFFERS, NO_VALUE};
 use crate::{fields, told};
 use board::{Decision, Wanted};
 use board_held::{Held, Schedule};
-use schedule::{Reading, Slot};
-use schedule_given::Given;
+use schedule::Slot;
 use sizes::MESSAGE;
 
 // The most numbers of two octets in a list.
@@ -25,11 +24,11 @@ pub(crate) fn schedule(line: &[u8]) -> usize {
 fn schedule_of(line: &[u8], at: usize, message: &[u8], received: usize) -> usize {
     let answer = schedule_places::read_schedule(message, received);
     match answer {
-        Reading::Read(begin, end) => {
-            let next = ends(line, at, 0, begin, end);
+        Ok(span) => {
+            let next = ends(line, at, 0, span.begin, span.end);
             descriptions(line, next, message, received)
         }
-        Reading::Refused(refusal) => ends(line, at, refusals::number(refusal), 0, 0),
+        Err(refusal) => ends(line, at, u8::from(refusal), 0, 0),
     }
 }
 
@@ -47,10 +46,10 @@ fn descriptions(line: &[u8], at: usize, message: &[u8], received: usize) -> usiz
     while given < line.len() {
         let step = descriptions::given_at(message, received, place);
         let answer = step.given;
-        let Given::Next(number, slot) = answer else {
+        let Ok(Some(one)) = answer else {
             return next;
         };
-        next = shown(line, next, number, slot);
+        next = shown(line, next, one.number, one.slot);
         place = step.place;
         given += 1;
     }
@@ -79,12 +78,12 @@ pub(crate) fn description(line: &[u8]) -> usize {
     );
     let given = step.given;
     match given {
-        Given::Next(number, slot) => {
+        Ok(Some(one)) => {
             let next = told::number(line, place.next, 0);
-            shown(line, next, number, slot)
+            shown(line, next, one.number, one.slot)
         }
-        Given::NoMore => not_shown(line, place.next, 0),
-        Given::Refused(refusal) => not_shown(line, place.next, refusals::number(refusal)),
+        Ok(None) => not_shown(line, place.next, 0),
+        Err(refusal) => not_shown(line, place.next, u8::from(refusal)),
     }
 }
 

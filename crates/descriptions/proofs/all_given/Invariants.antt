@@ -1,10 +1,6 @@
 -- `descriptions::all_given` meets its contract. The invariant: the slots given so far stand in their places, and none of the answers was the last.
-use Rattle.laws.proofs.Base.{◌≤◌, ◌-◌}
 use Rattle.descriptions.proofs.Giving.{Gave}
 use Rattle.descriptions.proofs.all_given.Given as goal
 
 abbrev pub invariant-loop-place : goal.invariant-loop-place
-invariant-loop-place l = (l.place ≤ 48) × Gave l.message l.received l.place l.slots
-
-abbrev pub decreases-loop-place : goal.decreases-loop-place
-decreases-loop-place l = 48 - l.place
+invariant-loop-place l = Gave l.message l.received l.place l.slots

@@ -6,47 +6,44 @@ use Rattle.slots_calls.proofs.cb_slots.Goals as goal
 pub returns-then-slots-ne-SLOTS : goal.returns-then-slots-ne-SLOTS
 returns-then-slots-ne-SLOTS c =
     let a = c.args in
-    ap (λ (r : ℕ). record { returned = r; memory = a.slots.now }) c.number.ensures
-    ∙ sym (slots_length a.message.now a.received a.slots.now (λ e. omega arith))
+    rw (c.from-then-slots-ne-SLOTS.ensures, c.from.ensures) (sym (slots_length a.message.now a.received a.slots.now (λ e. omega arith)))
 
 pub tell-requires : goal.tell-requires
 tell-requires c =
     let a = c.args in
-    (omega arith, found_shows a.message.now a.received c.read_places-found.result c.read_places-found.ensures c.in-Read.is)
+    (omega arith, found_shows a.message.now a.received _ c.in-Ok.ensures)
 
-pub overflow_cast-result-in-Read : goal.overflow_cast-result-in-Read
-overflow_cast-result-in-Read c =
-    let few : (c.in-Read.begin < 64) × (c.in-Read.end < 64) = let a = c.args in found_small a.message.now a.received c.read_places-found.result c.read_places-found.ensures c.in-Read.is in
+pub overflow_cast-result : goal.overflow_cast-result
+overflow_cast-result c =
+    let few : (c.in-Ok.found.span.begin < 64) × (c.in-Ok.found.span.end < 64) = let a = c.args in found_small a.message.now a.received _ c.in-Ok.ensures in
     omega (arith, few)
 
 pub overflow_mul-result : goal.overflow_mul-result
 overflow_mul-result c =
-    let few : (c.in-Read.begin < 64) × (c.in-Read.end < 64) = let a = c.args in found_small a.message.now a.received c.read_places-found.result c.read_places-found.ensures c.in-Read.is in
+    let few : (c.in-Ok.found.span.begin < 64) × (c.in-Ok.found.span.end < 64) = let a = c.args in found_small a.message.now a.received _ c.in-Ok.ensures in
     omega (arith, few)
 
-pub overflow_cast-result-in-Read-2 : goal.overflow_cast-result-in-Read-2
-overflow_cast-result-in-Read-2 c =
-    let few : (c.in-Read.begin < 64) × (c.in-Read.end < 64) = let a = c.args in found_small a.message.now a.received c.read_places-found.result c.read_places-found.ensures c.in-Read.is in
+pub overflow_cast-result-in-Ok : goal.overflow_cast-result-in-Ok
+overflow_cast-result-in-Ok c =
+    let few : (c.in-Ok.found.span.begin < 64) × (c.in-Ok.found.span.end < 64) = let a = c.args in found_small a.message.now a.received _ c.in-Ok.ensures in
     omega (arith, few)
 
-pub overflow_mul-result-in-Read : goal.overflow_mul-result-in-Read
-overflow_mul-result-in-Read c =
-    let few : (c.in-Read.begin < 64) × (c.in-Read.end < 64) = let a = c.args in found_small a.message.now a.received c.read_places-found.result c.read_places-found.ensures c.in-Read.is in
+pub overflow_mul-result-in-Ok : goal.overflow_mul-result-in-Ok
+overflow_mul-result-in-Ok c =
+    let few : (c.in-Ok.found.span.begin < 64) × (c.in-Ok.found.span.end < 64) = let a = c.args in found_small a.message.now a.received _ c.in-Ok.ensures in
     omega (arith, few)
 
 pub overflow_add-result : goal.overflow_add-result
 overflow_add-result c =
-    let few : (c.in-Read.begin < 64) × (c.in-Read.end < 64) = let a = c.args in found_small a.message.now a.received c.read_places-found.result c.read_places-found.ensures c.in-Read.is in
+    let few : (c.in-Ok.found.span.begin < 64) × (c.in-Ok.found.span.end < 64) = let a = c.args in found_small a.message.now a.received _ c.in-Ok.ensures in
     omega (arith, few)
 
-pub returns-in-Refused : goal.returns-in-Refused
-returns-in-Refused c =
+pub returns-in-Err : goal.returns-in-Err
+returns-in-Err c =
     let a = c.args in
-    refuses_slots a.message.now a.received c.read_places-found.result c.read_places-found.ensures a.slots.now (omega arith)
-    c.number-in-Refused.ensures c.in-Refused.is
+    rw (c.from-in-Err-2.ensures, c.from-in-Err.ensures) (refuses_slots a.message.now a.received a.slots.now (omega arith) _ c.in-Err.ensures)
 
-pub returns-in-Read : goal.returns-in-Read
-returns-in-Read c =
+pub returns-in-Ok : goal.returns-in-Ok
+returns-in-Ok c =
     let a = c.args in
-    tells_slots a.message.now a.received c.read_places-found.result c.read_places-found.ensures a.slots.now (omega arith)
-    c.in-Read.is c.tell.ensures
+    tells_slots a.message.now a.received _ c.in-Ok.ensures a.slots.now (omega arith) _ c.tell.ensures
