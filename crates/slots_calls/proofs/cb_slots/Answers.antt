@@ -1,5 +1,5 @@
 -- `slots_calls::cb_slots` meets its contract: all slots told from the places of the message's descriptions.
-use Rattle.laws.proofs.Base.{ap, ◌∙◌, ℕ, sym, ◌<◌, arith}
+use Rattle.laws.proofs.Base.{sym, ◌<◌, arith}
 use Rattle.slots_calls.proofs.Slots.{slots_length, refuses_slots, found_shows, found_small, tells_slots}
 use Rattle.slots_calls.proofs.cb_slots.Goals as goal
 
