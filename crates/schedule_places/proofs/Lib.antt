@@ -1,5 +1,6 @@
 -- What `schedule_places` proves.
 pub mod Bits
+pub mod Steps
 pub mod Finds
 pub mod Placing
 pub mod Known

@@ -10,8 +10,8 @@ use Rattle.laws.proofs.Upto.{some_agree, each_length, each_at}
 use Rattle.refusals.specs.Number.{number_of}
 use Rattle.refusals.proofs.Inverse.{number_of_positive}
 use Rattle.refusals.specs.declared.Refusal.{Refusal}
-use Rattle.schedule.specs.Paper.{end, place, grouped, base, told, tells, in_bounds, head_faults, body_faults, faults, false_repeat, Read, unread, good}
-use Rattle.schedule_places.specs.Inner.{place_at, Placed, unplaced, whole, placed, Readable, over, start, Finds}
+use Rattle.schedule.specs.Paper.{end, place, grouped, base, told, tells, is_first, in_bounds, head_faults, body_faults, faults, false_repeat, Read, unread, good}
+use Rattle.schedule_places.specs.Inner.{place_at, Placed, unplaced, whole, placed, Readable, over, Over, start, Finds, Firsts}
 use Rattle.schedule.specs.Inner.{head_read, told_by}
 use Rattle.schedule.proofs.Answers.{head_some}
 use Rattle.schedule.proofs.Header.{within}
@@ -80,18 +80,19 @@ module _ (m : List ℕ) (received : ℕ) where
     pub placed_short_rest : received < place m (base m false + count (grouped m false) (end m)) → unplaced 23 ≡ placed m received
     placed_short_rest l = placed_short (rw (groups_whole m) at l)
 
-    module _ (t s : List ℕ) (n k : ℕ)
-        (news : Finds m true (end m) (replicate 48 0) t n) (others : Finds m false (end m) t s k) (inside : k ≤ received) where
-      -- both groups together place a slot up to End
-      there : (i : ℕ) → i < end m → get_or s i 0 ≡ start m i
-      there i l = others.starts i low ∙ go (grouped m true i) refl
+    module _ (t s : List ℕ) (f g : List Bool) (n k : ℕ)
+        (news : Finds m true (end m) (replicate 48 0) (replicate 48 false) t f n) (others : Finds m false (end m) t f s g k) (inside : k ≤ received) where
+      -- what both groups together have of a slot up to End
+      both_groups : {A : Type 0} (v : ℕ → A) (d : A) (x y z : List A) → Over v d m true (end m) x y
+          → Over v d m false (end m) y z → (i : ℕ) → i < 48 → i < end m → get_or z i d ≡ v i
+      both_groups v d x y z p q i h l = q i h ∙ go (grouped m true i) refl
         where
-          low : i < 48
-          low = omega (arith, h.last, h.ends)
-
-          go : (b : Bool) → grouped m true i ≡ b → over m false (end m) t i ≡ start m i
-          go true e = rw (grouped_flip m i, lt-ltb i (end m) l, e) (news.starts i low ∙ rw (lt-ltb i (end m) l, e))
+          go : (b : Bool) → grouped m true i ≡ b → over v d m false (end m) y i ≡ v i
+          go true e = rw (grouped_flip m i, lt-ltb i (end m) l, e) (p i h ∙ rw (lt-ltb i (end m) l, e))
           go false e = rw (grouped_flip m i, lt-ltb i (end m) l, e)
+
+      there : (i : ℕ) → i < end m → get_or s i 0 ≡ start m i
+      there i l = both_groups (start m) 0 (replicate 48 0) t s news.starts others.starts i (omega (arith, h.last, h.ends)) l
 
       -- both groups together place every slot
       all_placed : (i : ℕ) → i < 48 → get_or s i 0 ≡ place_at m i
@@ -100,6 +101,13 @@ module _ (m : List ℕ) (received : ℕ) where
           go : (b : Bool) → ltb i (end m) ≡ b → get_or s i 0 ≡ place_at m i
           go true e = there i (ltb-true i (end m) e) ∙ rw e
           go false e = others.starts i l ∙ rw e (news.starts i l ∙ rw e (get_or-replicate 48 i 0 0 l))
+
+      pub all_firsts : Firsts m (take e s) g e
+      unfolding tells
+      all_firsts i l =
+          let low : i < end m = omega (arith, h.ends) in
+          both_groups (λ (j : ℕ). is_first (tells m j)) false (replicate 48 false) f g news.firsts others.firsts i (omega (arith, h.last)) low
+          ∙ ap (λ (a : ℕ). is_first (told m a)) (sym (get_or-take e s i 0 l ∙ there i low))
 
       reached : place m (end m) ≤ received
       reached = let q : k ≡ place m (end m) = others.reached ∙ ap (place m) (groups_whole m) in omega arith

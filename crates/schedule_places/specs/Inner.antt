@@ -1,10 +1,13 @@
 -- What the functions give, in the paper's terms.
-use Rattle.std.specs.Prelude.{◌≡◌, Bool, cond, ◌&&◌, List, ℕ, ◌+◌, ◌-◌, ◌/◌, ◌%◌, ◌^◌, ◌≤◌, ◌<◌, length, get_or, replicate, eqb, ltb, Result, Ok, Err}
+use Rattle.std.specs.Prelude.{◌≡◌, Bool, false, cond, ◌&&◌, List, ℕ, ◌+◌, ◌-◌, ◌/◌, ◌%◌, ◌^◌, ◌≤◌, ◌<◌, length, get_or, replicate, eqb, leb, ltb, Option, None, Some, Result, Ok, Err}
 use Rattle.laws.specs.Ruled.{ruled}
 use Rattle.laws.specs.Upto.{count, each}
 use Rattle.refusals.specs.declared.Refusal.{Refusal}
 use Rattle.refusals.specs.Number.{number_of}
-use Rattle.schedule.specs.Paper.{end, new, place, rank, grouped, base, faults, Read, unread, good}
+use Rattle.schedule.specs.declared.Description.{Description}
+use Rattle.schedule.specs.Paper.{Told, octet_at, end, new, width, told, place, rank, tells, is_first, grouped, base, faults, Read, unread, good}
+use Rattle.schedule.specs.Coded.{told_of}
+use Rattle.schedule.specs.Inner.{told_by}
 
 -- the reader's answer, and where the descriptions of the 48 slots start that a message can describe
 pub record Placed : Type 0 where
@@ -42,25 +45,43 @@ pub record Readable (m : List ℕ) (received e : ℕ) : Type 0 where
 abbrev pub NewBits : List ℕ → ℕ → Type 0
 NewBits m x = (i : ℕ) → i < 48 → eqb (x / 2 ^ (47 - i) % 2) 1 ≡ new m i
 
+-- a description and the place after it, or one that passes the received octets
+pub data Stepped : Type 0 where
+  took : Told → ℕ → Stepped
+  past : Stepped
+
+abbrev pub stepped_of : Option (Description × ℕ) → Stepped
+stepped_of (Some (d, n)) = took (told_of d) n
+stepped_of None = past
+
+-- 01 Numbers given, 23: the description at a place, unless it passes the received octets
+unfoldable pub step : List ℕ → ℕ → ℕ → Stepped
+step m received at = cond (leb (at + width (octet_at m at)) received) (took (told m at) (at + width (octet_at m at))) past
+
+-- for a slot below e whose new bit is b what a function gives, and for another what s has
+abbrev pub over : {A : Type 0} → (ℕ → A) → A → List ℕ → Bool → ℕ → List A → ℕ → A
+over f d m b e s i = cond (ltb i e && grouped m b i) (f i) (get_or s i d)
+
+-- an array t that has this of every slot
+abbrev pub Over : {A : Type 0} → (ℕ → A) → A → List ℕ → Bool → ℕ → List A → List A → Type 0
+Over f d m b e s t = (i : ℕ) → i < 48 → get_or t i d ≡ over f d m b e s i
+
 -- where a slot's description starts
 abbrev pub start : List ℕ → ℕ → ℕ
 start m i = place m (rank m i)
 
--- where the description of a slot below e starts if its new bit is b, and for another slot what s has
-abbrev pub over : List ℕ → Bool → ℕ → List ℕ → ℕ → ℕ
-over m b e s i = cond (ltb i e && grouped m b i) (start m i) (get_or s i 0)
-
--- places t that have this of every slot
-abbrev pub Over : List ℕ → Bool → ℕ → List ℕ → List ℕ → Type 0
-Over m b e s t = (i : ℕ) → i < 48 → get_or t i 0 ≡ over m b e s i
-
--- what is found once the slots below e whose new bit is b are passed: the place reached, and where their descriptions start
-pub record Finds (m : List ℕ) (b : Bool) (e : ℕ) (s t : List ℕ) (at : ℕ) : Type 0 where
+-- what is found once the slots below e whose new bit is b are passed: the place reached, where their descriptions start, and which are first transmissions
+pub record Finds (m : List ℕ) (b : Bool) (e : ℕ) (s : List ℕ) (f : List Bool) (t : List ℕ) (g : List Bool) (at : ℕ) : Type 0 where
   pub reached : at ≡ place m (base m b + count (grouped m b) e)
-  pub starts : Over m b e s t
+  pub starts : Over (start m) 0 m b e s t
+  pub firsts : Over (λ (i : ℕ). is_first (tells m i)) false m b e f g
 
 -- a group of descriptions found within the received octets, or refused by 23 because its last passes them
-abbrev pub Group : List ℕ → ℕ → Bool → List ℕ → List ℕ → Result ℕ Refusal → Type 0
-Group m received b s t (Ok at) = Finds m b (end m) s t at × (at ≤ received)
-Group m received b s t (Err r) =
+abbrev pub Group : List ℕ → ℕ → Bool → List ℕ → List Bool → List ℕ → List Bool → Result ℕ Refusal → Type 0
+Group m received b s f t g (Ok at) = Finds m b (end m) s f t g at × (at ≤ received)
+Group m received b s f t g (Err r) =
     (number_of r ≡ 23) × (received < place m (base m b + count (grouped m b) (end m)))
+
+-- which of the descriptions at the first e places are first transmissions
+abbrev pub Firsts : List ℕ → List ℕ → List Bool → ℕ → Type 0
+Firsts m p f e = (i : ℕ) → i < e → get_or f i false ≡ is_first (told_by m p i)

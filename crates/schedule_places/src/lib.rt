@@ -3,11 +3,11 @@
 
 ghost use Rattle.std.specs.Prelude.{◌≡◌, ◌≤◌, length};
 ghost use Rattle.laws.specs.Upto.{some_below};
-ghost use Rattle.schedule.specs.Paper.{octet_at, width, place as place_of, base, is_first, false_repeat, read};
+ghost use Rattle.schedule.specs.Paper.{place as place_of, base, is_first, false_repeat, read};
 ghost use Rattle.schedule.specs.Coded.{told_of, read_of};
 ghost use Rattle.schedule.specs.Inner.{told_by};
 ghost use Rattle.schedule_places.specs.Coded.{placed_of};
-ghost use Rattle.schedule_places.specs.Inner.{placed, Readable, NewBits, Group};
+ghost use Rattle.schedule_places.specs.Inner.{placed, Readable, NewBits, Group, stepped_of, step, Firsts};
 
 use refusals::Refusal;
 use schedule::{Description, HEADER, Span};
@@ -37,9 +37,29 @@ pub fn read_places(message: &[u8], received: usize) -> Result<Placed, Refusal>
     let end = span.end;
     let bits = new_bits(message);
     let mut places = [0; SLOTS];
-    let next = find_group(message, received, end, bits, true, HEADER, &mut places)?;
-    find_group(message, received, end, bits, false, next, &mut places)?;
-    if has_false_repeat(message, &places[..end]) {
+    // Stays beside the places: the answer is the places alone, and to take them out of pairs is one loop more.
+    let mut firsts = [false; SLOTS];
+    let next = find_group(
+        message,
+        received,
+        end,
+        bits,
+        true,
+        HEADER,
+        &mut places,
+        &mut firsts,
+    )?;
+    find_group(
+        message,
+        received,
+        end,
+        bits,
+        false,
+        next,
+        &mut places,
+        &mut firsts,
+    )?;
+    if has_false_repeat(message, &places[..end], &firsts) {
         return Err(Refusal::RepeatOfNoFirst);
     }
     Ok(Placed { span, places })
@@ -57,7 +77,7 @@ fn new_bits(message: &[u8]) -> u64
 }
 
 // Finds the descriptions of the slots up to End whose new bit is as given, the first of which starts at a place: where that of
-// each slot starts, and the place behind the last.
+// each slot starts, which are first transmissions, and the place behind the last.
 fn find_group(
     message: &[u8],
     received: usize,
@@ -66,37 +86,45 @@ fn find_group(
     new: bool,
     from: usize,
     places: &mut [u8; SLOTS],
+    firsts: &mut [bool; SLOTS],
 ) -> Result<usize, Refusal>
     requires { Readable message.now received end × NewBits message.now bits × (from ≡ place_of message.now (base message.now new)) × (from ≤ received) }
-    ensures { Group message.now received new places.old places.new result }
+    ensures { Group message.now received new places.old firsts.old places.new firsts.new result }
 {
     let mut at = from;
     for i in 0..end {
         if ((bits >> (47 - i)) % 2 == 1) == new {
-            let next = at + width(message, at);
-            if next > received {
+            let Some((description, next)) = step_at(message, received, at) else {
                 return Err(Refusal::DescriptionPastReceived);
-            }
+            };
             places[i] = at as u8;
+            firsts[i] = is_first(description);
             at = next;
         }
     }
     Ok(at)
 }
 
-// The octets of the description that starts at a place.
-fn width(message: &[u8], at: usize) -> usize
-    ensures { result ≡ width (octet_at message.now at) }
+// The description that starts at a place, with the place behind it; none where it passes the received octets.
+#[tactic(auto, unfolding(crate::specs::Inner::step))]
+fn step_at(message: &[u8], received: usize, at: usize) -> Option<(Description, usize)>
+    ensures { stepped_of result ≡ step message.now received at }
 {
-    if schedule::octet_at(message, at) < 0x80 {
-        return 1;
+    if at >= received {
+        return None;
     }
-    2
+    if schedule::octet_at(message, at) < 0x80 {
+        return Some((schedule::told_at(message, at), at + 1));
+    }
+    if at + 1 >= received {
+        return None;
+    }
+    Some((schedule::told_at(message, at), at + 2))
 }
 
 // Whether a slot repeats what is no first transmission in a slot below it. There is a place for each slot up to End.
-fn has_false_repeat(message: &[u8], places: &[u8]) -> bool
-    requires { length places.now ≤ 48 }
+fn has_false_repeat(message: &[u8], places: &[u8], firsts: &[bool; SLOTS]) -> bool
+    requires { (length places.now ≤ 48) × Firsts message.now places.now firsts.now (length places.now) }
     ensures { result ≡ some_below (false_repeat (told_by message.now places.now)) (length places.now) }
 {
     for (i, place) in places.iter().enumerate() {
@@ -109,7 +137,7 @@ fn has_false_repeat(message: &[u8], places: &[u8]) -> bool
             if n > i {
                 return true;
             }
-            if !is_first(schedule::told_at(message, places[n - 1] as usize)) {
+            if !firsts[n - 1] {
                 return true;
             }
         }

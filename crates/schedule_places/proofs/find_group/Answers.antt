@@ -4,19 +4,19 @@ use Rattle.schedule_places.proofs.Finds.{finds_none, finds_skip, finds_take, fin
 use Rattle.schedule.proofs.News.{grouped_told}
 use Rattle.std.proofs.Common.{rules}
 use Rattle.schedule_places.proofs.find_group.Goals as goal
-use Rattle.schedule_places.proofs.find_group.Goals.{else-bits-i, then-bits-i+else-next-received}
+use Rattle.schedule_places.proofs.find_group.Goals.{else-bits-i, then-bits-i+in-Some}
 
 pub loop-i-init : goal.loop-i-init
 loop-i-init c =
     let p = c.requires in
-    (p.3, search rules, finds_none _ _ _ _ p.2)
+    (p.3, search rules, search rules, finds_none _ _ _ _ _ p.2)
 
-pub returns-then-next-received : goal.returns-then-next-received
-returns-then-next-received c =
+pub returns-in_default : goal.returns-in_default
+returns-in_default c =
     let l = c.loop-i in
     let room : l.i < 48 = omega (arith, c.requires.0.last) in
     let inside = grouped_told c.args.message.now l.i c.args.new _ _ (c.requires.1 l.i room) c.if-bits-i.true in
-    (refl, finds_short _ _ _ l.i l.at l.places l.invariant.2 inside _ c.width.ensures c.args.received (omega (arith, c.requires.0.ends)) c.if-next-received.true)
+    (refl, finds_short _ _ _ _ l.i l.at l.places l.firsts l.invariant.3 inside c.args.received (omega (arith, c.requires.0.ends)) c.in_default.ensures)
 
 pub loop-i-preserved : goal.loop-i-preserved
 loop-i-preserved c =
@@ -26,9 +26,12 @@ loop-i-preserved c =
     let room : l.i < 48 = omega (arith, c.requires.0.last) in
     let bit = c.requires.1 l.i room in
     elim c.if-bits-i.branch [
-      | then-bits-i+else-next-received w ↦ let inside = grouped_told m l.i a.new _ _ bit w.if-bits-i.true in
-          rw (w.places-is, w.at-is)
-          (omega (arith, w.if-next-received), simp length-set l.invariant.1, finds_take _ _ _ l.i l.at l.places l.invariant.2 inside _ w.width.ensures l.invariant.1 room)
+      | then-bits-i+in-Some w ↦ let inside = grouped_told m l.i a.new _ _ bit w.if-bits-i.true in
+          let k =
+          finds_take _ _ _ _ l.i l.at l.places l.firsts l.invariant.3 inside a.received _ _ _ l.invariant.1 l.invariant.2 room w.in-Some.ensures
+          w.is_first.ensures in
+          rw (w.places-is, w.firsts-is, w.at-is) (k.1, simp length-set l.invariant.1, simp length-set l.invariant.2, k.0)
       | else-bits-i w ↦ let outside = grouped_told m l.i a.new _ _ bit w.if-bits-i.false in
-          rw (w.places-is, w.at-is) (l.invariant.0, l.invariant.1, finds_skip _ _ _ l.i l.at l.places l.invariant.2 outside)
+          rw (w.places-is, w.firsts-is, w.at-is)
+          (l.invariant.0, l.invariant.1, l.invariant.2, finds_skip _ _ _ _ l.i l.at l.places l.firsts l.invariant.3 outside)
     ]

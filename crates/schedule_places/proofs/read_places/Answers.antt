@@ -2,7 +2,7 @@
 use Rattle.laws.proofs.Base.{◌≡◌, refl, sym, ◌∙◌, zero-add, arith, length, length-take, take}
 use Rattle.std.proofs.lemmas.Result.{err_from_is_err_and}
 use Rattle.schedule.specs.Paper.{place}
-use Rattle.schedule_places.proofs.Placing.{head_read_lem, head_refused, readable, placed_short_new, placed_short_rest, placed_false, placed_good}
+use Rattle.schedule_places.proofs.Placing.{head_read_lem, head_refused, readable, placed_short_new, placed_short_rest, all_firsts, placed_false, placed_good}
 use Rattle.schedule_places.proofs.read_places.Goals as goal
 
 pub returns-in_err-span : goal.returns-in_err-span
@@ -53,7 +53,7 @@ returns-then-has_false_repeat c =
     let g = c.in_ok-find_group.ensures in
     let e = c.in_ok-span.span.end in
     let size : length (take e c.find_group-2.new.places) ≡ e = rw length-take (omega (arith, h.last, c.find_group-2.array_long)) in
-    placed_false _ _ _ _ h _ _ _ _ n.0 g.0 g.1 (sym (rw size at c.has_false_repeat.ensures) ∙ c.if-has_false_repeat.true)
+    placed_false _ _ _ _ h _ _ _ _ _ _ n.0 g.0 g.1 (sym (rw size at c.has_false_repeat.ensures) ∙ c.if-has_false_repeat.true)
 
 pub returns : goal.returns
 returns c =
@@ -62,5 +62,14 @@ returns c =
     let g = c.in_ok-find_group.ensures in
     let e = c.in_ok-span.span.end in
     let size : length (take e c.find_group-2.new.places) ≡ e = rw length-take (omega (arith, h.last, c.find_group-2.array_long)) in
-    placed_good _ _ _ _ h _ _ _ _ n.0 g.0 g.1 _ c.in_ok-span.ensures c.find_group-2.array_long
+    placed_good _ _ _ _ h _ _ _ _ _ _ n.0 g.0 g.1 _ c.in_ok-span.ensures c.find_group-2.array_long
     (sym (rw size at c.has_false_repeat.ensures) ∙ c.if-has_false_repeat.false)
+
+pub has_false_repeat-requires : goal.has_false_repeat-requires
+has_false_repeat-requires c =
+    let h = head_read_lem _ _ _ _ c.in_ok-span.ensures in
+    let n = c.in_ok-next.ensures in
+    let g = c.in_ok-find_group.ensures in
+    let e = c.in_ok-span.span.end in
+    let size : length (take e c.find_group-2.new.places) ≡ e = rw length-take (omega (arith, h.last, c.find_group-2.array_long)) in
+    rw size (h.last, all_firsts _ _ _ _ h _ _ _ _ _ _ n.0 g.0 g.1)
