@@ -1,6 +1,6 @@
 -- Laws of a collector's pages: what stands at each place, how many are held, and what a page that is put in changes.
 use Rattle.laws.proofs.Base.{◌≡◌, refl, sym, ap, ◌∙◌, not, List, [], ◌∷◌, ◌++◌, append-nil, append_assoc, ℕ, zero, suc, ◌+◌, ◌*◌, ◌-◌, ◌≤◌, ◌<◌, add-zero, arith, length, take, drop, get_or}
-use Rattle.laws.proofs.Base.{take-append-drop, take-length, take_at, drop_at, drop-drop, drop_of_length-le, replicate, length-append, length-replicate, length-take-le, eqb, eq-eqb, ne_eqb, eqb-true, eqb-false, get_or-append-add}
+use Rattle.laws.proofs.Base.{take-append-drop, take_at, drop_at, drop-drop, drop_of_length-le, replicate, length-append, length-replicate, length-take-le, eqb, eq-eqb, ne_eqb, eqb-true, eqb-false, get_or-append-add}
 use Rattle.laws.specs.Upto.{count}
 use Rattle.laws.proofs.Upto.{some_count, count_rest, count_more}
 use Rattle.laws.proofs.Tests.{true_or_false, le_or_lt}
@@ -145,10 +145,9 @@ take_four (a ∷ b ∷ c ∷ []) h = absurd (omega arith)
 take_four (a ∷ b ∷ c ∷ d ∷ p) h = refl
 
 -- a page that is copied into the place of its size
-module _ (p y : List ℕ) (size : length p ≡ 88) (copied : y ≡ take 88 p) where
-  pub copied_page : y ++ [] ≡ p
-  copied_page =
-      append-nil y ∙ copied ∙ ap (λ (k : ℕ). take k p) (sym size) ∙ take-length p
+module _ (p y : List ℕ) (size : length p ≡ 88) (copied : y ≡ p) where
+  copied_page : y ++ [] ≡ p
+  copied_page = append-nil y ∙ copied
 
   -- and then with its octets received into a collector
   pub put_copied : (c z : List ℕ) (i n : ℕ) → length c ≡ 1340 → i < 15 → z ≡ n ∷ (y ++ [])

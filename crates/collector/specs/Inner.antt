@@ -1,18 +1,16 @@
 -- What the inner functions of `collector` answer and ask.
-use Rattle.std.specs.Prelude.{◌≡◌, cond, true, List, ℕ, suc, ◌-◌, ◌≤◌, length}
+use Rattle.std.specs.Prelude.{◌≡◌, cond, true, List, ℕ, Option, None, Some, suc, ◌-◌, ◌≤◌, length}
 use Rattle.laws.specs.Upto.{count}
 use Rattle.collector.specs.Paper.{page_number, page_total, total, held, received_of, proper}
-use Rattle.collector.specs.declared.Pages.{Pages}
-use Rattle.collector.specs.declared.Pages.TheVariants.{Improper, Held}
 
 -- how many pages a proper collector holds, and one more; 0 for one that is not proper
 unfoldable pub pages_in : List ℕ → ℕ
 pages_in c = cond (proper c) (suc (count (held c) (total c))) 0
 
 -- the same of the code's answer
-abbrev pub pages_of : Pages → ℕ
-pages_of Improper = 0
-pages_of (Held n) = suc n
+abbrev pub pages_of : Option ℕ → ℕ
+pages_of None = 0
+pages_of (Some n) = suc n
 
 -- a page that no test of its own refuses, with n octets received and memory of the right lengths
 pub record Takes (c p : List ℕ) (n : ℕ) (o : List ℕ) : Type 0 where

@@ -1,7 +1,7 @@
 // Messages of several pages, collected in memory that the caller lends: 1,340 octets of collector, and as many of output.
 #![tactic(auto)]
 
-ghost use Rattle.std.specs.Prelude.{◌≡◌, ◌++◌, ◌-◌, ◌≤◌, ◌<◌, length, take};
+ghost use Rattle.std.specs.Prelude.{◌≡◌, ◌++◌, ◌-◌, ◌≤◌, ◌<◌, length, take, Ok};
 ghost use Rattle.collector.specs.Paper.{page_number, page_total, page_place, blanks, start, begun, is_of, goes_on, put, with_page, settled, moved, collected, start_call, collect_call};
 ghost use Rattle.collector.specs.Coded.{number_of_answer, pages_of_answer};
 ghost use Rattle.collector.specs.Inner.{pages_in, pages_of, Takes, Holds, Adds};
@@ -22,21 +22,21 @@ const HELD: usize = 89;
 pub const COLLECTOR: usize = 1340;
 
 // What came of a page that was given to a collector.
-#[derive(Clone, Copy)]
+#[derive(Clone, Copy, Debug, PartialEq, Eq)]
 pub enum Answer {
     // All pages of its message are there, so many.
     HandedOut(u8),
     // It is kept, or passed over because an earlier copy is.
     Kept,
-    Refused(Refusal),
 }
 
 // Makes a collector as it must be before the first page.
+#[tactic(auto, unfolding(crate::specs::Paper::start_call))]
 pub fn cb_start_collector(collector: &mut [u8]) -> u32
     ensures { record { number = result; collector = collector.new } ≡ start_call collector.old }
 {
     if collector.len() != COLLECTOR {
-        return 8;
+        return u32::from(u8::from(Refusal::StateImproper));
     }
     clear(collector);
     0
@@ -48,94 +48,89 @@ pub fn cb_collect(collector: &mut [u8], page: &[u8], received: usize, output: &m
 {
     let answer = collect(collector, page, received, output);
     match answer {
-        Answer::HandedOut(pages) => 256 * pages as u32,
-        Answer::Kept => 1,
-        Answer::Refused(refusal) => refusals::number(refusal) as u32,
+        Ok(Answer::HandedOut(pages)) => 256 * u32::from(pages),
+        Ok(Answer::Kept) => 1,
+        Err(refusal) => u32::from(u8::from(refusal)),
     }
 }
 
 // The same with an answer for Rattle.
-pub fn collect(collector: &mut [u8], page: &[u8], received: usize, output: &mut [u8]) -> Answer
+pub fn collect(
+    collector: &mut [u8],
+    page: &[u8],
+    received: usize,
+    output: &mut [u8],
+) -> Result<Answer, Refusal>
     ensures { record { number = number_of_answer result; pages = pages_of_answer result; collector = collector.new; output = output.new } ≡ collected collector.old page.now received output.old }
 {
     if collector.len() != COLLECTOR {
-        return Answer::Refused(Refusal::StateImproper);
+        return Err(Refusal::StateImproper);
     }
-    let pages = held_pages(collector);
-    let Pages::Held(count) = pages else {
+    let Some(count) = held_pages(collector) else {
         clear(collector);
-        return Answer::Refused(Refusal::StateImproper);
+        return Err(Refusal::StateImproper);
     };
     if output.len() != COLLECTOR {
-        return Answer::Refused(Refusal::OutputLength);
+        return Err(Refusal::OutputLength);
     }
-    if page.len() != MESSAGE {
-        return Answer::Refused(Refusal::MessageLength);
-    }
+    let Ok(page) = <&[u8; MESSAGE]>::try_from(page) else {
+        return Err(Refusal::MessageLength);
+    };
     if !whole_blocks(received) {
-        return Answer::Refused(Refusal::ReceivedOctets);
+        return Err(Refusal::ReceivedOctets);
     }
     if total_of(page) < number_of(page) {
-        return Answer::Refused(Refusal::PageOverTotal);
+        return Err(Refusal::PageOverTotal);
     }
-    take_page(collector, count, page, received as u8, output)
-}
-
-// The pages that a proper collector holds.
-#[derive(Clone, Copy)]
-enum Pages {
-    Improper,
-    Held(usize),
+    Ok(take_page(collector, count, page, received as u8, output))
 }
 
 // How many pages are held, if the collector is proper.
 #[tactic(auto, using(std::proofs::lemmas::Bool::Decides::nat_tests))]
-fn held_pages(collector: &[u8]) -> Pages
+fn held_pages(collector: &[u8]) -> Option<usize>
     requires { length collector.now ≡ 1340 }
     ensures { pages_of result ≡ pages_in collector.now }
 {
     let total = collector[0] as usize;
     let mut count: usize = 0;
-    let mut i: usize = 0;
-    while i < PAGES {
+    for i in 0..PAGES {
         let received = collector[FRONT + HELD * i];
         if received != 0 {
             if total <= i {
-                return Pages::Improper;
+                return None;
             }
             if !whole_blocks(received as usize) {
-                return Pages::Improper;
+                return None;
             }
             count += 1;
         }
-        i += 1;
     }
     if total == 0 {
-        return Pages::Held(0);
+        return Some(0);
     }
     if PAGES < total {
-        return Pages::Improper;
+        return None;
     }
     if count == 0 {
-        return Pages::Improper;
+        return None;
     }
     if count == total {
-        return Pages::Improper;
+        return None;
     }
-    Pages::Held(count)
+    Some(count)
 }
 
-// The number of a page of 88 octets.
-fn number_of(page: &[u8]) -> u8
-    requires { length page.now ≡ 88 }
+// The number of a page.
+#[tactic(auto, unfolding(crate::specs::Paper::page_number, page::specs::Paper::header))]
+fn number_of(page: &[u8; MESSAGE]) -> u8
     ensures { result ≡ page_number page.now }
 {
     page::parameter_read(page[5]) / 16
 }
 
 // The total of its message.
-fn total_of(page: &[u8]) -> u8
-    requires { length page.now ≡ 88 }
+#[tactic(auto, unfolding(crate::specs::Paper::page_total, page::specs::Paper::header))]
+fn total_of(page: &[u8; MESSAGE]) -> u8
     ensures { result ≡ page_total page.now }
 {
     page::parameter_read(page[5]) % 16
@@ -145,12 +140,12 @@ fn total_of(page: &[u8]) -> u8
 fn take_page(
     collector: &mut [u8],
     count: usize,
-    page: &[u8],
+    page: &[u8; MESSAGE],
     received: u8,
     output: &mut [u8],
 ) -> Answer
     requires { Takes collector.old page.now received output.old × Holds collector.old count }
-    ensures { record { number = number_of_answer result; pages = pages_of_answer result; collector = collector.new; output = output.new } ≡ moved (settled (with_page (goes_on collector.old page.now) page.now received)) output.old }
+    ensures { record { number = number_of_answer (Ok result); pages = pages_of_answer (Ok result); collector = collector.new; output = output.new } ≡ moved (settled (with_page (goes_on collector.old page.now) page.now received)) output.old }
 {
     if !is_of(collector, page) {
         begin(collector, page);
@@ -163,8 +158,8 @@ fn take_page(
 }
 
 // Whether a page is of the message that is collected. The coding scheme has no say.
-fn is_of(collector: &[u8], page: &[u8]) -> bool
-    requires { (length collector.now ≡ 1340) × (length page.now ≡ 88) }
+fn is_of(collector: &[u8], page: &[u8; MESSAGE]) -> bool
+    requires { length collector.now ≡ 1340 }
     ensures { result ≡ is_of collector.now page.now }
 {
     if collector[0] != total_of(page) {
@@ -177,8 +172,8 @@ fn is_of(collector: &[u8], page: &[u8]) -> bool
 }
 
 // Begins a page's message, without the page; what was held is dropped.
-fn begin(collector: &mut [u8], page: &[u8])
-    requires { (length collector.old ≡ 1340) × (length page.now ≡ 88) }
+fn begin(collector: &mut [u8], page: &[u8; MESSAGE])
+    requires { length collector.old ≡ 1340 }
     ensures { collector.new ≡ begun page.now }
 {
     let total = total_of(page);
@@ -186,9 +181,15 @@ fn begin(collector: &mut [u8], page: &[u8])
 }
 
 // Adds a page that is missing, and hands the message out if that was the last.
-fn add(collector: &mut [u8], count: usize, page: &[u8], received: u8, output: &mut [u8]) -> Answer
+fn add(
+    collector: &mut [u8],
+    count: usize,
+    page: &[u8; MESSAGE],
+    received: u8,
+    output: &mut [u8],
+) -> Answer
     requires { Takes collector.old page.now received output.old × Adds collector.old page.now count }
-    ensures { record { number = number_of_answer result; pages = pages_of_answer result; collector = collector.new; output = output.new } ≡ moved (settled (put collector.old (page_number page.now - 1) page.now received)) output.old }
+    ensures { record { number = number_of_answer (Ok result); pages = pages_of_answer (Ok result); collector = collector.new; output = output.new } ≡ moved (settled (put collector.old (page_number page.now - 1) page.now received)) output.old }
 {
     let total = total_of(page);
     put_page(collector, number_of(page) as usize - 1, page, received);
@@ -201,12 +202,12 @@ fn add(collector: &mut [u8], count: usize, page: &[u8], received: u8, output: &m
 
 // Puts a page at its place, counted from 0, with the octets received. It goes by way of a local array, which the compiler
 // knows apart from the collector, so that it is moved in a few steps and not octet by octet.
-fn put_page(collector: &mut [u8], i: usize, page: &[u8], received: u8)
-    requires { (length collector.old ≡ 1340) × (length page.now ≡ 88) × (i < 15) }
+fn put_page(collector: &mut [u8], i: usize, page: &[u8; MESSAGE], received: u8)
+    requires { (length collector.old ≡ 1340) × (i < 15) }
     ensures { collector.new ≡ put collector.old i page.now received }
 {
     let mut held = [received; HELD];
-    octets::copy(&page[..MESSAGE], &mut held[1..]);
+    octets::copy(page, &mut held[1..]);
     let at = FRONT + HELD * i;
     octets::copy(&held, &mut collector[at..at + HELD]);
 }
@@ -223,6 +224,7 @@ fn hand_out(collector: &mut [u8], total: usize, output: &mut [u8])
 }
 
 // The collector as at start.
+#[tactic(auto, unfolding(crate::specs::Paper::start))]
 fn clear(collector: &mut [u8])
     requires { length collector.old ≡ 1340 }
     ensures { collector.new ≡ start }
@@ -246,10 +248,8 @@ fn blank_pages(memory: &mut [u8], from: usize)
 {
     let mut blank = [FILLER; HELD];
     blank[0] = 0;
-    let mut i = from;
-    while i < PAGES {
+    for i in from..PAGES {
         let at = FRONT + HELD * i;
         octets::copy(&blank, &mut memory[at..at + HELD]);
-        i += 1;
     }
 }

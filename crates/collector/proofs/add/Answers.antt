@@ -11,7 +11,7 @@ pub overflow_sub-number_of : goal.overflow_sub-number_of
 overflow_sub-number_of c = omega (arith, number_some c.args.page.now, c.number_of.ensures)
 
 pub put_page-requires : goal.put_page-requires
-put_page-requires c = (c.requires.0.collector, c.requires.0.page, omega (arith, few c.args.page.now c.requires.0.numbered, c.number_of.ensures))
+put_page-requires c = (c.requires.0.collector, omega (arith, few c.args.page.now c.requires.0.numbered, c.number_of.ensures))
 
 pub overflow_add-count : goal.overflow_add-count
 overflow_add-count c =

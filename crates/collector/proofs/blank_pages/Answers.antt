@@ -7,10 +7,10 @@ use Rattle.collector.proofs.blank_pages.Goals as goal
 pub loop-i-init : goal.loop-i-init
 loop-i-init c =
     let a = c.args in
-    (omega arith, omega arith, blank_none a.memory.now a.from, search rules)
+    (blank_none a.memory.now a.from, search rules)
 
 pub loop-i-preserved : goal.loop-i-preserved
 loop-i-preserved c =
     let l = c.loop-i in
-    let turn = blank_turn c.args.memory.now l.memory c.args.from l.i l.invariant.0 c.requires.0 l.invariant.2 c.copy.new.to (omega arith) l.invariant.3 c.copy.ensures in
-    (omega arith, omega arith, turn, search rules)
+    let turn = blank_turn c.args.memory.now l.memory c.args.from l.i (omega arith) c.requires.0 l.invariant.0 c.copy.new.to (omega arith) l.invariant.1 c.copy.ensures in
+    (turn, search rules)

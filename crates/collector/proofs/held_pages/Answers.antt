@@ -7,7 +7,7 @@ use Rattle.collector.proofs.held_pages.Goals.{then-received-ne0+else-total-i+els
 
 pub loop-i-init : goal.loop-i-init
 unfolding some_below count
-loop-i-init c = (omega arith, refl, refl, omega arith, λ h. absurd (omega arith))
+loop-i-init c = (refl, refl, omega arith, λ h. absurd (omega arith))
 
 pub returns-then-total-i : goal.returns-then-total-i
 returns-then-total-i c =
@@ -25,9 +25,9 @@ loop-i-preserved c =
     let m = c.args.collector.now in
     elim c.if-received-ne0.branch [
       | then-received-ne0+else-total-i+else-not-whole_blocks w ↦
-          let t = turn_held m l.i l.count l.invariant.1 l.invariant.2 w.if-received-ne0.true w.if-total-i.false (sym w.whole_blocks.ensures ∙ w.if-not-whole_blocks.false) in
-          (omega arith, t.0, w.count-is ∙ t.1, omega (arith, w.count-is), told_at m _ (l.i + 1) (omega arith) t.0 (w.count-is ∙ t.1))
+          let t = turn_held m l.i l.count l.invariant.0 l.invariant.1 w.if-received-ne0.true w.if-total-i.false (sym w.whole_blocks.ensures ∙ w.if-not-whole_blocks.false) in
+          (t.0, w.count-is ∙ t.1, omega (arith, w.count-is), told_at m _ (l.i + 1) (omega arith) t.0 (w.count-is ∙ t.1))
       | else-received-ne0 w ↦
-          let t = turn_missing m l.i l.count l.invariant.1 l.invariant.2 (omega (arith, w.if-received-ne0.false)) in
-          (omega arith, t.0, w.count-is ∙ t.1, omega (arith, w.count-is), told_at m _ (l.i + 1) (omega arith) t.0 (w.count-is ∙ t.1))
+          let t = turn_missing m l.i l.count l.invariant.0 l.invariant.1 (omega (arith, w.if-received-ne0.false)) in
+          (t.0, w.count-is ∙ t.1, omega (arith, w.count-is), told_at m _ (l.i + 1) (omega arith) t.0 (w.count-is ∙ t.1))
     ]

@@ -1,5 +1,5 @@
 -- `collector::held_pages` meets its contract. The invariant: of the pages so far none is wrong, and those held are counted.
-use Rattle.laws.proofs.Base.{◌≡◌, false, ◌-◌, ◌≤◌}
+use Rattle.laws.proofs.Base.{◌≡◌, false, ◌≤◌}
 use Rattle.laws.specs.Upto.{some_below, count}
 use Rattle.collector.specs.Paper.{total, held, wrong}
 use Rattle.collector.specs.Inner.{pages_in}
@@ -8,8 +8,5 @@ use Rattle.collector.proofs.held_pages.Given as goal
 
 abbrev pub invariant-loop-i : goal.invariant-loop-i
 invariant-loop-i l =
-    (l.i ≤ 15) × (some_below (wrong l.collector) l.i ≡ false) × (l.count ≡ count (held l.collector) l.i) × (l.count ≤ l.i)
+    (some_below (wrong l.collector) l.i ≡ false) × (l.count ≡ count (held l.collector) l.i) × (l.count ≤ l.i)
     × (15 ≤ l.i → told_of (total l.collector) l.count ≡ pages_in l.collector)
-
-abbrev pub decreases-loop-i : goal.decreases-loop-i
-decreases-loop-i l = 15 - l.i
