@@ -11,9 +11,10 @@ ghost use Rattle.cbcheck.specs.Paper.{numbers, names_untrue, rule_of, reason, sa
 ghost use Rattle.cbcheck.specs.Inner.{fresh_beside};
 
 use arguments::Program;
-use checker::Checking;
-use checker_plans::Plans;
+use checker::SlotFault;
+use checker_plans::Said;
 use logs::Listing;
+use plan::Fault;
 use refusals::Refusal;
 use sizes::{MESSAGE, SLOTS};
 use std::io::{Input, Print};
@@ -63,7 +64,7 @@ fn check_named<R: Env + Files + Input>(rt: &R, output: &impl Print, errors: &imp
 // A line for each schedule message that is complete: what the checker answers beside two plans.
 #[derive(Drop)]
 struct Checks {
-    plans: Plans,
+    plans: Result<Said, Fault>,
 }
 
 impl Listing<ROOM> for Checks {
@@ -87,30 +88,31 @@ impl Listing<ROOM> for Checks {
             return at;
         }
         let received = (answer / 256) as usize;
+        // Stays a fixed array: check_slots leaves a verdict on each slot, and a program holds no heap.
         let mut verdicts = [0u8; SLOTS];
-        let checking = checker::check_slots(self.plans, message, received, &mut verdicts);
-        put_checking(number, checking, &verdicts, text, at)
+        let checked = checker::check_slots(self.plans, message, received, &mut verdicts);
+        put_checked(number, checked, &verdicts, text, at)
     }
 }
 
 // Puts the line of what the checker answers to the message that a block completes, and what it leaves of the slots.
-fn put_checking(
+fn put_checked(
     number: u64,
-    checking: Checking,
+    checked: Result<(), SlotFault>,
     verdicts: &[u8],
     out: &mut [u8],
     at: usize,
 ) -> usize
-    ensures { record { end = result; text = out.new } ≡ all_behind (line number (record { checked = checked_of checking; verdicts = verdicts.now })) at out.old }
+    ensures { record { end = result; text = out.new } ≡ all_behind (line number (record { checked = checked_of checked; verdicts = verdicts.now })) at out.old }
 {
-    match checking {
-        Checking::True => {
+    match checked {
+        Ok(()) => {
             let a = put_numbers(number, 0, 0, out, at);
             lines::put(b"true\n", out, a)
         }
-        Checking::Refused(refusal, slot) => {
-            let rule = rule_of(verdicts, slot);
-            put_refused(number, refusal, slot, rule, out, at)
+        Err(fault) => {
+            let rule = rule_of(verdicts, fault.slot);
+            put_refused(number, fault, rule, out, at)
         }
     }
 }
@@ -126,19 +128,12 @@ fn rule_of(verdicts: &[u8], slot: usize) -> u8
     }
 }
 
-fn put_refused(
-    number: u64,
-    refusal: Refusal,
-    slot: usize,
-    rule: u8,
-    out: &mut [u8],
-    at: usize,
-) -> usize
-    ensures { record { end = result; text = out.new } ≡ all_behind (numbers number (number_of refusal) slot ++ said (number_of refusal) slot rule) at out.old }
+fn put_refused(number: u64, fault: SlotFault, rule: u8, out: &mut [u8], at: usize) -> usize
+    ensures { record { end = result; text = out.new } ≡ all_behind (numbers number (number_of fault.refusal) fault.slot ++ said (number_of fault.refusal) fault.slot rule) at out.old }
 {
-    let answer = u64::from(u8::from(refusal));
-    let a = put_numbers(number, answer, slot as u64, out, at);
-    let b = put_reason(refusal, slot, rule, out, a);
+    let answer = u64::from(u8::from(fault.refusal));
+    let a = put_numbers(number, answer, fault.slot as u64, out, at);
+    let b = put_reason(fault, rule, out, a);
     lines::put_octet(b'\n', out, b)
 }
 
@@ -152,21 +147,21 @@ fn put_numbers(number: u64, answer: u64, slot: u64, out: &mut [u8], at: usize) -
 }
 
 // Whether a slot that is told untruly comes with a refusal.
-fn names_untrue(refusal: Refusal, slot: usize) -> bool
-    ensures { result ≡ names_untrue (number_of refusal) slot }
+fn names_untrue(fault: SlotFault) -> bool
+    ensures { result ≡ names_untrue (number_of fault.refusal) fault.slot }
 {
-    slot != 0 && matches!(refusal, Refusal::Untrue)
+    fault.slot != 0 && matches!(fault.refusal, Refusal::Untrue)
 }
 
 // Puts why a message is refused: the slot that is told untruly and the rule that it breaks, or the words of the refusal.
-fn put_reason(refusal: Refusal, slot: usize, rule: u8, out: &mut [u8], at: usize) -> usize
-    ensures { record { end = result; text = out.new } ≡ all_behind (reason (number_of refusal) slot rule) at out.old }
+fn put_reason(fault: SlotFault, rule: u8, out: &mut [u8], at: usize) -> usize
+    ensures { record { end = result; text = out.new } ≡ all_behind (reason (number_of fault.refusal) fault.slot rule) at out.old }
 {
-    if !names_untrue(refusal, slot) {
-        return words::put_words(refusal, out, at);
+    if !names_untrue(fault) {
+        return words::put_words(fault.refusal, out, at);
     }
     let a = lines::put(b"slot ", out, at);
-    let b = lines::put_number(slot as u64, out, a);
+    let b = lines::put_number(fault.slot as u64, out, a);
     let c = lines::put(b": ", out, b);
     words::put_rule(rule, out, c)
 }

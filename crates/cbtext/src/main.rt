@@ -112,6 +112,7 @@ fn put_body(page: &[u8; MESSAGE], received: usize, out: &mut [u8], at: usize) ->
     requires { (whole_blocks received ≡ true) × (at + 285 ≤ length out.old) }
     ensures { Puts (body page.now received) 285 at out.old out.new result }
 {
+    // Stays a fixed array: read_text writes all of its places, and a program holds no heap.
     let mut points = [0u16; PLACES];
     let got = text_reader::read_text(page, received, &mut points);
     if let Got::Characters(count) = got {

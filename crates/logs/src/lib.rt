@@ -43,6 +43,7 @@ pub struct Chunk {
 pub fn started() -> [u8; STATE]
     ensures { result ≡ lent start }
 {
+    // Stays memory that is lent: cb_start writes it.
     let mut state = [0u8; STATE];
     firmware::cb_start(&mut state);
     state
@@ -162,6 +163,7 @@ pub fn list_named<R: Env + Files + Input, L: Listing<ROOM>, const ROOM: usize>(
     heading: &[u8],
     form: &L,
 ) {
+    // Stays memory of a fixed size, here and below: a program holds no more for a longer input, and no heap.
     let mut name = io::buffer();
     let opened = files::open_log(rt, errors, program, i, &mut name);
     if let Some(mut log) = opened {

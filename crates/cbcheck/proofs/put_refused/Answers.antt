@@ -11,7 +11,7 @@ pub returns : goal.returns
 unfolding said
 returns c =
     let a = c.args in
-    let answer : c.from-answer.result ≡ number_of a.refusal = search rules in
-    rw (ne_eqb _ 0 (number_of_positive a.refusal))
+    let answer : c.from-answer.result ≡ number_of a.fault.refusal = search rules in
+    rw (ne_eqb _ 0 (number_of_positive a.fault.refusal))
     (and_others (numbers _ _ _) _ _ _ (rw answer at c.put_numbers-a.ensures)
     (and_others (reason _ _ _) _ _ _ c.put_reason-b.ensures (and_last _ _ _ c.put_octet.ensures)))

@@ -11,5 +11,5 @@ returns-then-answer-ne7 c g a = rw (line_none _ a c.args.number c.if-answer-ne7.
 
 pub returns : goal.returns
 returns c g a =
-    rw (line_complete _ a c.args.number c.if-answer-ne7.false, ← c.check_slots-checking.ensures)
-    (puts_all _ _ _ 143 c.put_checking.ensures (line_wide _ _) c.requires.1)
+    rw (line_complete _ a c.args.number c.if-answer-ne7.false, ← c.check_slots-checked.ensures)
+    (puts_all _ _ _ 143 c.put_checked.ensures (line_wide _ _) c.requires.1)
