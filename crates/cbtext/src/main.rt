@@ -168,6 +168,7 @@ fn letter_of(point: u16) -> Option<u8>
     }
 }
 
+// Stays by hand: a u16 may be a surrogate, which is no char and has no encode_utf8.
 fn put_utf8(point: u16, out: &mut [u8], at: usize) -> usize
     requires { at + 3 ≤ length out.old }
     ensures { Puts (utf8 point) 3 at out.old out.new result }
