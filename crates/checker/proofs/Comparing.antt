@@ -1,8 +1,8 @@
 -- What is answered of a message and left of its slots, told from the places of its descriptions.
-use Rattle.laws.proofs.Base.{◌≡◌, true, eqb, ltb, eq-eqb, ne_eqb, sym, ap, ◌∙◌, not, List, map, ℕ, suc, ◌≤◌, ◌<◌, arith, get_or, list_get_d_map}
+use Rattle.laws.proofs.Base.{◌≡◌, Bool, true, eqb, ltb, eq-eqb, ne_eqb, sym, ap, ◌∙◌, not, List, map, ℕ, suc, ◌≤◌, ◌<◌, arith, get_or, list_get_d_map}
 use Rattle.laws.proofs.Base.{ltb-true, le-ltb, lt-ltb}
 use Rattle.laws.specs.Upto.{lowest, each}
-use Rattle.laws.proofs.Lowest.{lowest_within}
+use Rattle.laws.proofs.Lowest.{Lowest, none_passes, first_passes, lowest_is, lowest_within}
 use Rattle.laws.proofs.Tests.{true_or_false}
 use Rattle.laws.proofs.Upto.{each_at, each_agree}
 use Rattle.refusals.specs.Number.{number_of}
@@ -21,6 +21,14 @@ use Rattle.checker.specs as defs
 use defs.Paper.{unchecked, untrue_at, SlotsChecked, unjudged}
 use defs.Inner.{breaks, untrue_to, rule_to, compared}
 use defs.Coded.{rule_by}
+
+-- the lowest of n numbers, counted from 1, is no more than n
+pub lowest_few : (f : ℕ → Bool) (n : ℕ) → lowest f n ≤ n
+lowest_few f n = go (lowest_is f n)
+  where
+    go : {r : ℕ} → Lowest f n r → r ≤ n
+    go (none_passes e none) = omega arith
+    go (first_passes i e l t before) = omega arith
 
 -- of the verdicts on n slots, no more than 48, the first that is a rule is at the lowest untrue slot
 lowest_breaks : (n : ℕ) (v : List Planned) (m : List ℕ) → n ≤ 48 → lowest (breaks (each (rule_to n v m) 48)) 48 ≡ lowest (untrue_to v m) n

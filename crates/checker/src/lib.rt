@@ -8,20 +8,41 @@ ghost use Rattle.plan_slots.specs.Coded.{planned_of};
 ghost use Rattle.checker_plans.specs.Coded.{plans_of};
 ghost use Rattle.checker.specs.Paper.{check};
 ghost use Rattle.checker.specs.Inner.{breaks, compared, slots_beside};
-ghost use Rattle.checker.specs.Coded.{rule_from, rule_by, checked_of};
+ghost use Rattle.checker.specs.Coded.{rule_from, rule_by, slot_of, checked_of};
 
-use checker_plans::Plans;
-use plan::{Plan, Verdict};
+use checker_plans::Said;
+use plan::{Fault, Plan};
 use plan_slots::Planned;
 use refusals::Refusal;
 use sizes::SLOTS;
 
-// What the checker answers: the message is true, or it is refused, with the slot that 40 names, or whose entry 36 and 37 name; with other
-// refusals the slot is 0.
-#[derive(Clone, Copy)]
-pub enum Checking {
-    True,
-    Refused(Refusal, usize),
+// Why a message isn't true, and the slot that 40 names, or whose entry 36 and 37 name (02 No. 1), counted from 1; with other refusals, and
+// where End differs, the slot is 0.
+#[derive(Clone, Copy, Debug, PartialEq, Eq)]
+pub struct SlotFault {
+    pub refusal: Refusal,
+    pub slot: usize,
+}
+
+// A refusal that names no slot.
+impl From<Refusal> for SlotFault {
+    ghost from_gives = { λ refusal fault. fault ≡ record { refusal = refusal; slot = 0 } };
+
+    fn from(refusal: Refusal) -> SlotFault {
+        SlotFault { refusal, slot: 0 }
+    }
+}
+
+// Plans that are refused: the slot is the one whose entry is named.
+impl From<Fault> for SlotFault {
+    ghost from_gives = { λ plans fault. fault ≡ record { refusal = plans.refusal; slot = plans.entry } };
+
+    fn from(plans: Fault) -> SlotFault {
+        SlotFault {
+            refusal: plans.refusal,
+            slot: plans.entry as usize,
+        }
+    }
 }
 
 // Which rule fails first at slot i, counted from 0, by the place of its description and what the plans say of it; 0 for none, and
@@ -39,86 +60,82 @@ fn judge(said: Planned, message: &[u8], at: usize, count: usize, i: usize) -> u8
 
 // Judges each slot, by the places of the descriptions and what the plans say of all.
 fn judge_each(
-    all: [Planned; SLOTS],
+    all: &[Planned; SLOTS],
     message: &[u8],
-    places: [u8; SLOTS],
+    places: &[u8; SLOTS],
     count: usize,
     verdicts: &mut [u8],
 )
     requires { length verdicts.old ≡ 48 }
-    ensures { verdicts.new ≡ each (rule_by all message.now places count) 48 }
+    ensures { verdicts.new ≡ each (rule_by all.now message.now places.now count) 48 }
 {
-    let mut i = 0;
-    while i < SLOTS {
-        let said = all[i];
-        verdicts[i] = judge(said, message, places[i] as usize, count, i);
-        i += 1;
+    for (i, said) in all.iter().enumerate() {
+        verdicts[i] = judge(*said, message, places[i] as usize, count, i);
     }
 }
 
-// The lowest slot, by its number, that breaks a rule; 0 for none.
-fn first_untrue(verdicts: &[u8]) -> usize
+// The place, counted from 0, of the lowest slot that breaks a rule.
+fn first_untrue(verdicts: &[u8]) -> Option<usize>
     requires { length verdicts.now ≡ 48 }
-    ensures { result ≡ lowest_of (breaks verdicts.now) 48 }
+    ensures { slot_of result ≡ lowest_of (breaks verdicts.now) 48 }
 {
-    let mut i = 0;
-    while i < SLOTS {
-        if verdicts[i] != 0 {
-            return i + 1;
+    for (i, verdict) in verdicts.iter().enumerate() {
+        if *verdict != 0 {
+            return Some(i);
         }
-        i += 1;
     }
-    0
+    None
 }
 
-// Holds a message, of which some octets are received, beside what good plans say: the current plan's count, and each slot.
+// Holds a message, of which some octets are received, beside what good plans say.
 fn compare(
-    count: usize,
-    said: [Planned; SLOTS],
+    plans: &Said,
     message: &[u8],
     received: usize,
     verdicts: &mut [u8],
-) -> Checking
+) -> Result<(), SlotFault>
     requires { length verdicts.old ≡ 48 }
-    ensures { record { checked = checked_of result; verdicts = verdicts.new } ≡ compared count (map planned_of said) message.now received verdicts.old }
+    ensures { record { checked = checked_of result; verdicts = verdicts.new } ≡ compared plans.now.count (map planned_of plans.now.said) message.now received verdicts.old }
 {
-    let answer = schedule_places::read_places(message, received);
-    match answer {
-        Err(why) => Checking::Refused(why, 0),
-        Ok(found) => {
-            let end = found.span.end;
-            if end != count {
-                return Checking::Refused(Refusal::Untrue, 0);
-            }
-            let places = found.places;
-            judge_each(said, message, places, end, verdicts);
-            let slot = first_untrue(&verdicts[..]);
-            if slot == 0 {
-                return Checking::True;
-            }
-            Checking::Refused(Refusal::Untrue, slot)
-        }
+    let placed = schedule_places::read_places(message, received)?;
+    let end = placed.span.end;
+    if end != plans.count {
+        return Err(Refusal::Untrue.into());
+    }
+    judge_each(&plans.said, message, &placed.places, end, verdicts);
+    match first_untrue(verdicts) {
+        Some(i) => Err(SlotFault {
+            refusal: Refusal::Untrue,
+            slot: i + 1,
+        }),
+        None => Ok(()),
     }
 }
 
 // Checks a message, of which some octets are received, by what the plans say, and leaves which rule each slot breaks. Where slots aren't
 // judged one by one, their verdicts are left as they were.
-pub fn check_slots(plans: Plans, message: &[u8], received: usize, verdicts: &mut [u8]) -> Checking
+pub fn check_slots(
+    plans: Result<Said, Fault>,
+    message: &[u8],
+    received: usize,
+    verdicts: &mut [u8],
+) -> Result<(), SlotFault>
     ensures { record { checked = checked_of result; verdicts = verdicts.new } ≡ slots_beside (plans_of plans) message.now received verdicts.old }
 {
     if verdicts.len() != SLOTS {
-        return Checking::Refused(Refusal::OutputLength, 0);
+        return Err(Refusal::OutputLength.into());
     }
-    let verdict = plans.verdict;
-    if let Verdict::Refused(why, entry) = verdict {
-        return Checking::Refused(why, entry as usize);
-    }
-    let said = plans.said;
-    compare(plans.count, said, message, received, verdicts)
+    let said = plans?;
+    compare(&said, message, received, verdicts)
 }
 
 // Checks a message, of which some octets are received, beside the current plan and the previous one.
-pub fn check_schedule(current: Plan, previous: Plan, message: &[u8], received: usize) -> Checking
+pub fn check_schedule(
+    current: Plan,
+    previous: Plan,
+    message: &[u8],
+    received: usize,
+) -> Result<(), SlotFault>
     ensures { checked_of result ≡ check (plan_of current) (plan_of previous) message.now received }
 {
     let plans = checker_plans::beside(current, previous);

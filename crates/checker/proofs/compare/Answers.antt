@@ -1,28 +1,34 @@
 -- `checker::compare` meets its contract: each answer is told from the places of the message's descriptions.
-use Rattle.laws.proofs.Base.{refl, arith}
-use Rattle.checker.proofs.Comparing.{found_refused, found_differs, found_true, found_untrue}
+use Rattle.laws.proofs.Base.{refl, ◌∙◌, add-one, arith, ◌+◌}
+use Rattle.std.proofs.lemmas.Result.{err_from_is_err_and}
+use Rattle.checker.specs.Inner.{breaks}
+use Rattle.checker.proofs.Comparing.{lowest_few, found_refused, found_differs, found_true, found_untrue}
 use Rattle.checker.proofs.compare.Goals as goal
 
-pub returns-then-end-count : goal.returns-then-end-count
-returns-then-end-count c =
+pub returns-in_err-placed : goal.returns-in_err-placed
+returns-in_err-placed c =
     let a = c.args in
-    found_differs a.count a.said a.message.now a.received a.verdicts.now _ c.in-Ok.ensures
-    _ _ refl (λ e. omega (arith, c.if-end-count.true))
+    let p = err_from_is_err_and c.from_residual.result c.from_residual.ensures.1 in
+    rw (p.1, p.2) (found_refused a.plans.now.count a.plans.now.said a.message.now a.received a.verdicts.now _ c.in_err-placed.ensures _ refl)
 
-pub returns-then-slot-eq0 : goal.returns-then-slot-eq0
-returns-then-slot-eq0 c =
+pub returns-then-end-plans : goal.returns-then-end-plans
+returns-then-end-plans c =
     let a = c.args in
-    found_true a.count a.said a.message.now a.received a.verdicts.now _ c.in-Ok.ensures
-    _ _ refl c.if-end-count.false _ c.judge_each.ensures _ c.first_untrue-slot.ensures c.if-slot-eq0.true
+    rw c.into.ensures
+    (found_differs a.plans.now.count a.plans.now.said a.message.now a.received a.verdicts.now _ c.in_ok-placed.ensures
+    _ _ refl (λ e. omega (arith, c.if-end-plans.true)))
 
-pub returns-in-Err : goal.returns-in-Err
-returns-in-Err c =
-    let a = c.args in
-    found_refused a.count a.said a.message.now a.received a.verdicts.now _ c.in-Err.ensures
-    _ refl
+pub overflow_add-result : goal.overflow_add-result
+overflow_add-result c = let few = lowest_few (breaks c.judge_each.new.verdicts) 48 in omega (arith, few, c.in-Some.ensures)
 
-pub returns-else-slot-eq0 : goal.returns-else-slot-eq0
-returns-else-slot-eq0 c =
+pub returns-in-Some : goal.returns-in-Some
+returns-in-Some c =
     let a = c.args in
-    found_untrue a.count a.said a.message.now a.received a.verdicts.now _ c.in-Ok.ensures
-    _ _ refl c.if-end-count.false _ c.judge_each.ensures _ c.first_untrue-slot.ensures c.if-slot-eq0.false
+    found_untrue a.plans.now.count a.plans.now.said a.message.now a.received a.verdicts.now _ c.in_ok-placed.ensures
+    _ _ refl c.if-end-plans.false _ c.judge_each.ensures (c.in-Some.i + 1) (add-one c.in-Some.i ∙ c.in-Some.ensures) (λ z. omega arith)
+
+pub returns-in-None : goal.returns-in-None
+returns-in-None c =
+    let a = c.args in
+    found_true a.plans.now.count a.plans.now.said a.message.now a.received a.verdicts.now _ c.in_ok-placed.ensures
+    _ _ refl c.if-end-plans.false _ c.judge_each.ensures 0 c.in-None.ensures refl
