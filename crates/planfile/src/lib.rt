@@ -1,31 +1,15 @@
 // Plan files that a program's arguments name. What is wrong with one is said in a line on standard error.
 #![tactic(auto)]
 
-ghost use Rattle.std.specs.Prelude.{◌≡◌};
+ghost use Rattle.std.specs.Prelude.{◌≡◌, IfSome};
 ghost use Rattle.plan.specs.Paper.{plan_number};
 ghost use Rattle.plan.specs.Coded.{plan_of};
-ghost use Rattle.planfile.specs.Inner.{taken_of, taken, untaken};
+ghost use Rattle.planfile.specs.Inner.{taken_of, taken};
 
 use plan::Plan;
 use refusals::Refusal;
 use std::io::{Print, Read};
 use std::rt::{Env, Files};
-
-// A plan, and whether its file could be read and was not refused; the plan is empty otherwise.
-#[derive(Clone, Copy)]
-pub struct Taken {
-    pub good: bool,
-    pub plan: Plan,
-}
-
-fn none_taken() -> Taken
-    ensures { taken_of result ≡ untaken }
-{
-    Taken {
-        good: false,
-        plan: plan::empty_plan(),
-    }
-}
 
 // Says why a file is refused: by the entry that is named, or by the number's words.
 fn say_why(
@@ -46,18 +30,15 @@ fn say_why(
 }
 
 // Takes the plan of a file's octets.
-fn take_octets(errors: &impl Print, program: &[u8], about: &[u8], file: &[u8]) -> Taken
+fn take_octets(errors: &impl Print, program: &[u8], about: &[u8], file: &[u8]) -> Option<Plan>
     ensures { taken_of result ≡ taken file.now }
 {
     let reading = plan_read::read_plan(file);
-    match reading {
-        Ok(plan) => Taken { good: true, plan },
-        Err(fault) => {
-            say_why(errors, program, about, file, fault.refusal, fault.entry);
-            let plan = plan::empty_plan();
-            Taken { good: false, plan }
-        }
+    let plan = reading.ok();
+    if let Err(fault) = reading {
+        say_why(errors, program, about, file, fault.refusal, fault.entry);
     }
+    plan
 }
 
 // Takes the plan of an open file. A plan file has at most 294 octets; one more is read, so that a longer file is seen to be long.
@@ -67,33 +48,48 @@ fn take_open(
     about: &[u8],
     source: &mut impl Read,
     path: &[u8],
-) -> Taken
-    ensures { plan_number (plan_of result.plan) ≡ 0 }
+) -> Option<Plan>
+    ensures { plan_number (taken_of result).plan ≡ 0 }
 {
     let mut file = [0u8; 295];
     let got = files::fill(errors, program, path, source, &mut file);
     match got {
         Ok(count) => take_octets(errors, program, about, &file[..count]),
-        Err(_) => none_taken(),
+        Err(_) => None,
     }
 }
 
-// Takes the plan of the file that argument i names. Whatever the file holds, the plan is a good one.
+// Takes the plan of the file that argument i names; none, where it can't be read or is refused. Whatever the file holds, the plan is a
+// good one.
 pub fn take<R: Env + Files>(
     rt: &R,
     errors: &impl Print,
     program: &[u8],
     about: &[u8],
     i: usize,
-) -> Taken
-    ensures { plan_number (plan_of result.plan) ≡ 0 }
+) -> Option<Plan>
+    ensures { plan_number (taken_of result).plan ≡ 0 }
 {
     let mut path = io::buffer();
-    let opened = files::open_named(rt, errors, program, i, &mut path);
-    match opened {
-        Some(mut plan) => {
-            take_open(errors, program, about, &mut plan.file, &path[..plan.length])
-        }
-        None => none_taken(),
-    }
+    let mut opened = files::open_named(rt, errors, program, i, &mut path)?;
+    take_open(
+        errors,
+        program,
+        about,
+        &mut opened.file,
+        &path[..opened.length],
+    )
+}
+
+// Takes the plans of the files that the first two arguments name: the current one, and the one before it.
+pub fn take_both<R: Env + Files>(
+    rt: &R,
+    errors: &impl Print,
+    program: &[u8],
+) -> Option<(Plan, Plan)>
+    ensures { IfSome result (λ plans. (plan_number (plan_of plans.0) ≡ 0) × (plan_number (plan_of plans.1) ≡ 0)) }
+{
+    let current = take(rt, errors, program, b"the current plan: ", 1)?;
+    let previous = take(rt, errors, program, b"the previous plan: ", 2)?;
+    Some((current, previous))
 }

@@ -1,7 +1,6 @@
--- `planfile::take` meets its contract: what it gives is a plan that was taken, or the empty one.
-use Rattle.planfile.specs.Inner.{taken_of}
+-- `planfile::take` meets its contract: where no file is opened, none is taken.
 use Rattle.planfile.proofs.Good.{untaken_good}
 use Rattle.planfile.proofs.take.Goals as goal
 
-pub returns-in-None : goal.returns-in-None
-returns-in-None g c = untaken_good (taken_of c.none_taken.result) c.none_taken.ensures
+pub returns-in_err-opened : goal.returns-in_err-opened
+returns-in_err-opened g c = rw c.from_residual.ensures untaken_good

@@ -1,4 +1,4 @@
--- `planfile::take_open` meets its contract, and what was read lies in the memory for it.
+-- `planfile::take_open` meets its contract: a plan that was taken is good.
 use Rattle.planfile.specs.Inner.{taken_of}
 use Rattle.planfile.proofs.Good.{untaken_good, taken_good}
 use Rattle.planfile.proofs.take_open.Goals as goal
@@ -7,4 +7,4 @@ pub returns-in-Ok : goal.returns-in-Ok
 returns-in-Ok g c = taken_good (taken_of c.take_octets.result) _ c.take_octets.ensures
 
 pub returns-in-Err : goal.returns-in-Err
-returns-in-Err g c = untaken_good (taken_of c.none_taken.result) c.none_taken.ensures
+returns-in-Err g c = untaken_good
