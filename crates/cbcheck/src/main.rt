@@ -45,18 +45,11 @@ fn main(rt: HostRuntime) {
 
 // Checks the log that the third argument names, or standard input, beside the plan files that the first two name.
 fn check_named<R: Env + Files + Input>(rt: &R, output: &impl Print, errors: &impl Print) {
-    let current = planfile::take(rt, errors, PROGRAM.name, b"the current plan: ", 1);
-    if !current.good {
+    let Some((current, previous)) = planfile::take_both(rt, errors, PROGRAM.name) else {
         return;
-    }
-    let previous = planfile::take(rt, errors, PROGRAM.name, b"the previous plan: ", 2);
-    if !previous.good {
-        return;
-    }
-    let plan = current.plan;
-    let older = previous.plan;
+    };
     let checks = Checks {
-        plans: checker_plans::beside(plan, older),
+        plans: checker_plans::beside(current, previous),
     };
     logs::list_named(rt, output, errors, PROGRAM.name, 3, b"", &checks);
 }

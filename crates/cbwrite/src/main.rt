@@ -83,17 +83,10 @@ fn write_plans<R: Env + Files>(
     begin: usize,
     typed: &[u8],
 ) {
-    let current = planfile::take(rt, errors, b"cbwrite", b"the current plan: ", 1);
-    if !current.good {
+    let Some((current, previous)) = planfile::take_both(rt, errors, PROGRAM.name) else {
         return;
-    }
-    let previous = planfile::take(rt, errors, b"cbwrite", b"the previous plan: ", 2);
-    if !previous.good {
-        return;
-    }
-    let plan = current.plan;
-    let older = previous.plan;
-    write(output, errors, plan, older, begin, typed);
+    };
+    write(output, errors, current, previous, begin, typed);
 }
 
 fn write(
