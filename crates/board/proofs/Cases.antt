@@ -1,26 +1,12 @@
 -- The decision case by case, on plain facts.
-use Rattle.laws.proofs.Base.{◌≡◌, sym, ◌∙◌, Bool, true, false, ℕ, ◌-◌, ◌≤◌, ◌<◌, arith, le-leb, lt-leb, lt-ltb, le-ltb}
+use Rattle.laws.proofs.Base.{◌≡◌, sym, ◌∙◌, Bool, true, false, ℕ, ◌-◌, ◌≤◌, le-leb, le-ltb}
 use Rattle.schedule.specs.Paper.{tells}
 use Rattle.board_held.specs.Paper.{Schedule, tells_of}
 use Rattle.board_held.proofs.Sets.{Slot}
-use Rattle.board.specs.Paper.{Wanted, reads_for, reads, decide, undecided}
+use Rattle.board.specs.Paper.{Wanted, reads_for, reads, decide}
 
 module _ (s : Schedule) (n : ℕ) (w : Wanted) (h : ℕ) where
-  pub decide_low : n < 1 → decide s n w h ≡ undecided 41
-  unfolding decide
-  decide_low l = rw (lt-leb 1 n l)
-
-  pub decide_high : 48 < n → decide s n w h ≡ undecided 41
-  unfolding decide
-  decide_high l =
-      let some : 1 ≤ n = omega arith in
-      rw (le-leb 1 n some, lt-leb n 48 l)
-
   module _ (i : Slot n) where
-    pub decide_many : 64 < w.count → decide s n w h ≡ undecided 42
-    unfolding decide
-    decide_many m = rw (le-leb 1 n i.some, le-leb n 48 i.low, lt-ltb 64 w.count m)
-
     pub decide_reads : w.count ≤ 64 → decide s n w h ≡ record { number = 0; read = reads s n w h }
     unfolding decide
     decide_reads m = rw (le-leb 1 n i.some, le-leb n 48 i.low, le-ltb 64 w.count m)

@@ -1,32 +1,15 @@
 -- Whether a slot is read, by way of the places of the descriptions.
-use Rattle.laws.proofs.Base.{◌≡◌, refl, sym, ap, ◌∙◌, Bool, true, false, ◌&&◌, not, List, ℕ, ◌+◌, ◌-◌, ◌≤◌, ◌<◌, arith}
+use Rattle.laws.proofs.Base.{◌≡◌, refl, sym, ap, ◌∙◌, Bool, true, false, List, ℕ, ◌-◌, ◌≤◌, ◌<◌, arith}
 use Rattle.schedule.specs.Paper.{Told, first, again, optional, advised, false_repeat, end, tells}
 use Rattle.schedule_places.specs.Inner.{Placed, placed}
 use Rattle.schedule.specs.Inner.{told_by}
-use Rattle.board_held.specs.Paper.{is_held, entry_for}
 use Rattle.board_held.specs.Inner.{answers}
 use Rattle.board_held.specs.Coded.{lent_schedule}
 use Rattle.board_held.proofs.Sets.{Slot}
 use Rattle.board_held.proofs.Telling.{telling, tells_by, named}
 use Rattle.board.specs as defs
-use defs.Paper.{Wanted, first_matches, reads_for, decide}
-use defs.Inner.{reads_by}
+use defs.Paper.{Wanted, reads_for, decide}
 use Rattle.board.proofs.Cases.{reads_told, decided_as}
-
--- whether a slot is read, by what is told of the slot that its page is entered under
-pub reads_by_entry : (t : ℕ → Told) (w : Wanted) (h i under : ℕ) (matches missing : Bool) → under ≡ entry_for (i + 1) (t i)
-    → matches ≡ first_matches w (t (under - 1)) → missing ≡ (matches && not (is_held h under)) → reads_by matches missing (t i) ≡ reads_for t w h (t i)
-reads_by_entry t w h i under matches missing u a b = go (t i) refl
-  where
-    go : (d : Told) → t i ≡ d → reads_by matches missing d ≡ reads_for t w h d
-    go (first x) q =
-        let own : under - 1 ≡ i = omega (arith, u ∙ ap (entry_for (i + 1)) q) in
-        a ∙ ap (λ (j : ℕ). first_matches w (t j)) own ∙ ap (first_matches w) q
-    go (again n) q =
-        let first_slot : under ≡ n = u ∙ ap (entry_for (i + 1)) q in
-        b ∙ ap (λ (m : Bool). m && not (is_held h under)) a ∙ ap (λ (k : ℕ). first_matches w (t (k - 1)) && not (is_held h k)) first_slot
-    go optional q = refl
-    go advised q = refl
 
 -- descriptions that agree up to slot e are read for alike
 pub reads_agree : (t u : ℕ → Told) (w : Wanted) (h e i : ℕ) → ((j : ℕ) → j < e → t j ≡ u j) → i < e → false_repeat t i ≡ false → reads_for t w h (t i) ≡ reads_for u w h (u i)

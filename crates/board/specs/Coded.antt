@@ -1,10 +1,11 @@
 -- The code's values as document 01's numbers and lists.
-use Rattle.std.specs.Prelude.{ℕ, true, false, List, map, length}
+use Rattle.std.specs.Prelude.{ℕ, true, false, List, map, length, Result, Ok, Err}
 use Rattle.refusals.specs.Number.{number_of}
+use Rattle.refusals.specs.declared.Refusal.{Refusal}
 use Rattle.page.specs.declared.MessageId.{MessageId}
 use Rattle.board.specs.declared.Wanted.{Wanted as WantedCode}
 use Rattle.board.specs.declared.Decision.{Decision}
-use Rattle.board.specs.declared.Decision.TheVariants.{Read, Skip, Refused}
+use Rattle.board.specs.declared.Decision.TheVariants.{Read, Skip}
 use Rattle.board.specs.Paper.{Wanted, Decided, undecided}
 
 -- identifiers as their numbers
@@ -22,7 +23,7 @@ abbrev pub lent_wanted : List ℕ → Wanted
 lent_wanted l = record { count = length l; ids = l }
 
 -- 0 with read or skip, or the refusal's number with skip
-abbrev pub decided_of : Decision → Decided
-decided_of Read = record { number = 0; read = true }
-decided_of Skip = record { number = 0; read = false }
-decided_of (Refused r) = undecided (number_of r)
+abbrev pub decided_of : Result Decision Refusal → Decided
+decided_of (Ok Read) = record { number = 0; read = true }
+decided_of (Ok Skip) = record { number = 0; read = false }
+decided_of (Err r) = undecided (number_of r)

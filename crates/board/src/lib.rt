@@ -1,7 +1,7 @@
 // What a board does at a slot: read or skip.
 #![tactic(auto)]
 
-ghost use Rattle.std.specs.Prelude.{◌≡◌, ◌&&◌, not, false, ◌≤◌, ◌<◌, length};
+ghost use Rattle.std.specs.Prelude.{◌≡◌, ◌&&◌, not, false, ◌≤◌, ◌<◌, length, Result};
 ghost use Rattle.schedule.specs.Paper.{false_repeat};
 ghost use Rattle.schedule.specs.Coded.{told_of};
 ghost use Rattle.schedule.specs.Inner.{told_by};
@@ -21,62 +21,52 @@ use sizes::SLOTS;
 pub const WANTED: usize = 64;
 
 // The identifiers that are wanted; those past the count mean nothing.
+// Stays a count beside an array: fixed memory, and a count over the room is refused by 42.
 #[derive(Clone, Copy)]
 pub struct Wanted {
     pub count: usize,
     pub ids: [MessageId; WANTED],
 }
 
-#[derive(Clone, Copy)]
+#[derive(Clone, Copy, Debug, PartialEq, Eq)]
 pub enum Decision {
     Read,
     Skip,
-    Refused(Refusal),
 }
 
 // A list of identifiers by value: how many there are, so that over 64 are told from 64, and the first 64 of them.
 pub fn wanted_of(list: &[u16]) -> Wanted
     ensures { wanted_of result ≡ filled_wanted list.now }
 {
-    let count = list.len();
     let mut ids = [MessageId(0); WANTED];
-    let mut i = 0;
-    while i < WANTED {
-        if i >= count {
-            return Wanted { count, ids };
-        }
-        ids[i] = MessageId(list[i]);
-        i += 1;
+    for (i, number) in list[..list.len().min(WANTED)].iter().enumerate() {
+        ids[i] = MessageId(*number);
     }
-    Wanted { count, ids }
+    Wanted {
+        count: list.len(),
+        ids,
+    }
 }
 
-// Whether one of the first identifiers matches in 15 bits.
-fn any_matches(ids: &[u16], count: usize, id: u16) -> bool
-    requires { count ≤ length ids.now }
-    ensures { result ≡ is_wanted (counted count ids.now) id }
+// Whether an identifier that is wanted matches in 15 bits.
+fn any_matches(wanted: &[u16], id: u16) -> bool
+    ensures { result ≡ is_wanted (lent_wanted wanted.now) id }
 {
-    let mut i = 0;
-    while i < count {
-        let one = MessageId(ids[i]);
-        if one.0 % 0x8000 == id % 0x8000 {
+    for one in wanted {
+        if one % 0x8000 == id % 0x8000 {
             return true;
         }
-        i += 1;
     }
     false
 }
 
 // Whether a description is a first transmission that matches.
-fn first_matches(description: Description, ids: &[u16], count: usize) -> bool
-    requires { count ≤ length ids.now }
-    ensures { result ≡ first_matches (counted count ids.now) (told_of description) }
+fn first_matches(description: Description, wanted: &[u16]) -> bool
+    ensures { result ≡ first_matches (lent_wanted wanted.now) (told_of description) }
 {
     match description {
-        Description::First(id) => any_matches(ids, count, id),
-        Description::Repeat(_) => false,
-        Description::Optional => false,
-        Description::Advised => false,
+        Description::First(id) => any_matches(wanted, id),
+        Description::Repeat(_) | Description::Optional | Description::Advised => false,
     }
 }
 
@@ -84,10 +74,7 @@ fn first_matches(description: Description, ids: &[u16], count: usize) -> bool
 fn unless_held(matches: bool, held: Held, slot: usize) -> bool
     ensures { result ≡ (matches && not (is_held held.0 slot)) }
 {
-    if board_held::is_held(held, slot) {
-        return false;
-    }
-    matches
+    matches && !board_held::is_held(held, slot)
 }
 
 // Whether a slot is read by what is told of it, where its page's first transmission matches and is still to be got.
@@ -103,19 +90,20 @@ fn reads_by(description: Description, matches: bool, missing: bool) -> bool
 }
 
 // Whether slot i, counted from 0, is read by what is told of it and of the slot that its page is entered under.
-fn reads_for(message: &[u8], places: &[u8], i: usize, ids: &[u16], count: usize, held: Held) -> bool
-    requires { (i < 48) × (length places.now ≡ 48) × (false_repeat (told_by message.now places.now) i ≡ false) × (count ≤ length ids.now) }
-    ensures { result ≡ reads_for (told_by message.now places.now) (counted count ids.now) held.0 (told_by message.now places.now i) }
+fn reads_for(message: &[u8], places: &[u8; SLOTS], i: usize, wanted: &[u16], held: Held) -> bool
+    requires { (i < 48) × (false_repeat (told_by message.now places.now) i ≡ false) }
+    ensures { result ≡ reads_for (told_by message.now places.now) (lent_wanted wanted.now) held.0 (told_by message.now places.now i) }
 {
     let description = schedule::told_at(message, places[i] as usize);
     let under = board_held::entry_for(i + 1, description);
     let first = schedule::told_at(message, places[under - 1] as usize);
-    let matches = first_matches(first, ids, count);
+    let matches = first_matches(first, wanted);
     let missing = unless_held(matches, held, under);
     reads_by(description, matches, missing)
 }
 
 // Reads or skips a slot by a lent message, of which there may be none, where so many of some identifiers are wanted.
+// Stays a flag beside a message: cb_decide and Schedule have it so, and one test here asks it.
 #[tactic(auto, using(std::proofs::lemmas::Bool::Decides::nat_tests), unfolding(crate::specs::Paper::decide))]
 fn decide_by(
     known: bool,
@@ -125,36 +113,34 @@ fn decide_by(
     ids: &[u16],
     count: usize,
     held: Held,
-) -> Decision
+) -> Result<Decision, Refusal>
     requires { count ≤ 64 → count ≤ length ids.now }
     ensures { decided_of result ≡ decide_of (lent_schedule known message.now received) slot (counted count ids.now) held.0 }
 {
-    if slot < 1 {
-        return Decision::Refused(Refusal::SlotNumber);
-    }
-    if slot > SLOTS {
-        return Decision::Refused(Refusal::SlotNumber);
+    if slot < 1 || slot > SLOTS {
+        return Err(Refusal::SlotNumber);
     }
     if count > WANTED {
-        return Decision::Refused(Refusal::WantedCount);
+        return Err(Refusal::WantedCount);
     }
     if !known {
-        return Decision::Read;
+        return Ok(Decision::Read);
     }
     let Ok(found) = schedule_places::read_places(message, received) else {
-        return Decision::Read;
+        return Ok(Decision::Read);
     };
     if !board_held::tells_of(Ok(found.span), slot) {
-        return Decision::Read;
+        return Ok(Decision::Read);
     }
     let places = found.places;
-    if reads_for(message, &places[..], slot - 1, ids, count, held) {
-        return Decision::Read;
+    if reads_for(message, &places, slot - 1, &ids[..count], held) {
+        return Ok(Decision::Read);
     }
-    Decision::Skip
+    Ok(Decision::Skip)
 }
 
-// Reads or skips a slot by a lent message, of which there may be none, and a lent list of the identifiers that are wanted.
+// Reads or skips a slot, counted from 1, by a lent message, of which there may be none, and a lent list of the identifiers that are
+// wanted. Refuses by 41 and 42 (docs/FORMATS.md).
 pub fn decide_on(
     known: bool,
     message: &[u8],
@@ -162,7 +148,7 @@ pub fn decide_on(
     slot: usize,
     wanted: &[u16],
     held: Held,
-) -> Decision
+) -> Result<Decision, Refusal>
     ensures { decided_of result ≡ decide_of (lent_schedule known message.now received) slot (lent_wanted wanted.now) held.0 }
 {
     decide_by(known, message, received, slot, wanted, wanted.len(), held)
@@ -173,17 +159,19 @@ fn numbers_of(ids: [MessageId; WANTED]) -> [u16; WANTED]
     ensures { result ≡ ids_of ids }
 {
     let mut numbers = [0u16; WANTED];
-    let mut i = 0;
-    while i < WANTED {
-        let one = ids[i];
-        numbers[i] = one.0;
-        i += 1;
+    for (i, id) in ids.iter().enumerate() {
+        numbers[i] = id.0;
     }
     numbers
 }
 
 // Reads or skips a slot by a schedule and identifiers held by value.
-pub fn decide(schedule: Schedule, slot: usize, wanted: Wanted, held: Held) -> Decision
+pub fn decide(
+    schedule: Schedule,
+    slot: usize,
+    wanted: Wanted,
+    held: Held,
+) -> Result<Decision, Refusal>
     ensures { decided_of result ≡ decide_of (schedule_of schedule) slot (wanted_of wanted) held.0 }
 {
     let message = schedule.message;

@@ -20,8 +20,8 @@ pub fn cb_decide(
 {
     let answer = board::decide_on(known, message, received, slot, wanted, Held(held));
     match answer {
-        Decision::Read => 256,
-        Decision::Skip => 0,
-        Decision::Refused(refusal) => refusals::number(refusal) as u32,
+        Ok(Decision::Read) => 256,
+        Ok(Decision::Skip) => 0,
+        Err(refusal) => u32::from(u8::from(refusal)),
     }
 }

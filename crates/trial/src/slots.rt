@@ -133,9 +133,9 @@ fn decision_of(
     let list = wanted_from(wanted);
     let answer = board::decide(given, slot, list, Held(held));
     match answer {
-        Decision::Read => decided(line, at, 0, 1),
-        Decision::Skip => decided(line, at, 0, 0),
-        Decision::Refused(refusal) => decided(line, at, refusals::number(refusal), 0),
+        Ok(Decision::Read) => decided(line, at, 0, 1),
+        Ok(Decision::Skip) => decided(line, at, 0, 0),
+        Err(refusal) => decided(line, at, u8::from(refusal), 0),
     }
 }
 

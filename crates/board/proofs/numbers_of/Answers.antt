@@ -9,4 +9,4 @@ loop-i-preserved c =
     let l = c.loop-i in
     let ids = c.args.ids in
     let size : length ids ≡ 64 = search rules in
-    (omega arith, length-set l.numbers l.i _ ∙ l.invariant.1, numbers_turn ids l.numbers l.i size l.invariant.2 (omega arith))
+    (length-set l.numbers l.i _ ∙ l.invariant.0, numbers_turn ids l.numbers l.i size l.invariant.1 (omega arith))

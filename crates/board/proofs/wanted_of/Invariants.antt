@@ -1,10 +1,7 @@
 -- `board::wanted_of` meets its contract. The invariant: the first i identifiers are those of the list, and the rest is 0.
-use Rattle.laws.proofs.Base.{◌≡◌, ◌++◌, ◌-◌, ◌≤◌, length, take, replicate}
+use Rattle.laws.proofs.Base.{◌≡◌, ◌++◌, ◌-◌, length, take, replicate}
 use Rattle.board.specs.Coded.{ids_of}
 use Rattle.board.proofs.wanted_of.Given as goal
 
 abbrev pub invariant-loop-i : goal.invariant-loop-i
-invariant-loop-i l = (l.i ≤ 64) × (l.i ≤ length l.list) × (ids_of l.ids ≡ take l.i l.list ++ replicate (64 - l.i) 0) × (length l.ids ≡ 64)
-
-abbrev pub decreases-loop-i : goal.decreases-loop-i
-decreases-loop-i l = 64 - l.i
+invariant-loop-i l = (ids_of l.ids ≡ take l.i l.list ++ replicate (64 - l.i) 0) × (length l.ids ≡ 64)
