@@ -1,11 +1,13 @@
 -- Each case of the writer's order, and what is named in it, on plain facts; and what its acceptance means.
-use Rattle.laws.proofs.Base.{◌≡◌, sym, ap, ◌∙◌, and-true, List, ℕ, ◌≤◌, arith, length, drop, leb, eq-eqb, ne_eqb, le-leb, eqb-true, leb-true, ltb-false, not-false}
+use Rattle.laws.proofs.Base.{◌≡◌, sym, ap, ◌∙◌, and-true, List, ℕ, ◌≤◌, ◌<◌, arith, length, drop, leb, eq-eqb, ne_eqb, le-leb, eqb-true, leb-true, ltb-false, not-false}
 use Rattle.laws.specs.Ruled.{ruled}
 use Rattle.laws.proofs.Ruled.{ruled_map, none_holds, ruled_none, unless0_numbered}
 use Rattle.laws.proofs.Tests.{both}
 use Rattle.plan.specs.Paper.{Plan, Verdict, naming, plan_number, plans_tests, plans_number, plans_entry, plans_answer}
 use Rattle.plan.proofs.Plans.{naming_none, plans_refuse, plans_pass, plans_counted, plans_named, plans_unnamed}
+use Rattle.schedule.specs.Paper.{Shown}
 use Rattle.sender_message.specs.Paper.{descriptions, MessageLeft, unwritten, write_message}
+use Rattle.sender_message.proofs.Agree.{write_agree}
 use Rattle.sender.specs as defs
 use defs.Paper.{planned, message, faults, write, write_schedule}
 
@@ -51,6 +53,12 @@ module _ (c p : Plan) where
           let w = write_message b (planned c p) c.count o in
           let entry : naming w.number (plans_entry c p) ≡ 0 = ap (naming w.number) (plans_unnamed c p z) ∙ naming_none w.number in
           leaves w (write_planned z) ∙ (λ i. record { left = w; entry = entry i })
+
+      -- what is left where what is told of each slot is as planned
+      pub leaves_message : plans_number c p ≡ 0 → (told : ℕ → Shown) → ((i : ℕ) → i < c.count → told i ≡ planned c p i)
+          → (w : MessageLeft) → w ≡ write_message b told c.count o → record { left = w; entry = 0 } ≡ write_schedule c p b o
+      leaves_message z told same w q =
+          ap (λ (x : MessageLeft). record { left = x; entry = 0 }) (q ∙ write_agree told (planned c p) c.count same b o) ∙ sym (leaves_planned z)
 
     -- what the writer is given where it does not refuse, and what it does
     pub record Accepts : Type 0 where

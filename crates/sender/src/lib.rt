@@ -10,19 +10,11 @@ ghost use Rattle.sender.specs.Paper.{planned, write_schedule};
 ghost use Rattle.sender.specs.Coded.{sending_of};
 ghost use Rattle.sender.specs.Inner.{shown_by};
 
-use plan::Plan;
+use plan::{Fault, Plan};
 use plan_slots::Planned;
 use refusals::Refusal;
 use schedule::{Description, Slot};
 use sizes::{MESSAGE, SLOTS};
-
-// What the writer answers: the octets that the message uses, or a refusal, with the number of the entry that 36 and 37 name; with other
-// refusals that is 0.
-#[derive(Clone, Copy)]
-pub enum Sending {
-    Written(usize),
-    Refused(Refusal, u8),
-}
 
 // What is told of slot i, counted from 0, by what the plans say of it.
 #[tactic(auto, unfolding(crate::specs::Inner::shown_by), using(std::proofs::lemmas::Bool::Decides::nat_tests))]
@@ -66,21 +58,22 @@ fn telling(current: Plan, previous: Plan) -> [Slot; SLOTS]
     slots
 }
 
-// Writes the schedule message of a plan, or refuses it and leaves the output as it is.
-pub fn write_schedule(current: Plan, previous: Plan, begin: usize, out: &mut [u8]) -> Sending
+// Writes the schedule message of a plan (GSM 04.12 3.5), beside the plan before it, which says what pages are new, and gives the octets
+// that it uses of the 88. `begin` is the slot in which the schedule begins, counted from 1. Refuses by 15, by what refuses a plan, by 35,
+// 21 and 34 (docs/FORMATS.md), and leaves the output as it is then.
+pub fn write_schedule(
+    current: Plan,
+    previous: Plan,
+    begin: usize,
+    out: &mut [u8],
+) -> Result<usize, Fault>
     ensures { sending_of result out.new ≡ write_schedule (plan_of current) (plan_of previous) begin out.old }
 {
     if out.len() != MESSAGE {
-        return Sending::Refused(Refusal::OutputLength, 0);
+        return Err(Fault::from(Refusal::OutputLength));
     }
-    let answer = plan::plans_answer(current, previous);
-    if let Err(fault) = answer {
-        return Sending::Refused(fault.refusal, fault.entry);
-    }
+    plan::plans_answer(current, previous)?;
     let slots = telling(current, previous);
-    let writing = sender_message::write_message(slots, current.count, begin, out);
-    match writing {
-        Ok(used) => Sending::Written(used),
-        Err(refusal) => Sending::Refused(refusal, 0),
-    }
+    let used = sender_message::write_message(slots, current.count, begin, out)?;
+    Ok(used)
 }
