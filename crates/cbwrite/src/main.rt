@@ -12,7 +12,6 @@ use block::Kind;
 use block_writer::Sent;
 use plan::Plan;
 use refusals::Refusal;
-use sender::Sending;
 use sizes::MESSAGE;
 use std::io::Print;
 use std::rt::{Env, Files};
@@ -124,7 +123,7 @@ fn compose(current: Plan, previous: Plan, begin: usize, out: &mut [u8]) -> Sent
     let mut message = [0u8; MESSAGE];
     let answer = sender::write_schedule(current, previous, begin, &mut message);
     match answer {
-        Sending::Written(used) => block_writer::write_blocks(&message, Kind::Schedule, used, out),
-        Sending::Refused(refusal, _) => Sent::Refused(refusal),
+        Ok(used) => block_writer::write_blocks(&message, Kind::Schedule, used, out),
+        Err(fault) => Sent::Refused(fault.refusal),
     }
 }
