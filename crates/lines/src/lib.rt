@@ -61,10 +61,8 @@ pub fn put_hex(number: u64, count: usize, text: &mut [u8], at: usize) -> usize
     if !has_room(count, at, text.len()) {
         return at;
     }
-    let mut i = count;
     let mut rest = number;
-    while 0 < i {
-        i -= 1;
+    for i in (0..count).rev() {
         text[at + i] = hex_digit((rest % 16) as u8);
         rest /= 16;
     }
