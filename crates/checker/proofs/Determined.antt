@@ -2,8 +2,9 @@
 use Rattle.laws.proofs.Base.{◌≡◌, refl, sym, ap, ◌∙◌, cond, List, ℕ, eqb, ne_eqb}
 use Rattle.std.specs.Prelude.{⊤, Result, Ok, Err}
 use Rattle.laws.specs.Determined.{Determined}
-use Rattle.laws.proofs.Determined.{determined_by}
+use Rattle.laws.proofs.Determined.{determined, determined_by}
 use Rattle.refusals.specs.Number.{number_of}
+use Rattle.refusals.specs.declared.Refusal.{Refusal}
 use Rattle.refusals.proofs.Inverse.{refusal_of, refusal_of_number_of, number_of_positive}
 use Rattle.plan.specs.declared.Plan.{Plan}
 use Rattle.plan.specs.Coded.{plan_of}
@@ -39,3 +40,9 @@ pub determined_check_slots : (plans : Result Said Fault) (m : List ℕ) (receive
 determined_check_slots plans m received w r s x y a b =
     let e = a ∙ sym b in
     (checking_injective r s (ap (λ (l : SlotsChecked). l.checked) e), ap (λ (l : SlotsChecked). l.verdicts) e)
+
+pub determined_slot_fault : (refusal : Refusal) → Determined (λ (r : SlotFault). r ≡ record { refusal = refusal; slot = 0 })
+determined_slot_fault refusal = determined
+
+pub determined_plans_fault : (plans : Fault) → Determined (λ (r : SlotFault). r ≡ record { refusal = plans.refusal; slot = plans.entry })
+determined_plans_fault plans = determined

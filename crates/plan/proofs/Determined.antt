@@ -2,9 +2,10 @@
 use Rattle.laws.proofs.Base.{◌≡◌, refl, sym, ap, ◌∙◌, cond, eqb, ne_eqb}
 use Rattle.std.specs.Prelude.{⊤, Result, Ok, Err}
 use Rattle.laws.specs.Determined.{Determined}
-use Rattle.laws.proofs.Determined.{determined_by}
+use Rattle.laws.proofs.Determined.{determined, determined_by}
 use Rattle.laws.proofs.Map.{map_injective}
 use Rattle.refusals.specs.Number.{number_of}
+use Rattle.refusals.specs.declared.Refusal.{Refusal}
 use Rattle.refusals.proofs.Inverse.{refusal_of, refusal_of_number_of, number_of_positive}
 use Rattle.plan.specs as defs
 use defs.declared.Entry.{Entry as EntryCode}
@@ -42,3 +43,6 @@ determined_plan_answer plan = determined_by verdict_of verdict_injective
 
 pub determined_plans_answer : (current previous : PlanCode) → Determined (λ (r : Result ⊤ Fault). verdict_of r ≡ plans_answer (plan_of current) (plan_of previous))
 determined_plans_answer current previous = determined_by verdict_of verdict_injective
+
+pub determined_fault : (refusal : Refusal) → Determined (λ (r : Fault). r ≡ record { refusal = refusal; entry = 0 })
+determined_fault refusal = determined

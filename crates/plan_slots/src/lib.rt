@@ -1,7 +1,7 @@
 // What a plan and the plan before it say of each slot.
 #![tactic(auto)]
 
-ghost use Rattle.std.specs.Prelude.{◌≡◌, map, ◌≤◌, min, eqb, length};
+ghost use Rattle.std.specs.Prelude.{◌≡◌, map, ◌≤◌, eqb, length};
 ghost use Rattle.laws.specs.Search.{some, first_from};
 ghost use Rattle.plan.specs.Coded.{entry_of, entries_of, plan_of};
 ghost use Rattle.plan_slots.specs.Coded.{planned_of};
@@ -12,6 +12,7 @@ use plan::{Entry, Plan};
 use sizes::SLOTS;
 
 // What the plans say of a slot; where it is planned with no page, all but the kind is 0 or false.
+// Stays a number: the kind is that of a plan's entry, which can be over 2.
 #[derive(Clone, Copy)]
 pub struct Planned {
     pub kind: u8,
@@ -24,43 +25,37 @@ pub struct Planned {
 }
 
 // An entry as one number, so that a search through a plan compares once a slot.
-fn mark(entry: Entry) -> u64
-    ensures { Marked result (entry_of entry) }
+fn mark(entry: &Entry) -> u64
+    ensures { Marked result (entry_of entry.now) }
 {
-    let serial = entry.serial;
-    let id = entry.id;
     let name = PageName {
-        serial,
-        id,
+        serial: entry.serial,
+        id: entry.id,
         parameter: entry.parameter,
     };
     name.key() * 0x10000 + entry.kind as u64
 }
 
 // Writes the entries of a plan as numbers.
-fn mark_all(entries: [Entry; SLOTS], marks: &mut [u64])
+fn mark_all(entries: &[Entry; SLOTS], marks: &mut [u64])
     requires { length marks.old ≡ 48 }
-    ensures { Marks marks.new (entries_of entries) 48 }
+    ensures { Marks marks.new (entries_of entries.now) 48 }
 {
-    let mut i = 0;
-    while i < SLOTS {
-        let entry = entries[i];
+    for (i, entry) in entries.iter().enumerate() {
         marks[i] = mark(entry);
-        i += 1;
     }
 }
 
 // The place, counted from 1, of the first of some marks that is as given; 0 for none.
+// Stays a number: 0 is document 01's own lowest slot of a page that a plan lacks, and Planned.lowest hands it on.
 fn first_slot(marks: &[u64], mark: u64) -> u8
     requires { length marks.now ≤ 48 }
     ensures { result ≡ first_from (eqb mark) 1 marks.now }
 {
-    let mut slot = 1;
-    while slot <= marks.len() {
-        if marks[slot - 1] == mark {
-            return slot as u8;
+    for (i, other) in marks.iter().enumerate() {
+        if *other == mark {
+            return i as u8 + 1;
         }
-        slot += 1;
     }
     0
 }
@@ -78,9 +73,9 @@ fn none_planned(kind: u8) -> Planned
 }
 
 // What is said of a slot by its entry and that entry's mark, among the marks of the plan and of the plan before it.
-fn planned_by(entry: Entry, mark: u64, current: &[u64], previous: &[u64]) -> Planned
+fn planned_by(entry: &Entry, mark: u64, current: &[u64], previous: &[u64]) -> Planned
     requires { (length current.now ≤ 48) × (length previous.now ≤ 48) }
-    ensures { planned_of result ≡ said_by (entry_of entry) (first_from (eqb mark) 1 current.now) (some (eqb mark) previous.now) }
+    ensures { planned_of result ≡ said_by (entry_of entry.now) (first_from (eqb mark) 1 current.now) (some (eqb mark) previous.now) }
 {
     if entry.kind != 2 {
         return none_planned(entry.kind);
@@ -93,28 +88,15 @@ fn planned_by(entry: Entry, mark: u64, current: &[u64], previous: &[u64]) -> Pla
     }
 }
 
-// The slots of a count that a plan has entries for.
-fn slots_of(count: usize) -> usize
-    ensures { result ≡ min count 48 }
-{
-    if count > SLOTS {
-        return SLOTS;
-    }
-    count
-}
-
 // What is said of each slot that has a mark, by the marks of the plan and of the plan before it; of the others, what is said of an optional one.
-fn said_by_marks(entries: [Entry; SLOTS], current: &[u64], previous: &[u64]) -> [Planned; SLOTS]
+fn said_by_marks(entries: &[Entry; SLOTS], current: &[u64], previous: &[u64]) -> [Planned; SLOTS]
     requires { (length current.now ≤ 48) × (length previous.now ≤ 48) }
-    ensures { Says (searched (entries_of entries) current.now previous.now) result (length current.now) }
+    ensures { Says (searched (entries_of entries.now) current.now previous.now) result (length current.now) }
 {
     let unused = none_planned(0);
     let mut planned = [unused; SLOTS];
-    let mut i = 0;
-    while i < current.len() {
-        let entry = entries[i];
-        planned[i] = planned_by(entry, current[i], current, previous);
-        i += 1;
+    for (i, mark) in current.iter().enumerate() {
+        planned[i] = planned_by(&entries[i], *mark, current, previous);
     }
     planned
 }
@@ -123,13 +105,11 @@ fn said_by_marks(entries: [Entry; SLOTS], current: &[u64], previous: &[u64]) -> 
 pub fn all_planned(current: Plan, previous: Plan) -> [Planned; SLOTS]
     ensures { map planned_of result ≡ all_planned (plan_of current) (plan_of previous) }
 {
-    let entries = current.entries;
-    let older = previous.entries;
     let mut marks = [0u64; SLOTS];
-    mark_all(entries, &mut marks[..]);
+    mark_all(&current.entries, &mut marks);
     let mut marks_before = [0u64; SLOTS];
-    mark_all(older, &mut marks_before[..]);
-    let count = slots_of(current.count);
-    let before = slots_of(previous.count);
-    said_by_marks(entries, &marks[..count], &marks_before[..before])
+    mark_all(&previous.entries, &mut marks_before);
+    let count = current.count.min(SLOTS);
+    let before = previous.count.min(SLOTS);
+    said_by_marks(&current.entries, &marks[..count], &marks_before[..before])
 }

@@ -6,8 +6,8 @@ use Rattle.plan_slots.proofs.all_planned.Goals as goal
 
 pub returns : goal.returns
 returns c =
-    let own_count : length (take c.slots_of-count.result c.mark_all.new.marks) ≡ c.slots_of-count.result = let marked = c.mark_all in length-take-le c.slots_of-count.result marked.new.marks (omega (arith, marked.ensures.long, c.slots_of-count.ensures)) in
+    let own_count : length (take c.min-count.result c.mark_all.new.marks) ≡ c.min-count.result = let marked = c.mark_all in length-take-le c.min-count.result marked.new.marks (omega (arith, marked.ensures.long, c.min-count.ensures)) in
     let a = c.args in
     says_all (plan_of a.current) (plan_of a.previous) c.said_by_marks.result _
     (searched_said (plan_of a.current) (plan_of a.previous) _ _ c.mark_all.ensures c.mark_all-2.ensures)
-    (rw (own_count, c.slots_of-count.ensures, c.slots_of-before.ensures) at c.said_by_marks.ensures)
+    (rw (own_count, c.min-count.ensures, c.min-before.ensures) at c.said_by_marks.ensures)

@@ -9,10 +9,10 @@ use Rattle.plan_slots.proofs.mark.Goals as goal
 
 pub overflow_mul-result : goal.overflow_mul-result
 overflow_mul-result c =
-    let below : key_of (page_of (entry_of c.args.entry)) < 0x10000000000 = key_below _ (record { serial = search rules; id = search rules }) (search rules) in
+    let below : key_of (page_of (entry_of c.args.entry.now)) < 0x10000000000 = key_below _ (record { serial = search rules; id = search rules }) (search rules) in
     omega (arith, below)
 
 pub overflow_add-result : goal.overflow_add-result
 overflow_add-result c =
-    let below : key_of (page_of (entry_of c.args.entry)) < 0x10000000000 = key_below _ (record { serial = search rules; id = search rules }) (search rules) in
+    let below : key_of (page_of (entry_of c.args.entry.now)) < 0x10000000000 = key_below _ (record { serial = search rules; id = search rules }) (search rules) in
     omega (arith, below)

@@ -1,11 +1,7 @@
 -- `plan_slots::mark_all` meets its contract. The invariant: the entries passed have their marks.
-use Rattle.laws.proofs.Base.{◌-◌, ◌≤◌}
 use Rattle.plan.specs.Coded.{entries_of}
 use Rattle.plan_slots.specs.Inner.{Marks}
 use Rattle.plan_slots.proofs.mark_all.Given as goal
 
 abbrev pub invariant-loop-i : goal.invariant-loop-i
-invariant-loop-i l = (l.i ≤ 48) × Marks l.marks (entries_of l.entries) l.i
-
-abbrev pub decreases-loop-i : goal.decreases-loop-i
-decreases-loop-i l = 48 - l.i
+invariant-loop-i l = Marks l.marks (entries_of l.entries) l.i

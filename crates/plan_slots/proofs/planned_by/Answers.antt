@@ -12,7 +12,7 @@ pub returns : goal.returns
 unfolding said_by
 returns c =
     let a = c.args in
-    let two : a.entry.kind ≡ 2 = omega arith in
+    let two : a.entry.now.kind ≡ 2 = omega arith in
     let lacks = lacks_mark a.mark a.previous.now _ c.first_slot-2.ensures in
-    rw (eq-eqb a.entry.kind 2 two)
-    (λ i. record { kind = a.entry.kind; low = a.entry.id.0 % 32768; lowest = c.first_slot.ensures i; fresh = lacks i })
+    rw (eq-eqb a.entry.now.kind 2 two)
+    (λ i. record { kind = a.entry.now.kind; low = a.entry.now.id.0 % 32768; lowest = c.first_slot.ensures i; fresh = lacks i })
