@@ -116,7 +116,7 @@ pub fn say_fault(
     ensures { record { end = result; text = text.new } ≡ all_behind (faulty program.now name.now) 0 text.old }
 {
     let end = put_fault(program, name, text, 0);
-    say(errors, &text[..end], error);
+    say(errors, first(text, end), error);
     end
 }
 

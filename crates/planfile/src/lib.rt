@@ -6,20 +6,13 @@ ghost use Rattle.plan.specs.Paper.{plan_number};
 ghost use Rattle.plan.specs.Coded.{plan_of};
 ghost use Rattle.planfile.specs.Inner.{taken_of, taken};
 
-use plan::Plan;
-use refusals::Refusal;
+use plan::{Fault, Plan};
 use std::io::{Print, Read};
 use std::rt::{Env, Files};
 
 // Says why a file is refused: by the entry that is named, or by the number's words.
-fn say_why(
-    errors: &impl Print,
-    program: &[u8],
-    about: &[u8],
-    file: &[u8],
-    refusal: Refusal,
-    entry: u8,
-) {
+fn say_why(errors: &impl Print, program: &[u8], about: &[u8], file: &[u8], fault: Fault) {
+    let Fault { refusal, entry } = fault;
     let mut line = [0u8; refusal_lines::LINE];
     if entry == 0 {
         refusal_lines::say_refused(errors, program, about, refusal, &mut line);
@@ -36,7 +29,7 @@ fn take_octets(errors: &impl Print, program: &[u8], about: &[u8], file: &[u8]) -
     let reading = plan_read::read_plan(file);
     let plan = reading.ok();
     if let Err(fault) = reading {
-        say_why(errors, program, about, file, fault.refusal, fault.entry);
+        say_why(errors, program, about, file, fault);
     }
     plan
 }
