@@ -1,11 +1,17 @@
 -- The cases of `step`: what it is for an improper state, and for a proper one by the place of the piece.
 use Rattle.laws.proofs.Base.{◌≡◌, refl, sym, ap, ◌∙◌, Bool, true, false, cond, false≢true, ◌&&◌, List, [], ℕ, suc, ◌*◌, ◌-◌}
 use Rattle.laws.proofs.Base.{◌≤◌, arith, length, drop, replicate, length-drop, eqb, leb, lit≤, eqb-true, leb-true, not-false}
+use Rattle.std.specs.Prelude.{Result, Ok, Err}
+use Rattle.refusals.specs.declared.Refusal.{Refusal}
+use Rattle.refusals.specs.Number.{number_of}
 use Rattle.laws.specs.Ruled.{ruled}
 use Rattle.laws.proofs.Ruled.{ruled_map, ruling, Ruling, refuses, passes}
 use Rattle.laws.proofs.Tests.{true_or_false, both}
 use Rattle.block.specs as defs
 use defs.Paper.{page, schedule, kind_number, Held, Given, proper, refusal, code, follows, faults, last, made, added, step, blank}
+use defs.declared.Place.{Place as PlaceCode}
+use defs.declared.Place.TheVariants.{First, Next}
+use defs.Coded.{placed}
 use defs.Inner.{Place, none, first, next, place_of, state_with, outcome, Adds}
 use Rattle.block.proofs.Blank.{all_blank_is}
 
@@ -34,9 +40,16 @@ step_met h p e =
     rw e
     (ap (ruled refusal (faults h.taken p)) (sym (met_passed h p)) ∙ sym (ruled_map (met h p) none (faults h.taken p) x))
 
--- the answer that the place of a piece means is the answer to it
-pub step_by : (h : Held) (p : List ℕ) (x : Place) (g : Given) → proper h ≡ true → place_of h.taken p ≡ x → g ≡ met h p x → g ≡ step h p
-step_by h p x g e q r = r ∙ sym (step_met h p e ∙ ap (met h p) q)
+-- the answer that the place found for a piece means is the answer to it
+module _ (h : Held) (p : List ℕ) (r : Result PlaceCode Refusal) (good : proper h ≡ true) (e : placed r ≡ place_of h.taken p) (g : Given) where
+  step_by : (y : Place) → placed r ≡ y → g ≡ met h p y → g ≡ step h p
+  step_by y q m = m ∙ sym (step_met h p good ∙ ap (met h p) (sym e ∙ q))
+
+  pub step_refused : (n : Refusal) → r ≡ Err n → g ≡ refusal (number_of n) → g ≡ step h p
+  step_refused n q m = step_by _ (ap placed q) m
+
+  pub step_placed : (x y : PlaceCode) → r ≡ Ok x → x ≡ y → g ≡ met h p (placed (Ok y)) → g ≡ step h p
+  step_placed x y q f m = step_by _ (ap placed (q ∙ ap Ok f)) m
 
 -- a proper state leaves room for a block, and its rest is 2B
 pub record Proper (h : Held) : Type 0 where
@@ -68,6 +81,10 @@ is_taken (none n) = false
 is_taken (first k l) = true
 is_taken (next l) = true
 
+is_taken_ok : (x : PlaceCode) → is_taken (placed (Ok x)) ≡ true
+is_taken_ok (First k l) = refl
+is_taken_ok (Next l) = refl
+
 whole : (t : ℕ) (p : List ℕ) (y r : Place) → Ruling none (faults t p) y r → is_taken r ≡ true → length p ≡ 23
 whole t p y r (refuses n a q) e = absurd (false≢true (ap is_taken (sym q) ∙ e))
 whole t p y r (passes h q) e = eqb-true (length p) 23 (not-false _ h.0)
@@ -77,11 +94,15 @@ place_of_whole : (t : ℕ) (p : List ℕ) → is_taken (place_of t p) ≡ true �
 unfolding place_of
 place_of_whole t p e = whole t p _ (place_of t p) (ruling none (faults t p) _) e
 
--- a piece that has a place can be added to a message with nothing taken, and to a proper state
-pub adds_first : (t : ℕ) (p : List ℕ) (x : Place) → place_of t p ≡ x → is_taken x ≡ true → Adds 0 blank p
-adds_first t p x q e = record { whole = place_of_whole t p (ap is_taken q ∙ e); room = lit≤ tt; rest = refl }
+-- a piece for which a place was found can be added to a message with nothing taken, and to a proper state
+module _ (p : List ℕ) (r : Result PlaceCode Refusal) (x : PlaceCode) (found : r ≡ Ok x) where
+  taken_place : (t : ℕ) → placed r ≡ place_of t p → is_taken (place_of t p) ≡ true
+  taken_place t e = ap is_taken (sym e ∙ ap placed found) ∙ is_taken_ok x
 
-pub adds_next : (h : Held) (p : List ℕ) (x : Place) → proper h ≡ true → place_of h.taken p ≡ x → is_taken x ≡ true → Adds h.taken h.octets p
-adds_next h p x g q e =
-    let facts = proper_facts h g in
-    record { whole = place_of_whole h.taken p (ap is_taken q ∙ e); room = facts.room; rest = facts.rest }
+  pub adds_first : (h : Held) (k t : ℕ) → h ≡ state_with k 0 blank → placed r ≡ place_of t p → Adds h.taken h.octets p
+  adds_first h k t q e = rw q (record { whole = place_of_whole t p (taken_place t e); room = lit≤ tt; rest = refl })
+
+  pub adds_next : (h : Held) → proper h ≡ true → placed r ≡ place_of h.taken p → Adds h.taken h.octets p
+  adds_next h good e =
+      let facts = proper_facts h good in
+      record { whole = place_of_whole h.taken p (taken_place h.taken e); room = facts.room; rest = facts.rest }

@@ -1,5 +1,6 @@
 -- Blocks and their intake as document 01 has them, in numbers and lists of octets.
-use Rattle.std.specs.Prelude.{Bool, true, cond, not, ◌&&◌, ◌||◌, List, [], ◌∷◌, ◌++◌, ℕ, suc, ◌*◌, ◌-◌, ◌/◌, ◌%◌, length, take, drop, get_or, replicate, eqb, leb}
+use Rattle.std.specs.Prelude.{Bool, cond, not, ◌&&◌, ◌||◌, List, [], ◌∷◌, ◌++◌, ℕ, suc, ◌*◌, ◌-◌, ◌/◌, ◌%◌, length, take, drop, get_or, replicate, eqb, leb}
+use Rattle.std.specs.List.{list_all}
 use Rattle.laws.specs.Ruled.{ruled}
 
 -- 01 Blocks, 000 3.3.1: the type octet of a piece, its first
@@ -55,9 +56,8 @@ abbrev pub start : Held
 start = record { kind = 0; taken = 0; octets = blank }
 
 -- every octet is 2B
-unfoldable pub all_blank : List ℕ → Bool
-all_blank [] = true
-all_blank (x ∷ xs) = eqb x 0x2b && all_blank xs
+abbrev pub all_blank : List ℕ → Bool
+all_blank xs = list_all (λ (x : ℕ). eqb x 0x2b) xs
 
 -- 01 Intake: kind 0 with 0 blocks, or 1 or 2 with 1 to 3; 88 octets, those that no taken block filled 2B
 unfoldable pub proper : Held → Bool

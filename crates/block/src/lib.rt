@@ -1,7 +1,7 @@
 // What the intake by value and the one on lent memory share: kinds of messages, proper states, and where a piece goes.
 #![tactic(auto)]
 
-ghost use Rattle.std.specs.Prelude.{◌≡◌, drop};
+ghost use Rattle.std.specs.Prelude.{◌≡◌};
 ghost use Rattle.block.specs.Paper.{kind_number, all_blank, proper};
 ghost use Rattle.block.specs.Inner.{place_of, state_with};
 ghost use Rattle.block.specs.Coded.{kind_of, placed};
@@ -15,40 +15,40 @@ pub const BLOCK: usize = 23;
 // 000 3.1: octets of the four blocks of a message.
 pub const BLOCKS: usize = 92;
 
-// 000 3.4, 3.5: what a message is.
-#[derive(Clone, Copy)]
+// What a message is: a page (000 3.4) or a schedule message (000 3.5).
+#[derive(Clone, Copy, Debug, PartialEq, Eq)]
 pub enum Kind {
     Page,
     Schedule,
 }
 
-// The kind as a state holds it.
-pub fn kind_number(kind: Kind) -> u8
-    ensures { result ≡ kind_number (kind_of kind) }
-{
-    match kind {
-        Kind::Page => 1,
-        Kind::Schedule => 2,
+// The kind as a state holds it, where 0 is none.
+impl From<Kind> for u8 {
+    ghost from_gives = { λ kind n. n ≡ kind_number (kind_of kind) };
+
+    fn from(kind: Kind) -> u8 {
+        match kind {
+            Kind::Page => 1,
+            Kind::Schedule => 2,
+        }
     }
 }
 
-// Whether octets are all 2B from the given one on. The whole rest is looked at, so that the loop has no early way out.
-#[tactic(auto, using(crate::proofs::Blank::blank_steps))]
-fn is_blank(octets: &[u8], from: usize) -> bool
-    ensures { result ≡ all_blank (drop from octets.now) }
+// Whether octets are all 2B. All are looked at, so that the loop has no early way out.
+fn is_blank(octets: &[u8]) -> bool
+    ensures { result ≡ all_blank octets.now }
 {
     let mut blank = true;
-    let mut i = from;
-    while i < octets.len() {
-        if octets[i] != FILLER {
+    for octet in octets {
+        if *octet != FILLER {
             blank = false;
         }
-        i += 1;
     }
     blank
 }
 
-// Whether a state is one that start and intake leave.
+// Whether a state is one that start and intake leave: no kind and no blocks, or a kind (1, 2) and one to three blocks;
+// and 88 octets, which are 2B behind those of the blocks taken. The kind is a number here, since C lends it as one.
 #[tactic(auto, using(std::proofs::lemmas::Bool::Decides::nat_tests), unfolding(crate::specs::Paper::proper))]
 pub fn is_proper(kind: u8, taken: u8, octets: &[u8]) -> bool
     ensures { result ≡ proper (state_with kind taken octets.now) }
@@ -56,62 +56,43 @@ pub fn is_proper(kind: u8, taken: u8, octets: &[u8]) -> bool
     if octets.len() != MESSAGE {
         return false;
     }
-    if kind == 0 {
-        if taken != 0 {
-            return false;
-        }
-        return is_blank(octets, 0);
+    match (kind, taken) {
+        (0, 0) => is_blank(octets),
+        (1 | 2, 1..=3) => is_blank(&octets[CONTENT * taken as usize..]),
+        _ => false,
     }
-    if kind > 2 {
-        return false;
-    }
-    if taken == 0 {
-        return false;
-    }
-    if taken > 3 {
-        return false;
-    }
-    is_blank(octets, CONTENT * taken as usize)
 }
 
-// Where a piece goes: nowhere, to the beginning of a message, or next. The flag: it completes the message.
-#[derive(Clone, Copy)]
+// Where a piece goes: to the beginning of a message of a kind, or behind the blocks taken. The flag: it completes the
+// message.
+#[derive(Clone, Copy, Debug, PartialEq, Eq)]
 pub enum Place {
-    None(Refusal),
     First(Kind, bool),
     Next(bool),
 }
 
+// Where a piece goes beside the number of blocks taken, from its type octet (000 3.3.1, Table 1): discriminator 01 in bits
+// 7 and 6, the last-block mark in bit 5, the sequence code in bits 4 to 1; bit 8 is spare. It is refused as PieceLength,
+// Discriminator, ReservedCode, NullCode or NotNext.
 #[tactic(auto, using(std::proofs::lemmas::Bool::Decides::nat_tests), unfolding(crate::specs::Inner::place_of))]
-pub fn place_of(taken: u8, piece: &[u8]) -> Place
+pub fn place_of(taken: u8, piece: &[u8]) -> Result<Place, Refusal>
     ensures { placed result ≡ place_of taken piece.now }
 {
     if piece.len() != BLOCK {
-        return Place::None(Refusal::PieceLength);
+        return Err(Refusal::PieceLength);
     }
     let head = piece[0];
     if head / 32 % 4 != 1 {
-        return Place::None(Refusal::Discriminator);
+        return Err(Refusal::Discriminator);
     }
-    let code = head % 16;
     let last = head / 16 % 2 == 1;
-    if code == 0 {
-        return Place::First(Kind::Page, last);
+    match head % 16 {
+        0 => Ok(Place::First(Kind::Page, last)),
+        8 => Ok(Place::First(Kind::Schedule, last)),
+        15 => Err(Refusal::NullCode),
+        4..=14 => Err(Refusal::ReservedCode),
+        code if code != taken => Err(Refusal::NotNext),
+        3 => Ok(Place::Next(true)),
+        _ => Ok(Place::Next(last)),
     }
-    if code == 8 {
-        return Place::First(Kind::Schedule, last);
-    }
-    if code == 15 {
-        return Place::None(Refusal::NullCode);
-    }
-    if code > 3 {
-        return Place::None(Refusal::ReservedCode);
-    }
-    if code != taken {
-        return Place::None(Refusal::NotNext);
-    }
-    if code == 3 {
-        return Place::Next(true);
-    }
-    Place::Next(last)
 }

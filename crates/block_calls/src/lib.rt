@@ -6,9 +6,9 @@ ghost use Rattle.block.specs.Coded.{kind_of};
 ghost use Rattle.block_calls.specs.Paper.{kind_if, blocks_call};
 
 use block::Kind;
-use block_writer::Sent;
 
 // The kind that a caller tells.
+// Stays a function: as an `if` in the call below it costs 8 instructions more, since the call is doubled.
 fn kind_of(schedule: bool) -> Kind
     ensures { kind_of result ≡ kind_if schedule }
 {
@@ -18,14 +18,14 @@ fn kind_of(schedule: bool) -> Kind
     Kind::Page
 }
 
-// Writes a page or a schedule message as four blocks: the number.
+// Writes a page or, where schedule is set, a schedule message as four blocks: the number.
 pub fn cb_write_blocks(message: &[u8], schedule: bool, used: usize, out: &mut [u8]) -> u32
     ensures { record { returned = result; memory = out.new } ≡ blocks_call message.now schedule used out.old }
 {
     let kind = kind_of(schedule);
     let answer = block_writer::write_blocks(message, kind, used, out);
     match answer {
-        Sent::Done => 0,
-        Sent::Refused(refusal) => refusals::number(refusal) as u32,
+        Ok(()) => 0,
+        Err(refusal) => u32::from(u8::from(refusal)),
     }
 }

@@ -44,7 +44,6 @@ added_holding {k} {u} p part =
     rw (front, length_snoc u p, contents_snoc u p)
 
 all_blank_replicate : (n : ℕ) → all_blank (replicate n 0x2b) ≡ true
-unfolding all_blank
 all_blank_replicate zero = refl
 all_blank_replicate (suc n) = all_blank_replicate n
 
@@ -63,7 +62,7 @@ proper_holding {k} {u} part some =
     known schedule = refl
 
 pub proper_start : proper start ≡ true
-unfolding proper all_blank
+unfolding proper
 proper_start = refl
 
 -- the place of a first block, and of a follower

@@ -4,14 +4,14 @@
 ghost use Rattle.std.specs.Prelude.{◌≡◌};
 ghost use Rattle.refusals.specs.Number.{number_of};
 ghost use Rattle.block.specs.Paper.{added, step, start as start_of};
-ghost use Rattle.block.specs.Inner.{state_with, outcome, Adds};
+ghost use Rattle.block.specs.Inner.{outcome, Adds};
 ghost use Rattle.block_intake.specs.Coded.{held_of, given_of, leaving};
 
 use block::Place;
 use refusals::Refusal;
 use sizes::{CONTENT, FILLER, MESSAGE};
 
-// A message of which some blocks are taken: kind 0 for none, 1 for a page, 2 for a schedule.
+// A message of which some blocks are taken: kind 0 for none, 1 for a page, 2 for a schedule, as C has it in lent memory.
 #[derive(Clone, Copy)]
 pub struct State {
     pub kind: u8,
@@ -30,46 +30,45 @@ pub fn start() -> State
     }
 }
 
-// What the intake answers to a piece: a message complete, a block taken, or a refusal.
-#[derive(Clone, Copy)]
+// What the intake answers to a piece that it doesn't refuse: a message complete, or a block taken.
+#[derive(Clone, Copy, Debug, PartialEq, Eq)]
 pub enum Answer {
     Page,
     Schedule,
     Taken,
-    Refused(Refusal),
 }
 
 // The answer, the octets received and the message where it is complete, and the state afterwards.
 #[derive(Clone, Copy)]
 pub struct Reply {
-    pub answer: Answer,
+    pub answer: Result<Answer, Refusal>,
     pub received: usize,
     pub octets: [u8; MESSAGE],
     pub state: State,
 }
 
-// Takes in one piece.
+// Takes in one piece. A state that is not proper is refused as StateImproper, and then a piece as `block::place_of` has it;
+// after a refusal the state is as after start.
 pub fn intake(state: State, piece: &[u8]) -> Reply
     ensures { given_of result ≡ step (held_of state) piece.now }
 {
-    let kind = state.kind;
-    let taken = state.taken;
-    let octets = state.octets;
-    let started = start();
-    if !block::is_proper(kind, taken, &octets) {
-        return refused(Refusal::StateImproper, started);
+    if !block::is_proper(state.kind, state.taken, &state.octets) {
+        return refused(Refusal::StateImproper, start());
     }
-    let place = block::place_of(taken, piece);
+    let found = block::place_of(state.taken, piece);
+    let place = match found {
+        Ok(place) => place,
+        Err(refusal) => return refused(refusal, start()),
+    };
     match place {
-        Place::None(refusal) => refused(refusal, started),
-        Place::First(first, last) => add(
-            block::kind_number(first),
-            0,
-            [FILLER; MESSAGE],
-            piece,
-            last,
-        ),
-        Place::Next(last) => add(kind, taken, octets, piece, last),
+        Place::First(kind, last) => {
+            let begun = State {
+                kind: u8::from(kind),
+                ..start()
+            };
+            add(begun, piece, last)
+        }
+        Place::Next(last) => add(state, piece, last),
     }
 }
 
@@ -78,46 +77,43 @@ fn refused(refusal: Refusal, state: State) -> Reply
     ensures { given_of result ≡ leaving (number_of refusal) (held_of state) }
 {
     Reply {
-        answer: Answer::Refused(refusal),
+        answer: Err(refusal),
         received: 0,
         octets: [FILLER; MESSAGE],
         state,
     }
 }
 
-// The answer to a piece that is added to a message; last: it completes the message.
-fn add(kind: u8, taken: u8, octets: [u8; MESSAGE], piece: &[u8], last: bool) -> Reply
-    requires { Adds taken octets piece.now }
-    ensures { given_of result ≡ outcome last (added (state_with kind taken octets) piece.now) }
+// The answer to a piece that is added to the message in state; last: it completes the message.
+fn add(state: State, piece: &[u8], last: bool) -> Reply
+    requires { Adds state.taken state.octets piece.now }
+    ensures { given_of result ≡ outcome last (added (held_of state) piece.now) }
 {
-    let mut whole = octets;
-    let at = CONTENT * taken as usize;
-    octets::copy(&piece[1..], &mut whole[at..at + CONTENT]);
+    let mut octets = state.octets;
+    let at = CONTENT * state.taken as usize;
+    octets::copy(&piece[1..], &mut octets[at..at + CONTENT]);
+    let taken = state.taken + 1;
     if !last {
         return Reply {
-            answer: Answer::Taken,
+            answer: Ok(Answer::Taken),
             received: 0,
             octets: [FILLER; MESSAGE],
             state: State {
-                kind,
-                taken: taken + 1,
-                octets: whole,
+                kind: state.kind,
+                taken,
+                octets,
             },
         };
     }
-    let received = CONTENT * (taken as usize + 1);
-    if kind == 2 {
-        return Reply {
-            answer: Answer::Schedule,
-            received,
-            octets: whole,
-            state: start(),
-        };
-    }
+    let answer = if state.kind == 2 {
+        Answer::Schedule
+    } else {
+        Answer::Page
+    };
     Reply {
-        answer: Answer::Page,
-        received,
-        octets: whole,
+        answer: Ok(answer),
+        received: CONTENT * taken as usize,
+        octets,
         state: start(),
     }
 }

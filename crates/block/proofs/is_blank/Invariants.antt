@@ -1,10 +1,7 @@
--- The invariant: the verdict on the octets is that so far and that on those ahead.
-use Rattle.std.proofs.Common.{◌≡◌, ◌&&◌, ◌-◌, length, drop}
+-- The invariant: the verdict is that on the octets so far.
+use Rattle.std.proofs.Common.{◌≡◌, take}
 use Rattle.block.specs.Paper.{all_blank}
 use Rattle.block.proofs.is_blank.Given as goal
 
-abbrev pub invariant-loop-i : goal.invariant-loop-i
-invariant-loop-i l = all_blank (drop l.from l.octets) ≡ (l.blank && all_blank (drop l.i l.octets))
-
-abbrev pub decreases-loop-i : goal.decreases-loop-i
-decreases-loop-i l = length l.octets - l.i
+abbrev pub invariant-loop-octet : goal.invariant-loop-octet
+invariant-loop-octet l = l.blank ≡ all_blank (take l.octet-index l.octets)

@@ -1,9 +1,6 @@
--- `firmware::fill` meets its contract. The invariant: the octets so far are the given one, and the rest is as it was.
-use Rattle.laws.proofs.Base.{◌≡◌, ◌++◌, ◌-◌, ◌≤◌, length, drop, replicate}
+-- The invariant: the octets so far are 2B.
+use Rattle.std.proofs.Common.{◌≡◌, take, replicate}
 use Rattle.firmware.proofs.fill.Given as goal
 
-abbrev pub invariant-loop-i : goal.invariant-loop-i
-invariant-loop-i l = (l.i ≤ length l.initial.memory) × (l.memory ≡ replicate l.i l.octet ++ drop l.i l.initial.memory) × (length l.memory ≡ length l.initial.memory)
-
-abbrev pub decreases-loop-i : goal.decreases-loop-i
-decreases-loop-i l = length l.initial.memory - l.i
+abbrev pub invariant-loop-octet : goal.invariant-loop-octet
+invariant-loop-octet l = take l.octet-index l.memory ≡ replicate l.octet-index 0x2b
