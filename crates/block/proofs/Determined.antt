@@ -37,5 +37,5 @@ place_from_placed (Ok (Next l)) = refl
 pub determined_place_of : (taken : ℕ) (p : List ℕ) (r s : Result PlaceCode Refusal) → placed r ≡ place_of taken p → placed s ≡ place_of taken p → r ≡ s
 determined_place_of taken p r s a b = sym (place_from_placed r) ∙ ap place_from (a ∙ sym b) ∙ place_from_placed s
 
-pub determined_kind_number : (k : KindCode) (r s : ℕ) → r ≡ kind_number (kind_of k) → s ≡ kind_number (kind_of k) → r ≡ s
-determined_kind_number k r s a b = a ∙ sym b
+pub determined_kind_number : (kind : KindCode) (r s : ℕ) → r ≡ kind_number (kind_of kind) → s ≡ kind_number (kind_of kind) → r ≡ s
+determined_kind_number kind r s a b = a ∙ sym b

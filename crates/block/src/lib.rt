@@ -48,7 +48,8 @@ fn is_blank(octets: &[u8]) -> bool
 }
 
 // Whether a state is one that start and intake leave: no kind and no blocks, or a kind (1, 2) and one to three blocks;
-// and 88 octets, which are 2B behind those of the blocks taken. The kind is a number here, since C lends it as one.
+// and 88 octets, which are 2B behind those of the blocks taken.
+// Stays numbers, kind and taken: C lends both as octets, and 3 to 255 are refused.
 #[tactic(auto, using(std::proofs::lemmas::Bool::Decides::nat_tests), unfolding(crate::specs::Paper::proper))]
 pub fn is_proper(kind: u8, taken: u8, octets: &[u8]) -> bool
     ensures { result ≡ proper (state_with kind taken octets.now) }
@@ -57,6 +58,7 @@ pub fn is_proper(kind: u8, taken: u8, octets: &[u8]) -> bool
         return false;
     }
     match (kind, taken) {
+        // Stays an arm of its own: joined with the next, which says the same, it costs 31 instructions of cb_intake.
         (0, 0) => is_blank(octets),
         (1 | 2, 1..=3) => is_blank(&octets[CONTENT * taken as usize..]),
         _ => false,

@@ -11,7 +11,8 @@ use block::Place;
 use refusals::Refusal;
 use sizes::{CONTENT, FILLER, MESSAGE};
 
-// A message of which some blocks are taken: kind 0 for none, 1 for a page, 2 for a schedule, as C has it in lent memory.
+// A message of which some blocks are taken: kind 0 for none, 1 for a page, 2 for a schedule.
+// Stays a number, kind: a state is what a caller kept, and one of another kind is refused.
 #[derive(Clone, Copy)]
 pub struct State {
     pub kind: u8,
@@ -52,19 +53,20 @@ pub struct Reply {
 pub fn intake(state: State, piece: &[u8]) -> Reply
     ensures { given_of result ≡ step (held_of state) piece.now }
 {
+    let started = start();
     if !block::is_proper(state.kind, state.taken, &state.octets) {
-        return refused(Refusal::StateImproper, start());
+        return refused(Refusal::StateImproper, started);
     }
     let found = block::place_of(state.taken, piece);
     let place = match found {
         Ok(place) => place,
-        Err(refusal) => return refused(refusal, start()),
+        Err(refusal) => return refused(refusal, started),
     };
     match place {
         Place::First(kind, last) => {
             let begun = State {
                 kind: u8::from(kind),
-                ..start()
+                ..started
             };
             add(begun, piece, last)
         }

@@ -32,6 +32,7 @@ pub fn write_blocks(message: &[u8], kind: Kind, used: usize, out: &mut [u8]) -> 
 }
 
 // The four blocks, over the output.
+// Stays a slice, out: `try_from` for `&mut` promises nothing of the memory afterwards, so the proof does not close.
 fn put_blocks(message: &[u8; MESSAGE], kind: Kind, used: usize, out: &mut [u8])
     requires { length out.old ≡ 92 }
     ensures { out.new ≡ blocks (kind_of kind) used message.now 4 }

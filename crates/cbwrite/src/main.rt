@@ -9,7 +9,6 @@ ghost use Rattle.cbwrite.specs.Inner.{typed};
 
 use arguments::{Asked, Program};
 use block::Kind;
-use block_writer::Sent;
 use plan::Plan;
 use refusals::Refusal;
 use sizes::MESSAGE;
@@ -99,10 +98,10 @@ fn write(
     let mut blocks = [0u8; 92];
     let answer = compose(current, previous, begin, &mut blocks);
     match answer {
-        Sent::Done => {
+        Ok(()) => {
             files::write_text(output, errors, b"cbwrite", &blocks);
         }
-        Sent::Refused(refusal) => say_why(errors, refusal, typed, current.count),
+        Err(refusal) => say_why(errors, refusal, typed, current.count),
     }
 }
 
@@ -117,13 +116,13 @@ fn say_why(errors: &impl Print, refusal: Refusal, typed: &[u8], count: usize) {
 }
 
 // The blocks of the schedule message of a plan, or a refusal.
-fn compose(current: Plan, previous: Plan, begin: usize, out: &mut [u8]) -> Sent
+fn compose(current: Plan, previous: Plan, begin: usize, out: &mut [u8]) -> Result<(), Refusal>
     ensures { sent_of result out.new ≡ composed (plan_of current) (plan_of previous) begin out.old }
 {
     let mut message = [0u8; MESSAGE];
     let answer = sender::write_schedule(current, previous, begin, &mut message);
     match answer {
         Ok(used) => block_writer::write_blocks(&message, Kind::Schedule, used, out),
-        Err(fault) => Sent::Refused(fault.refusal),
+        Err(fault) => Err(fault.refusal),
     }
 }

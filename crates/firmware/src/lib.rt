@@ -43,6 +43,8 @@ pub fn cb_intake(state: &mut [u8], piece: &[u8], output: &mut [u8]) -> u32
 }
 
 // The same for memory of the right lengths.
+// Stays slices, here and below: `try_from` for `&mut` promises nothing of the memory afterwards, so the proof of a call
+// on arrays does not close.
 fn take_in(state: &mut [u8], piece: &[u8], output: &mut [u8]) -> u32
     requires { (length state.old ≡ 90) × (length output.old ≡ 88) }
     ensures { record { returned = result; state = state.new; output = output.new } ≡ moved (step (held_in state.old) piece.now) output.old }
@@ -126,6 +128,7 @@ fn hand_out(state: &mut [u8], output: &mut [u8]) -> u32
     requires { (length state.old ≡ 90) × (length output.old ≡ 88) × (1 ≤ (held_in state.old).taken) }
     ensures { record { returned = result; state = state.new; output = output.new } ≡ moved (handed (held_in state.old)) output.old }
 {
+    // Stays a number: the kind lies as an octet in memory that C lends.
     let kind = state[0];
     let received = 22 * state[1] as u32;
     octets::copy(&state[2..], output);

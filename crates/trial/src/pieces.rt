@@ -5,6 +5,7 @@ use crate::fields::UNREAD;
 use crate::told::NO_VALUE;
 use crate::{fields, told};
 use block_intake::{Answer, Reply, State};
+use refusals::Refusal;
 use sizes::MESSAGE;
 
 // Octets of a state in a line.
@@ -119,11 +120,11 @@ fn held_in(lent: &[u8]) -> State
 }
 
 // The number of an answer.
-fn number(answer: Answer) -> u8 {
+fn number(answer: Result<Answer, Refusal>) -> u8 {
     match answer {
-        Answer::Page => 0,
-        Answer::Taken => 1,
-        Answer::Schedule => 7,
-        Answer::Refused(refusal) => refusals::number(refusal),
+        Ok(Answer::Page) => 0,
+        Ok(Answer::Taken) => 1,
+        Ok(Answer::Schedule) => 7,
+        Err(refusal) => u8::from(refusal),
     }
 }

@@ -8,12 +8,12 @@ use Rattle.block_intake.proofs.intake.Goals as goal
 pub returns-then-not-is_proper : goal.returns-then-not-is_proper
 returns-then-not-is_proper c =
     c.refused.ensures
-    ∙ ap (leaving 8) c.start.ensures
+    ∙ ap (leaving 8) c.start-started.ensures
     ∙ sym (step_improper (held_of c.args.state) c.args.piece.now (sym c.is_proper.ensures ∙ c.if-not-is_proper.true))
 
 pub add-requires : goal.add-requires
 add-requires c =
-    adds_first c.args.piece.now _ _ c.in-Ok.is (held_of c.start-in-First.result) 0 c.args.state.taken c.start-in-First.ensures c.place_of-found.ensures
+    adds_first c.args.piece.now _ _ c.in-Ok.is (held_of c.start-started.result) 0 c.args.state.taken c.start-started.ensures c.place_of-found.ensures
 
 pub add-requires-in-Next : goal.add-requires-in-Next
 add-requires-in-Next c =
@@ -22,7 +22,7 @@ add-requires-in-Next c =
 pub returns-in-First : goal.returns-in-First
 returns-in-First c =
     step_placed (held_of c.args.state) c.args.piece.now _ (sym c.is_proper.ensures ∙ c.if-not-is_proper.false) c.place_of-found.ensures _ _ _
-    c.in-Ok.is c.in-First.is (c.add.ensures ∙ begun_parts _ _ _ _ c.args.piece.now c.from.ensures c.start-in-First.ensures)
+    c.in-Ok.is c.in-First.is (c.add.ensures ∙ begun_parts _ _ _ _ c.args.piece.now c.from.ensures c.start-started.ensures)
 
 pub returns-in-Next : goal.returns-in-Next
 returns-in-Next c =
@@ -32,4 +32,4 @@ returns-in-Next c =
 pub returns-in-Err : goal.returns-in-Err
 returns-in-Err c =
     step_refused (held_of c.args.state) c.args.piece.now _ (sym c.is_proper.ensures ∙ c.if-not-is_proper.false) c.place_of-found.ensures _ _
-    c.in-Err.is (c.refused-in-Err.ensures ∙ ap (leaving _) c.start-in-Err.ensures)
+    c.in-Err.is (c.refused-in-Err.ensures ∙ ap (leaving _) c.start-started.ensures)
