@@ -2,7 +2,6 @@
 use Rattle.std.specs.Prelude.{Result, Ok, Err}
 use Rattle.laws.proofs.Base.{◌≡◌, sym, ap, ◌∙◌, List, ℕ, replicate, ne_eqb}
 use Rattle.refusals.specs.Number.{number_of}
-use Rattle.refusals.specs.declared.Refusal.{Refusal}
 use Rattle.refusals.proofs.Inverse.{number_of_positive}
 use Rattle.block.specs.Paper.{schedule}
 use Rattle.block_writer.specs.Paper.{written_blocks}
