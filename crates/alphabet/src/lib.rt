@@ -3,7 +3,7 @@
 
 pub mod tables;
 
-ghost use Rattle.std.specs.Prelude.{◌≡◌, ◌-◌, ◌<◌};
+ghost use Rattle.std.specs.Prelude.{◌≡◌, ◌-◌, ◌<◌, get_or};
 ghost use Rattle.laws.specs.Search.{lookup};
 ghost use Rattle.alphabet.specs.Paper.{code_point, pair_septet, septet_of};
 ghost use Rattle.alphabet.specs.Inner.{column, pair_point_by, point_by, septet_by};
@@ -11,9 +11,11 @@ ghost use Rattle.alphabet.specs.Inner.{column, pair_point_by, point_by, septet_b
 use tables::{CODE_POINTS, EXTENSION, SEPTETS};
 
 // What stands for the septet of a code point that has none.
+// Stays a number: the tables are octets, and no septet is FF.
 pub const NONE: u8 = 0xFF;
 
 // The code point of a septet, which is the low seven bits of its octet.
+#[tactic(auto, unfolding(crate::specs::Paper::code_point, crate::specs::Paper::alphabet))]
 pub fn code_point(septet: u8) -> u16
     ensures { result ≡ code_point septet }
 {
@@ -43,16 +45,15 @@ pub fn pair_point_by(table: &[u16; 128], septet: u8) -> u16
 }
 
 // What stands beside a key in its column, or another number.
+// Stays a number of a column: it is one search for both ways through the table.
 fn look_up(rows: &[[u16; 2]], by: usize, key: u16, other: u16) -> u16
     requires { by < 2 }
     ensures { result ≡ lookup (column by) (column (1 - by)) rows.now key other }
 {
-    let mut i = 0;
-    while i < rows.len() {
-        if rows[i][by] == key {
-            return rows[i][1 - by];
+    for row in rows {
+        if row[by] == key {
+            return row[1 - by];
         }
-        i += 1;
     }
     other
 }
@@ -63,16 +64,19 @@ fn look_up(rows: &[[u16; 2]], by: usize, key: u16, other: u16) -> u16
 pub fn code_point_by(table: &[u16; 128], septet: u8) -> u16
     ensures { result ≡ point_by table.now septet }
 {
-    table[(septet % 128) as usize]
+    entry(table, (septet % 128) as usize, 0)
 }
 
 // The septet that a table has for a code point, `NONE` past it.
 pub fn septet_by(table: &[u8; 938], code: u16) -> u8
     ensures { result ≡ septet_by table.now code }
 {
-    if code < 938 {
-        table[code as usize]
-    } else {
-        NONE
-    }
+    entry(table, code as usize, NONE)
+}
+
+// The entry at a place of a table, or another value past its end.
+fn entry<T: Copy, const N: usize>(table: &[T; N], place: usize, other: T) -> T
+    ensures { result ≡ get_or table.now place other }
+{
+    table.get(place).copied().unwrap_or(other)
 }

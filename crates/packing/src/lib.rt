@@ -1,7 +1,7 @@
 // Octets unpacked into septets: the same number, its digits to base 256 and to base 128.
 #![tactic(auto)]
 
-ghost use Rattle.std.specs.Prelude.{◌≡◌, ◌+◌, ◌/◌, ◌<◌, ◌≤◌, length, get_or};
+ghost use Rattle.std.specs.Prelude.{◌≡◌, ◌+◌, ◌/◌, ◌<◌, ◌≤◌, length};
 ghost use Rattle.laws.specs.Radix.{value, digits};
 ghost use Rattle.packing.specs.Inner.{Word, unpacked_into};
 
@@ -11,26 +11,10 @@ fn number(base: u64, list: &[u8]) -> u64
     ensures { result ≡ value base list.now }
 {
     let mut sum: u64 = 0;
-    let mut i = list.len();
-    while i > 0 {
-        i -= 1;
-        sum = sum * base + digit(list, i);
+    for i in (0..list.len()).rev() {
+        sum = sum * base + u64::from(list[i]);
     }
     sum
-}
-
-// An entry as a word.
-fn digit(list: &[u8], i: usize) -> u64
-    requires { i < length list.now }
-    ensures { result ≡ get_or list.now i 0 }
-{
-    wide(list[i])
-}
-
-fn wide(x: u8) -> u64
-    ensures { result ≡ x }
-{
-    x as u64
 }
 
 // As many digits of a number as there is room for, lowest first.
@@ -39,11 +23,9 @@ fn put(word: u64, base: u64, out: &mut [u8])
     ensures { out.new ≡ digits base (length out.old) word }
 {
     let mut rest = word;
-    let mut i = 0;
-    while i < out.len() {
-        out[i] = (rest % base) as u8;
-        rest = rest / base;
-        i += 1;
+    for digit in out.iter_mut() {
+        *digit = (rest % base) as u8;
+        rest /= base;
     }
 }
 
@@ -66,11 +48,9 @@ fn unpack_all(octets: &[u8], septets: &mut [u8])
     ensures { septets.new ≡ digits 128 (length septets.old) (value 256 octets.now) }
 {
     let groups = octets.len() / 7;
-    let mut g = 0;
-    while g < groups {
+    for g in 0..groups {
         let word = number(256, &octets[7 * g..7 * g + 7]);
         put(word, 128, &mut septets[8 * g..8 * g + 8]);
-        g += 1;
     }
     let word = number(256, &octets[7 * groups..]);
     put(word, 128, &mut septets[8 * groups..]);

@@ -1,7 +1,7 @@
 -- What the inner functions ask and promise.
 use Rattle.std.specs.Prelude.{ℕ, ◌-◌, ◌≤◌, ◌<◌, ◌≡◌, Bool, false, List, ◌∷◌, eqb, length, get_or, take, drop}
 use Rattle.laws.specs.Search.{some}
-use Rattle.alphabet.specs.Paper.{alphabet, escape}
+use Rattle.alphabet.specs.Paper.{escape}
 use Rattle.text.specs.Paper.{cr, decoded, shown, points}
 use Rattle.text_reader.specs.declared.reading.Decoded.{Decoded}
 
@@ -21,11 +21,6 @@ pub record Remain (t : List ℕ) (floor end n : ℕ) : Type 0 where
   pub high : n ≤ end
   pub dropped : (k : ℕ) → n ≤ k → k < end → get_or t k 0 ≡ cr
   pub stops : floor < n → get_or t (n - 1) 0 ≡ cr → ⊥
-
--- the alphabet, septets, and room for a character of each
-pub record Readable (table s t : List ℕ) : Type 0 where
-  pub lent : table ≡ alphabet
-  pub room : length s ≤ length t
 
 -- 02 No. 5: the first n places of t are the text that septets s are read as
 pub record Read (s : List ℕ) (n : ℕ) (t : List ℕ) : Type 0 where

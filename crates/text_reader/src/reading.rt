@@ -1,25 +1,28 @@
 // Septets read as characters, one after another.
 ghost use Rattle.std.specs.Prelude.{◌≡◌, ◌≤◌, ◌<◌, map, length, take};
-ghost use Rattle.alphabet.specs.Paper.{alphabet, code_point};
-ghost use Rattle.text_reader.specs.Inner.{Next, Read, Readable, Remain, escaping};
+ghost use Rattle.alphabet.specs.Paper.{code_point};
+ghost use Rattle.text_reader.specs.Inner.{Next, Read, Remain, escaping};
+
+use crate::points::Points;
 
 // A character, whether 1B stood before its septet, and the place after it.
 #[derive(Clone, Copy)]
 struct Decoded {
     point: u16,
+    // Stays a bool beside a value: the character has a code point either way.
     escaped: bool,
     after: usize,
 }
 
 // The character at a place: one septet's, or that of 1B and the septet after it.
-fn character(points: &[u16; 128], septets: &[u8], i: usize) -> Decoded
-    requires { (points.now ≡ alphabet) × (i < length septets.now) }
+fn character(table: Points<'_>, septets: &[u8], i: usize) -> Decoded
+    requires { i < length septets.now }
     ensures { Next septets.now i result }
 {
     let septet = septets[i];
     if septet != 0x1B {
         return Decoded {
-            point: alphabet::code_point_by(points, septet),
+            point: table.of(septet),
             escaped: false,
             after: i + 1,
         };
@@ -33,7 +36,7 @@ fn character(points: &[u16; 128], septets: &[u8], i: usize) -> Decoded
     }
     let paired = septets[i + 1];
     Decoded {
-        point: alphabet::pair_point_by(points, paired),
+        point: table.of_pair(paired),
         escaped: true,
         after: i + 2,
     }
@@ -44,27 +47,26 @@ fn without_crs(text: &[u16], floor: usize, end: usize) -> usize
     requires { (floor ≤ end) × (end ≤ length text.now) }
     ensures { Remain text.now floor end result }
 {
-    let mut n = end;
-    while n > floor {
-        if text[n - 1] != 0x0D {
-            return n;
+    for n in (floor..end).rev() {
+        if text[n] != 0x0D {
+            return n + 1;
         }
-        n -= 1;
     }
-    n
+    floor
 }
 
 // Writes the characters of septets one after another, and answers how many are left when the CRs at the end are dropped. None
 // is dropped that was escaped, and none before it.
-fn read_each(points: &[u16; 128], septets: &[u8], text: &mut [u16]) -> usize
-    requires { Readable points.now septets.now text.old }
+fn read_each(table: Points<'_>, septets: &[u8], text: &mut [u16]) -> usize
+    requires { length septets.now ≤ length text.old }
     ensures { Read septets.now result text.new }
 {
     let mut at = 0;
     let mut floor = 0;
     let mut i = 0;
+    // Stays a loop by index: the step is one or two septets.
     while i < septets.len() {
-        let next = character(points, septets, i);
+        let next = character(table, septets, i);
         text[at] = next.point;
         at += 1;
         if next.escaped {
@@ -81,37 +83,33 @@ fn has_escape(septets: &[u8]) -> bool
     ensures { result ≡ escaping septets.now }
 {
     let mut found = false;
-    let mut i = 0;
-    while i < septets.len() {
-        if septets[i] == 0x1B {
+    for septet in septets {
+        if *septet == 0x1B {
             found = true;
         }
-        i += 1;
     }
     found
 }
 
 // Writes the character of each septet.
-fn put_points(points: &[u16; 128], septets: &[u8], text: &mut [u16])
-    requires { Readable points.now septets.now text.old }
+fn put_points(table: Points<'_>, septets: &[u8], text: &mut [u16])
+    requires { length septets.now ≤ length text.old }
     ensures { take (length septets.now) text.new ≡ map code_point septets.now }
 {
-    let mut i = 0;
-    while i < septets.len() {
-        text[i] = alphabet::code_point_by(points, septets[i]);
-        i += 1;
+    for (i, septet) in septets.iter().enumerate() {
+        text[i] = table.of(*septet);
     }
 }
 
 // Writes the characters of septets, and answers how many are left without the CRs at the end. Where there is no 1B, as in most
 // pages, each septet is a character.
-pub(crate) fn read(points: &[u16; 128], septets: &[u8], text: &mut [u16]) -> usize
-    requires { Readable points.now septets.now text.old }
+pub(crate) fn read(table: Points<'_>, septets: &[u8], text: &mut [u16]) -> usize
+    requires { length septets.now ≤ length text.old }
     ensures { Read septets.now result text.new }
 {
     if has_escape(septets) {
-        return read_each(points, septets, text);
+        return read_each(table, septets, text);
     }
-    put_points(points, septets, text);
+    put_points(table, septets, text);
     without_crs(text, 0, septets.len())
 }

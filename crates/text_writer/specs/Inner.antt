@@ -1,15 +1,10 @@
 -- What the inner functions ask and promise.
-use Rattle.std.specs.Prelude.{ℕ, ◌+◌, ◌*◌, ◌/◌, ◌%◌, ◌^◌, ◌<◌, ◌≤◌, ◌≡◌, Bool, false, cond, List, [], ◌∷◌, eqb, leb, ltb, length, take, set}
+use Rattle.std.specs.Prelude.{ℕ, ◌+◌, ◌*◌, ◌/◌, ◌%◌, ◌^◌, ◌<◌, ◌≤◌, ◌≡◌, Bool, false, cond, Option, None, Some, List, [], ◌∷◌, eqb, leb, length, take, set}
 use Rattle.laws.specs.Radix.{Below, value, digits}
 use Rattle.laws.specs.Search.{some}
-use Rattle.alphabet.specs.Inner.{inverse}
 use Rattle.alphabet.specs.Paper.{septet_of, no_septet}
-use Rattle.page.specs.Paper.{Heading}
-use Rattle.text.specs.Paper.{bad_parameter, foreign, septets_of, unpadded}
-use Rattle.text_writer.specs.declared as own
-use own.Found.{Found}
-use own.Found.TheVariants.{Foreign, Septets}
-use own.filling.Filling.{Filling}
+use Rattle.text.specs.Paper.{foreign, septets_of, unpadded}
+use Rattle.text_writer.specs.declared.filling.Filling.{Filling}
 
 -- some character is past the table of septets
 abbrev pub past : List ℕ → Bool
@@ -19,30 +14,17 @@ past t = some (leb 938) t
 abbrev pub odd : List ℕ → Bool
 odd t = some (λ (c : ℕ). eqb (septet_of c) no_septet) t
 
--- 02 No. 5: what looking through a text finds
-abbrev pub looked : List ℕ → Found
-looked t = cond (foreign t) Foreign (Septets (length (unpadded t)))
-
--- 02 No. 5, order of the text writer: 15, 13 and 14 are past, and the table of septets is lent for 11
-pub record Asked (table : List ℕ) (h : Heading) (page : List ℕ) : Type 0 where
-  pub lent : table ≡ inverse
-  pub room : length page ≡ 88
-  pub scheme : ltb 0x0f h.scheme ≡ false
-  pub parameter : bad_parameter h.parameter ≡ false
+-- 02 No. 5: what looking through a text finds: how many septets it has, if each character is in one of the tables
+abbrev pub looked : List ℕ → Option ℕ
+looked t = cond (foreign t) None (Some (length (unpadded t)))
 
 -- a text that is in the tables, and how many septets it has
 pub record Known (text : List ℕ) (count : ℕ) : Type 0 where
   pub known : foreign text ≡ false
   pub counted : count ≡ length (unpadded text)
 
--- 11 is past too
-pub record Counted (table : List ℕ) (h : Heading) (text : List ℕ) (count : ℕ) (page : List ℕ) : Type 0 where
-  pub asked : Asked table h page
-  pub known : Known text count
-
--- the table, and a text that can be written into so much room
-pub record Writable (table : List ℕ) (text : List ℕ) (count size : ℕ) (out : List ℕ) : Type 0 where
-  pub lent : table ≡ inverse
+-- a text that can be written into so much room
+pub record Writable (text : List ℕ) (count size : ℕ) (out : List ℕ) : Type 0 where
   pub known : Known text count
   pub short : count ≤ 93
   pub room : length out ≡ size
@@ -93,8 +75,7 @@ AddableAll [] f o = Unit {0}
 AddableAll (s ∷ ss) f o = Addable f s o × AddableAll ss (added f s o).filling (added f s o).octets
 
 -- a character in the tables, whose septets can be added
-pub record Spellable (table : List ℕ) (c : ℕ) (f : Filling) (o : List ℕ) : Type 0 where
-  pub lent : table ≡ inverse
+pub record Spellable (c : ℕ) (f : Filling) (o : List ℕ) : Type 0 where
   pub known : foreign (c ∷ []) ≡ false
   pub addable : AddableAll (septets_of c) f o
 
@@ -103,7 +84,6 @@ abbrev pub unfilled : Filling
 unfilled = record { held = 0; weight = 1; at = 0 }
 
 -- a text in the tables, whose septets can be added from the first octet on
-pub record Textual (table text o : List ℕ) : Type 0 where
-  pub lent : table ≡ inverse
+pub record Textual (text o : List ℕ) : Type 0 where
   pub known : foreign text ≡ false
   pub addable : AddableAll (unpadded text) unfilled o

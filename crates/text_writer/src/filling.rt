@@ -3,6 +3,7 @@ ghost use Rattle.std.specs.Prelude.{◌≡◌, ◌-◌, replicate};
 ghost use Rattle.text.specs.Paper.{cr, packed, septets, septets_of, unpadded};
 ghost use Rattle.text_writer.specs.Inner.{Addable, AddableAll, Spellable, Textual, Writable, added, added_all, unfilled};
 
+use crate::septets::Septets;
 use text::PLACES;
 
 // An octet that is being filled: the bits that it has, what the lowest bit of the next septet counts in it, and its place.
@@ -14,6 +15,7 @@ struct Filling {
 }
 
 // Adds a septet: an empty octet only takes it in, any other one is full then.
+#[tactic(auto, unfolding(crate::specs::Inner::added))]
 fn add(filling: Filling, septet: u8, octets: &mut [u8]) -> Filling
     requires { Addable filling septet octets.old }
     ensures { record { filling = result; octets = octets.new } ≡ added filling septet octets.old }
@@ -36,11 +38,11 @@ fn add(filling: Filling, septet: u8, octets: &mut [u8]) -> Filling
 }
 
 // Adds the septets of a character: its own, or 1B and that of the extension table.
-fn add_character(table: &[u8; 938], code: u16, filling: Filling, octets: &mut [u8]) -> Filling
-    requires { Spellable table.now code filling octets.old }
+fn add_character(table: Septets<'_>, code: u16, filling: Filling, octets: &mut [u8]) -> Filling
+    requires { Spellable code filling octets.old }
     ensures { record { filling = result; octets = octets.new } ≡ added_all (septets_of code) filling octets.old }
 {
-    let own = alphabet::septet_by(table, code);
+    let own = table.of(code);
     if own < 128 {
         return add(filling, own, octets);
     }
@@ -50,8 +52,8 @@ fn add_character(table: &[u8; 938], code: u16, filling: Filling, octets: &mut [u
 }
 
 // Adds the septets of each character, from the first octet on.
-fn add_text(table: &[u8; 938], text: &[u16], octets: &mut [u8]) -> Filling
-    requires { Textual table.now text.now octets.old }
+fn add_text(table: Septets<'_>, text: &[u16], octets: &mut [u8]) -> Filling
+    requires { Textual text.now octets.old }
     ensures { record { filling = result; octets = octets.new } ≡ added_all (unpadded text.now) unfilled octets.old }
 {
     let mut filling = Filling {
@@ -59,10 +61,8 @@ fn add_text(table: &[u8; 938], text: &[u16], octets: &mut [u8]) -> Filling
         weight: 1,
         at: 0,
     };
-    let mut i = 0;
-    while i < text.len() {
-        filling = add_character(table, text[i], filling, octets);
-        i += 1;
+    for code in text {
+        filling = add_character(table, *code, filling, octets);
     }
     filling
 }
@@ -73,17 +73,15 @@ fn add_padding(count: usize, begun: Filling, octets: &mut [u8]) -> Filling
     ensures { record { filling = result; octets = octets.new } ≡ added_all (replicate (93 - count) cr) begun octets.old }
 {
     let mut filling = begun;
-    let mut i = count;
-    while i < PLACES {
+    for _ in count..PLACES {
         filling = add(filling, 0x0D, octets);
-        i += 1;
     }
     filling
 }
 
 // Packs a text and its padding into 82 octets. The bits of the last octet that no septet has are 0.
-pub(crate) fn pack(table: &[u8; 938], text: &[u16], count: usize, octets: &mut [u8])
-    requires { Writable table.now text.now count 82 octets.old }
+pub(crate) fn pack(table: Septets<'_>, text: &[u16], count: usize, octets: &mut [u8])
+    requires { Writable text.now count 82 octets.old }
     ensures { octets.new ≡ packed (septets text.now) }
 {
     let begun = add_text(table, text, octets);

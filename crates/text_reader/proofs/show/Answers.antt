@@ -1,7 +1,6 @@
 -- `text_reader::show` meets its contract: the array holds the whole septets, and what they are read as is shown.
 use Rattle.laws.proofs.Base.{◌≡◌, refl, ap, subst, ◌∙◌, List, ◌++◌, ℕ, ◌+◌, ◌*◌, ◌/◌, ◌≤◌, arith, length, take, drop, replicate, take_at, length-take-le}
 use Rattle.laws.specs.Radix.{value, digits}
-use Rattle.alphabet.specs.Paper.{alphabet}
 use Rattle.packing.proofs.Others.{unpacked_into_lem}
 use Rattle.text.specs.Paper.{blank_cell, whole_of, shown, shown_with, shown_text}
 use Rattle.text.proofs.Septets.{shown_few}
@@ -14,7 +13,6 @@ abbrev zeros : List ℕ
 zeros = replicate 93 0
 
 pub read-n-requires : goal.read-n-requires
-unfolding alphabet
 read-n-requires c =
     let content : List ℕ = c.args.content.now in
     let whole : ℕ = length content + length content / 7 in
@@ -23,10 +21,7 @@ read-n-requires c =
     let rest : List ℕ = drop whole zeros in
     let unpacked_length : length unpacked ≡ whole = c.unpack.auto.septets ∙ room in
     let lent_part : take whole (unpacked ++ rest) ≡ unpacked = take_at unpacked rest whole unpacked_length in
-    record {
-      lent = refl;
-      room = rw (lent_part, unpacked_length) (omega (arith, c.requires.0, c.requires.1));
-    }
+    rw (lent_part, unpacked_length) (omega (arith, c.requires.0, c.requires.1))
 
 pub returns : goal.returns
 unfolding shown_with whole_of

@@ -8,13 +8,13 @@ loop-i-init c = (refl, reached_start _ _)
 
 pub loop-i-preserved-then-next : goal.loop-i-preserved-then-next
 loop-i-preserved-then-next c =
-    let room : c.loop-i.at < length c.loop-i.text = let l = c.loop-i in let p = c.requires in omega (arith, p.room, l.invariant.0, l.invariant.1.few, c.loop-i-test.true) in
+    let room : c.loop-i.at < length c.loop-i.text = let l = c.loop-i in let p = c.requires in omega (arith, p, l.invariant.0, l.invariant.1.few, c.loop-i-test.true) in
     let l = c.loop-i in
     (length-set l.text l.at _ ∙ l.invariant.0, reached_escaped _ l.text l.at l.floor l.i _ _ _ l.invariant.1 c.character-next.ensures room c.if-next.true)
 
 pub loop-i-preserved : goal.loop-i-preserved
 loop-i-preserved c =
-    let room : c.loop-i.at < length c.loop-i.text = let l = c.loop-i in let p = c.requires in omega (arith, p.room, l.invariant.0, l.invariant.1.few, c.loop-i-test.true) in
+    let room : c.loop-i.at < length c.loop-i.text = let l = c.loop-i in let p = c.requires in omega (arith, p, l.invariant.0, l.invariant.1.few, c.loop-i-test.true) in
     let l = c.loop-i in
     (length-set l.text l.at _ ∙ l.invariant.0, reached_plain _ l.text l.at l.floor l.i _ _ _ l.invariant.1 c.character-next.ensures room c.if-next.false)
 

@@ -4,7 +4,4 @@ use Rattle.text.specs.Paper.{cr}
 use Rattle.text_reader.proofs.reading.without_crs.Given as goal
 
 abbrev pub invariant-loop-n : goal.invariant-loop-n
-invariant-loop-n l = (l.floor ≤ l.n) × (l.n ≤ l.end) × ((k : ℕ) → l.n ≤ k → k < l.end → get_or l.text k 0 ≡ cr)
-
-abbrev pub decreases-loop-n : goal.decreases-loop-n
-decreases-loop-n l = l.n
+invariant-loop-n l = (k : ℕ) → l.n ≤ k → k < l.end → get_or l.text k 0 ≡ cr

@@ -13,20 +13,20 @@ one_more i h =
 
 pub add-filling-requires : goal.add-filling-requires
 add-filling-requires c =
-    let rest : List ℕ = replicate (93 - (c.loop-i.i + 1)) cr in
-    let turn : AddableAll ((cr ∷ []) ++ rest) c.loop-i.filling c.loop-i.octets = rw (one_more c.loop-i.i c.loop-i-test.true) at c.loop-i.invariant.0 in
-    let l = c.loop-i in
+    let rest : List ℕ = replicate (93 - (c.loop.counter + 1)) cr in
+    let turn : AddableAll ((cr ∷ []) ++ rest) c.loop.filling c.loop.octets = rw (one_more c.loop.counter c.loop-test.true) at c.loop.invariant.0 in
+    let l = c.loop in
     first_addable (cr ∷ []) l.filling l.octets cr [] refl (front_addable (cr ∷ []) rest l.filling l.octets turn)
 
-pub loop-i-preserved : goal.loop-i-preserved
-loop-i-preserved c =
-    let rest : List ℕ = replicate (93 - (c.loop-i.i + 1)) cr in
-    let turn : AddableAll ((cr ∷ []) ++ rest) c.loop-i.filling c.loop-i.octets = rw (one_more c.loop-i.i c.loop-i-test.true) at c.loop-i.invariant.0 in
-    let l = c.loop-i in
+pub loop-preserved : goal.loop-preserved
+loop-preserved c =
+    let rest : List ℕ = replicate (93 - (c.loop.counter + 1)) cr in
+    let turn : AddableAll ((cr ∷ []) ++ rest) c.loop.filling c.loop.octets = rw (one_more c.loop.counter c.loop-test.true) at c.loop.invariant.0 in
+    let l = c.loop in
     let e = one_added (cr ∷ []) l.filling l.octets cr refl c.add-filling.ensures in (
       rest_addable (cr ∷ []) rest l.filling l.octets _ _ e turn,
       l.invariant.1
-          ∙ ap (λ (ss : List ℕ). added_all ss l.filling l.octets) (one_more l.i c.loop-i-test.true)
+          ∙ ap (λ (ss : List ℕ). added_all ss l.filling l.octets) (one_more l.counter c.loop-test.true)
           ∙ rest_added (cr ∷ []) rest l.filling l.octets _ _ e,
       c.add-filling.auto.octets ∙ l.invariant.2,
     )
@@ -34,6 +34,6 @@ loop-i-preserved c =
 pub returns : goal.returns
 unfolding added_all
 returns c =
-    let l = c.loop-i in
-    let none : 93 - l.i ≡ 0 = omega (arith, c.loop-i-test.false) in
+    let l = c.loop in
+    let none : 93 - l.counter ≡ 0 = omega (arith, c.loop-test.false) in
     sym (l.invariant.1 ∙ rw none)

@@ -4,11 +4,8 @@ use Rattle.text.specs.Paper.{cr}
 use Rattle.text_writer.specs.Inner.{AddableAll, added_all}
 use Rattle.text_writer.proofs.filling.add_padding.Given as goal
 
-abbrev pub invariant-loop-i : goal.invariant-loop-i
-invariant-loop-i l =
-    AddableAll (replicate (93 - l.i) cr) l.filling l.octets
-    × (added_all (replicate (93 - l.count) cr) l.initial.filling l.initial.octets ≡ added_all (replicate (93 - l.i) cr) l.filling l.octets)
+abbrev pub invariant-loop : goal.invariant-loop
+invariant-loop l =
+    AddableAll (replicate (93 - l.counter) cr) l.filling l.octets
+    × (added_all (replicate (93 - l.count) cr) l.initial.filling l.initial.octets ≡ added_all (replicate (93 - l.counter) cr) l.filling l.octets)
     × (length l.octets ≡ length l.initial.octets)
-
-abbrev pub decreases-loop-i : goal.decreases-loop-i
-decreases-loop-i l = 93 - l.i

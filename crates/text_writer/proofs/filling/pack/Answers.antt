@@ -9,7 +9,6 @@ pub add_text-begun-requires : goal.add_text-begun-requires
 add_text-begun-requires c =
     let short : length (unpadded c.args.text.now) ≤ 93 = omega (arith, c.requires.short, c.requires.known.counted) in
     record {
-      lent = c.requires.lent;
       known = c.requires.known.known;
       addable = text_addable c.args.text.now c.args.octets.now short c.requires.room;
     }
