@@ -1,7 +1,6 @@
 -- `text_reader::read_text` meets its contract: each return is the first test of the order that holds, and the last shows the text.
 use Rattle.laws.proofs.Base.{◌≡◌, sym, ap, ◌∙◌, true, List, ℕ, ◌-◌, ◌≤◌, min-le_left, arith, length, take, drop, length-take, ne_eqb}
 use Rattle.std.proofs.lemmas.Result.{err_from_is_err_and}
-use Rattle.refusals.specs.Number.{number_of}
 use Rattle.refusals.proofs.Inverse.{number_of_positive}
 use Rattle.sizes.specs.Paper.{whole_blocks}
 use Rattle.sizes.proofs.Received.{whole_bounds}
@@ -21,7 +20,7 @@ returns-in_err-content_answer c =
     let e = c.in_err-content_answer in
     let p = err_from_is_err_and c.from_residual.result c.from_residual.ensures.1 in
     rw (p.1, p.2)
-    (sym (reading_refused c.args.page.now c.args.received c.args.text.now (number_of e.field-0) c.if-text-ne-PLACES.false e.ensures (number_of_positive e.field-0)))
+    (sym (reading_refused c.args.page.now c.args.received c.args.text.now _ c.if-text-ne-PLACES.false e.ensures (number_of_positive _)))
 
 pub bounds-page-4 : goal.bounds-page-4
 bounds-page-4 c =

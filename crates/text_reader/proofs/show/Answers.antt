@@ -1,5 +1,5 @@
 -- `text_reader::show` meets its contract: the array holds the whole septets, and what they are read as is shown.
-use Rattle.laws.proofs.Base.{◌≡◌, refl, ap, subst, ◌∙◌, List, ◌++◌, ℕ, ◌+◌, ◌*◌, ◌/◌, ◌≤◌, arith, length, take, drop, replicate, take_at, length-take-le}
+use Rattle.laws.proofs.Base.{◌≡◌, ap, subst, ◌∙◌, List, ◌++◌, ℕ, ◌+◌, ◌*◌, ◌/◌, ◌≤◌, arith, length, take, drop, replicate, take_at, length-take-le}
 use Rattle.laws.specs.Radix.{value, digits}
 use Rattle.packing.proofs.Others.{unpacked_into_lem}
 use Rattle.text.specs.Paper.{blank_cell, whole_of, shown, shown_with, shown_text}
