@@ -14,7 +14,6 @@ use logs::Listing;
 use page::{Header, MessageId, Serial};
 use sizes::MESSAGE;
 use text::PLACES;
-use text_reader::Got;
 
 // Room for the longest line of each piece of a chunk.
 const ROOM: usize = 366592;
@@ -115,7 +114,7 @@ fn put_body(page: &[u8; MESSAGE], received: usize, out: &mut [u8], at: usize) ->
     // Stays a fixed array: read_text writes all of its places, and a program holds no heap.
     let mut points = [0u16; PLACES];
     let got = text_reader::read_text(page, received, &mut points);
-    if let Got::Characters(count) = got {
+    if let Ok(count) = got {
         return put_text(&points[..count], out, at);
     }
     put_content(page::content(page, received), out, at)

@@ -5,8 +5,6 @@ ghost use Rattle.std.specs.Prelude.{◌≡◌};
 ghost use Rattle.text_calls.specs.Paper.{write_call, read_call};
 
 use page::{MessageId, Serial};
-use text_reader::Got;
-use text_writer::Written;
 
 // Writes a page of text: number + 256 × used octets.
 pub fn cb_write_text(
@@ -28,8 +26,8 @@ pub fn cb_write_text(
         page,
     );
     match answer {
-        Written::Used(used) => 256 * used as u32,
-        Written::Refused(refusal) => refusals::number(refusal) as u32,
+        Ok(used) => 256 * used as u32,
+        Err(refusal) => u32::from(u8::from(refusal)),
     }
 }
 
@@ -39,7 +37,7 @@ pub fn cb_read_text(page: &[u8], received: usize, text: &mut [u16]) -> u32
 {
     let answer = text_reader::read_text(page, received, text);
     match answer {
-        Got::Characters(characters) => 256 * characters as u32,
-        Got::Refused(refusal) => refusals::number(refusal) as u32,
+        Ok(characters) => 256 * characters as u32,
+        Err(refusal) => u32::from(u8::from(refusal)),
     }
 }
