@@ -24,6 +24,7 @@ fn show(content: &[u8], text: &mut [u16]) -> usize
     ensures { reading_of (Ok result) text.new ≡ shown_text (shown (whole_of content.now)) }
 {
     let whole = content.len() + content.len() / 7;
+    // Stays an array that is filled up to a length: there is no heap under a call for C.
     let mut septets = [0u8; PLACES];
     packing::unpack(content, &mut septets[..whole]);
     let n = reading::read(points::default_alphabet(), &septets[..whole], text);

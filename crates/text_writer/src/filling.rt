@@ -68,6 +68,7 @@ fn add_text(table: Septets<'_>, text: &[u16], octets: &mut [u8]) -> Filling
 }
 
 // Adds the CRs that follow so many septets.
+// Stays a count: of septets, and not of octets.
 fn add_padding(count: usize, begun: Filling, octets: &mut [u8]) -> Filling
     requires { AddableAll (replicate (93 - count) cr) begun octets.old }
     ensures { record { filling = result; octets = octets.new } ≡ added_all (replicate (93 - count) cr) begun octets.old }
@@ -80,6 +81,7 @@ fn add_padding(count: usize, begun: Filling, octets: &mut [u8]) -> Filling
 }
 
 // Packs a text and its padding into 82 octets. The bits of the last octet that no septet has are 0.
+// Stays a count beside the text: it is of septets, of which a pair has two.
 pub(crate) fn pack(table: Septets<'_>, text: &[u16], count: usize, octets: &mut [u8])
     requires { Writable text.now count 82 octets.old }
     ensures { octets.new ≡ packed (septets text.now) }

@@ -48,6 +48,7 @@ fn is_plain(table: Septets<'_>, text: &[u16]) -> bool
 }
 
 // Whether some character is past the table. The loop has no early way out, so that the compiler can take many at once.
+// Stays a loop: `any` takes four times its instructions, and one search with a closure for all is no plainer at its callers.
 #[tactic(auto, using(crate::proofs::Foreign::past_steps))]
 fn has_past(text: &[u16]) -> bool
     ensures { result ≡ past text.now }
@@ -62,6 +63,7 @@ fn has_past(text: &[u16]) -> bool
 }
 
 // Whether some character's entry is the mark for none, which is no septet.
+// Stays a loop, as `has_past` does.
 #[tactic(auto, using(crate::proofs::Foreign::none_steps))]
 fn has_none(table: Septets<'_>, text: &[u16]) -> bool
     requires { past text.now ≡ false }
@@ -112,6 +114,7 @@ fn look(table: Septets<'_>, text: &[u16]) -> Option<usize>
 }
 
 // Makes a page of a header and a text.
+// Stays a count beside the text: it is of septets, of which a pair has two.
 fn put_page(table: Septets<'_>, heading: Header, text: &[u16], count: usize, page: &mut [u8])
     requires { Writable text.now count 88 page.old }
     ensures { page.new ≡ page_octets (heading_of heading) text.now }
