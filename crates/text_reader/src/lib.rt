@@ -32,7 +32,8 @@ fn show(content: &[u8], text: &mut [u16]) -> usize
     n
 }
 
-// Reads the text of what was received of a page, or refuses it and leaves the text as it is.
+// Reads the text of what was received of a page, or refuses it and leaves the text as it is. Text is 93 code points, of which the
+// answer is how many were read; the rest are spaces. Refused, in this order: OutputLength, what `page::content_answer` refuses, Scheme.
 pub fn read_text(page: &[u8], received: usize, text: &mut [u16]) -> Result<usize, Refusal>
     ensures { reading_of result text.new ≡ reading page.now received text.old }
 {

@@ -124,7 +124,9 @@ fn put_page(table: Septets<'_>, heading: Header, text: &[u16], count: usize, pag
     filling::pack(table, text, count, &mut page[6..]);
 }
 
-// Writes a page of text, or refuses it and leaves the page as it is.
+// Writes a page of text, or refuses it and leaves the page as it is: 88 octets, of which six are the header (GSM 03.41 9.3.2), and
+// the rest 93 septets of GSM 03.38, padded with CR. Text is code points, and the answer is the number of octets used. Refused, in
+// this order: OutputLength, Scheme, PageParameter, NotInAlphabet, TextLength, EndsInCr.
 #[tactic(auto, using(std::proofs::lemmas::Bool::Decides::nat_tests), unfolding(text::specs::Paper::written_page))]
 pub fn write_text(
     serial: Serial,
