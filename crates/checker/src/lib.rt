@@ -55,7 +55,10 @@ fn judge(said: Planned, message: &[u8], at: usize, count: usize, i: usize) -> u8
         return 0;
     }
     let slot = schedule::shown(message, i, at);
-    checker_slots::failing_rule(said, i + 1, slot)
+    match checker_slots::failing_rule(said, i + 1, slot) {
+        Some(rule) => u8::from(rule),
+        None => 0,
+    }
 }
 
 // Judges each slot, by the places of the descriptions and what the plans say of all.

@@ -1,2 +1,3 @@
 -- What `checker_slots` defines.
 pub mod Paper
+pub mod Coded
