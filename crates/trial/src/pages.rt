@@ -3,8 +3,6 @@ use crate::fields::UNREAD;
 use crate::told::DIFFERS;
 use crate::{fields, told};
 use page::{MessageId, Serial};
-use text_reader::Got;
-use text_writer::Written;
 
 // The septet that makes a pair with the one after it, and is a space by itself.
 const ESCAPE: u8 = 0x1B;
@@ -103,8 +101,8 @@ fn is_text(septets: &[u8; 93], page: &[u8; 88]) -> bool {
 fn read(page: &[u8], text: &mut [u16]) -> usize {
     let answer = text_reader::read_text(page, 88, text);
     match answer {
-        Got::Characters(characters) => characters,
-        Got::Refused(_) => 0,
+        Ok(characters) => characters,
+        Err(_) => 0,
     }
 }
 
@@ -112,8 +110,8 @@ fn read(page: &[u8], text: &mut [u16]) -> usize {
 fn write(text: &[u16], page: &mut [u8]) -> usize {
     let answer = text_writer::write_text(Serial(0), MessageId(0), 0, 0x11, text, page);
     match answer {
-        Written::Used(used) => used,
-        Written::Refused(_) => 0,
+        Ok(used) => used,
+        Err(_) => 0,
     }
 }
 
