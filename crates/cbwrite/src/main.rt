@@ -95,6 +95,7 @@ fn write(
     begin: usize,
     typed: &[u8],
 ) {
+    // Stays an array: programs take no heap.
     let mut blocks = [0u8; 92];
     let answer = compose(current, previous, begin, &mut blocks);
     match answer {
@@ -107,6 +108,7 @@ fn write(
 
 // Says why nothing was written. A wrong Begin is told as it was typed.
 fn say_why(errors: &impl Print, refusal: Refusal, typed: &[u8], count: usize) {
+    // Stays an array: programs take no heap.
     let mut line = [0u8; files::NAMES];
     if let Refusal::BeginOrEnd = refusal {
         refusal_lines::say_begin(errors, b"cbwrite", typed, count, &mut line);
@@ -119,7 +121,9 @@ fn say_why(errors: &impl Print, refusal: Refusal, typed: &[u8], count: usize) {
 fn compose(current: Plan, previous: Plan, begin: usize, out: &mut [u8]) -> Result<(), Refusal>
     ensures { sent_of result out.new ≡ composed (plan_of current) (plan_of previous) begin out.old }
 {
+    // Stays an array: programs take no heap.
     let mut message = [0u8; MESSAGE];
+    // Stays a match: ? would want a From that drops the entry of a fault.
     let answer = sender::write_schedule(current, previous, begin, &mut message);
     match answer {
         Ok(used) => block_writer::write_blocks(&message, Kind::Schedule, used, out),

@@ -121,6 +121,7 @@ pub fn say_fault(
 }
 
 fn fail(errors: &impl Print, error: Error, program: &[u8], name: &[u8]) {
+    // Stays an array: programs take no heap.
     let mut text = [0u8; NAMES];
     say_fault(errors, error, program, name, &mut text);
 }
@@ -202,6 +203,7 @@ pub fn fill(
 ) -> Result<usize, ReadFault>
     ensures { filled result ≤ length memory.old }
 {
+    // Stays a loop by a count: each step is as long as what a read gives.
     let mut have = 0;
     while have < memory.len() {
         match file.read(&mut memory[have..]) {

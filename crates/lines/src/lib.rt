@@ -30,6 +30,7 @@ pub fn put(octets: &[u8], text: &mut [u8], at: usize) -> usize
 pub fn put_number(number: u64, text: &mut [u8], at: usize) -> usize
     ensures { record { end = result; text = text.new } ≡ behind (decimal number) at text.old }
 {
+    // Stays an array: programs take no heap.
     let mut digits = [0u8; 20];
     let k = io::decimal(number, &mut digits);
     put(&digits[..k], text, at)

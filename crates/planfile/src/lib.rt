@@ -13,6 +13,7 @@ use std::rt::{Env, Files};
 // Says why a file is refused: by the entry that is named, or by the number's words.
 fn say_why(errors: &impl Print, program: &[u8], about: &[u8], file: &[u8], fault: Fault) {
     let Fault { refusal, entry } = fault;
+    // Stays an array: programs take no heap.
     let mut line = [0u8; refusal_lines::LINE];
     if entry == 0 {
         refusal_lines::say_refused(errors, program, about, refusal, &mut line);
@@ -44,6 +45,7 @@ fn take_open(
 ) -> Option<Plan>
     ensures { plan_number (taken_of result).plan ≡ 0 }
 {
+    // Stays an array: programs take no heap.
     let mut file = [0u8; 295];
     let got = files::fill(errors, program, path, source, &mut file);
     match got {
