@@ -1,12 +1,11 @@
 -- The slots that the reader of descriptions gives from opening on, collected one after the other.
-use Rattle.laws.proofs.Base.{◌≡◌, refl, sym, ap, ◌∙◌, false, cond, List, map, ◌⊎◌, inl, inr, ⊎_elim, ℕ, ◌+◌, ◌≤◌, ◌<◌, arith, length, get_or, set, replicate, get_or-replicate}
-use Rattle.laws.proofs.Base.{length-map, length-set, list_get_d_map, ext_get_or, get_or-set_same, get_or-set_other, eqb, ltb, lt-ltb, le-ltb, ltb-false, eqb-true, eqb-false}
+use Rattle.laws.proofs.Base.{◌≡◌, refl, sym, ap, ◌∙◌, false, cond, List, map, ◌⊎◌, inl, inr, ⊎_elim, ℕ, ◌≤◌, ◌<◌, arith, length, get_or, replicate, get_or-replicate}
+use Rattle.laws.proofs.Base.{length-map, list_get_d_map, ext_get_or, ltb, lt-ltb, le-ltb, ltb-false}
 use Rattle.laws.specs.Upto.{each}
-use Rattle.laws.proofs.Tests.{true_or_false, le_or_lt, below_other}
+use Rattle.laws.proofs.Tests.{true_or_false, le_or_lt}
 use Rattle.laws.proofs.Upto.{each_length, each_at}
 use Rattle.schedule.specs.declared.Description.TheVariants.{Optional}
 use Rattle.schedule.specs.Paper.{end, GivenSlot, next, no_more, refusal, given_at, given}
-use Rattle.schedule.specs.Coded.{shown_of}
 use Rattle.schedule.specs.Inner.{zeroed}
 use Rattle.schedule_given.specs.declared.Numbered.{Numbered as NumberedCode}
 use Rattle.descriptions.specs as defs
@@ -64,18 +63,6 @@ module _ (m : List ℕ) (received : ℕ) where
       }
 
 module _ {m : List ℕ} {received k : ℕ} {g : List NumberedCode} (e : Gave m received k g) where
-  pub gave_next : (x : NumberedCode) → k < 48 → next x.number (shown_of x.slot) ≡ given m received k → Gave m received (k + 1) (set g k x)
-  gave_next x l q =
-      record {
-        long = simp length-set e.long;
-        slots = λ i h.
-            true_or_false (eqb i k) (λ p. rw (eqb-true i k p) (ap kind (sym q))) (λ p. let other = eqb-false i k p in e.slots i (omega arith));
-        entries = λ i h.
-            true_or_false (eqb i k)
-            (λ p. rw (eqb-true i k p, get_or-set_same g k x past (omega (arith, e.long)), lt-ltb k (k + 1) (omega arith)) (ap entry q))
-            (λ p. let other = eqb-false i k p in rw (get_or-set_other g k i x past other) (e.entries i h ∙ rw (below_other i k other)));
-      }
-
   collected : (f : ℕ → Numbered) → ((i : ℕ) → i < 48 → up_to m received k i ≡ f i) → map numbered_of g ≡ each f 48
   collected f h =
       ext_get_or (numbered_of past) (map numbered_of g) (each f 48) (length-map g numbered_of ∙ e.long ∙ sym (each_length f 48))

@@ -38,13 +38,7 @@ module _ (m : List ℕ) (received : ℕ) where
         go (whole w h o) =
             rw (h k) (le_or_lt (end m) k (λ past. rw (le-ltb k (end m) past) (omega arith)) (λ within. rw (lt-ltb k (end m) within) (omega arith)))
 
-    pub step_made : ◌≡◌ {A = Stepped} (record { given = g; place = k + n }) (stepped m received k)
-    step_made = let q = passes ∙ ap passed gives in λ i. record { given = gives i; place = k + q i }
-
   -- a step at place k that gave x
   module _ (k : ℕ) (t : SteppedCode) (step : stepped_of t ≡ stepped m received k) (x : Result (Option NumberedCode) Refusal) (gave : t.given ≡ x) where
     pub step_gave : given_of x ≡ given m received k
     step_gave = sym (ap given_of gave) ∙ ap (λ (s : Stepped). s.given) step
-
-    pub step_left : t.place ≡ k + passed (given_of x)
-    step_left = ap (λ (s : Stepped). s.place) step ∙ ap (λ (y : GivenSlot). k + passed y) (sym step_gave)
