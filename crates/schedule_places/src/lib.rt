@@ -108,12 +108,13 @@ fn find_group(
 // The description that starts at a place, with the place behind it; none where it passes the received octets.
 #[tactic(auto, unfolding(crate::specs::Inner::step))]
 fn step_at(message: &[u8], received: usize, at: usize) -> Option<(Description, usize)>
+    requires { (length message.now ≡ 88) × (received ≤ 88) }
     ensures { stepped_of result ≡ step message.now received at }
 {
     if at >= received {
         return None;
     }
-    if schedule::octet_at(message, at) < 0x80 {
+    if message[at] < 0x80 {
         return Some((schedule::told_at(message, at), at + 1));
     }
     if at + 1 >= received {
