@@ -26,17 +26,11 @@ module _ (k : Kind) (used : ℕ) (m : List ℕ) (long : length m ≡ 88) where
   length_blocks (suc n) h =
       length-append (blocks k used m n) (block k used m n) ∙ rw (length_blocks n (le_of_lt h), length_block n h) (omega arith)
 
-  pub length_written : (i : ℕ) (out₀ out : List ℕ) → i ≤ 4 → length out₀ ≡ 92 → out ≡ blocks k used m i ++ drop (23 * i) out₀ → length out ≡ 92
-  length_written i out₀ out h size inv = rw inv (simp (length-append, length-drop, length_blocks i h) (omega arith))
-
   -- all four blocks stand where the output stood
   pub written_all : (out₀ : List ℕ) → length out₀ ≡ 92 → blocks k used m 4 ++ drop 92 out₀ ≡ blocks k used m 4
   written_all out₀ size = rw (drop_of_length-le out₀ {i = 92} (omega arith)) (append-nil (blocks k used m 4))
 
-  module _ (i : ℕ) (out₀ out : List ℕ) (h : i < 4) (size : length out₀ ≡ 92) (inv : out ≡ blocks k used m i ++ drop (23 * i) out₀) where
-    length_out : length out ≡ 92
-    length_out = length_written i out₀ out (le_of_lt h) size inv
-
+  module _ (i : ℕ) (out₀ out : List ℕ) (h : i < 4) (size : length out ≡ 92) (inv : out ≡ blocks k used m i ++ drop (23 * i) out₀) where
     front : take (23 * i) out ≡ blocks k used m i
     front = rw inv (take_at (blocks k used m i) (drop (23 * i) out₀) (23 * i) (length_blocks i (le_of_lt h)))
 
@@ -52,12 +46,12 @@ module _ (k : Kind) (used : ℕ) (m : List ℕ) (long : length m ≡ 88) where
     unfolding blocks block
     write_turn x y t q =
         let n : 22 * i + 22 - 22 * i ≡ 22 = omega arith in
-        let at : 23 * i < length out = omega (arith, length_out) in
+        let at : 23 * i < length out = omega arith in
         let e : 23 * suc i ≡ 23 * i + 23 = omega arith in
         let head : take (23 * i + 1) (set out (23 * i) x) ≡ blocks k used m i ++ (type_of k used i ∷ []) =
         rw add-one (take-suc-set out (23 * i) x at ∙ rw (front, t)) in
         let tail : drop (23 * i + 23) (set out (23 * i) x) ≡ drop (23 * i + 23) out₀ =
         drop-set-lt (23 * i + 23) out (23 * i) x (omega arith) ∙ back in
         put_copy (23 * i + 1) (23 * i + 23) (set out (23 * i) x) (mid_of (22 * i) (22 * i + 22 - 22 * i) m) y (omega arith)
-        (simp length-set (omega (arith, length_out))) q
+        (simp length-set (omega arith)) q
         ∙ rw (head, tail, n, add-one, e) (simp append_assoc)

@@ -12,7 +12,7 @@ loop-i-init c = refl
 
 pub loop-i-preserved : goal.loop-i-preserved
 loop-i-preserved c =
-    write_turn (kind_of c.args.kind) c.args.used c.args.message.now (search rules) c.loop-i.i c.args.out.now c.loop-i.out (omega arith) c.requires
+    write_turn (kind_of c.args.kind) c.args.used c.args.message.now (search rules) c.loop-i.i c.args.out.now c.loop-i.out (omega arith) (omega arith)
     c.loop-i.invariant c.block_type.result c.copy.new.to c.block_type.ensures c.copy.ensures
 
 pub returns : goal.returns
