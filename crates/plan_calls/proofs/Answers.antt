@@ -1,27 +1,25 @@
 -- Laws of what the schedule writer's and the checker's answers for the plans of two files leave a C caller with.
+use Rattle.std.specs.Prelude.{⊤, Result, Ok, Err}
 use Rattle.laws.proofs.Base.{◌≡◌, sym, ap, ◌∙◌, Bool, true, false, cond, List, ℕ, ◌≤◌, arith, length, eqb, eqb-true, eq-eqb, ne_eqb, not-false}
 use Rattle.laws.specs.Ruled.{ruled}
 use Rattle.laws.specs.Upto.{lowest}
 use Rattle.laws.proofs.Ruled.{Ruling, refuses, passes, ruling, ruled_map}
 use Rattle.laws.proofs.Lowest.{Lowest, none_passes, first_passes, lowest_is}
-use Rattle.refusals.specs.declared.Refusal.{Refusal}
 use Rattle.refusals.specs.Number.{number_of}
 use Rattle.schedule.specs.Paper.{end}
 use Rattle.refusals.proofs.Inverse.{number_of_positive}
-use Rattle.plan.specs.declared.Verdict.{Verdict}
-use Rattle.plan.specs.declared.Verdict.TheVariants as verdicts
+use Rattle.plan.specs.declared.Fault.{Fault}
+use Rattle.plan.specs.declared.Plan.{Plan as PlanCode}
 use Rattle.plan.specs.Paper.{Plan, naming, plans_entry}
 use Rattle.plan_read.specs.Paper.{read_plan}
-use Rattle.plan.specs.Coded.{plan_of, verdict_of}
+use Rattle.plan.specs.Coded.{plan_of}
 use Rattle.plan.proofs.GoodPlan.{good_counted}
 use Rattle.plan.proofs.Plans.{plans_few}
 use Rattle.sender_message.specs.Paper.{MessageLeft, unwritten}
-use Rattle.sender.specs.declared.Sending.{Sending}
-use Rattle.sender.specs.declared.Sending.TheVariants.{Written}
 use Rattle.sender.specs.Paper.{ScheduleLeft, unwritten_naming, write_schedule}
 use Rattle.sender.specs.Coded.{sending_of}
 use Rattle.sender.proofs.Cases.{accepts}
-use Rattle.checker.specs.declared.Checking.{Checking}
+use Rattle.checker.specs.declared.SlotFault.{SlotFault}
 use Rattle.checker.specs.Paper.{Checked, unchecked, refused_at, untrue_at, untrue, verdict, faults, check, SlotsChecked, unjudged, check_slots}
 use Rattle.checker.specs.Inner.{slots_beside}
 use Rattle.checker.specs.Coded.{checked_of}
@@ -32,12 +30,13 @@ use Rattle.calls.specs.Claims.{IsLeft}
 use Rattle.calls.proofs.Packed.{left_number}
 use Rattle.plan_calls.specs as defs
 use defs.Paper.{file_faults, files_entry, written_from, written_left, write_schedule_call, checked_beside, packed_checked, check_schedule_call, slots_beside_files, packed_slots, check_slots_call}
-use Rattle.plan_calls.proofs.Filed.{Files, Filed, files_of, filed, files_refused, files_good, files_entry_lem, files_named}
+use defs.Inner.{Both}
+use Rattle.plan_calls.proofs.Filed.{files_refused, files_entry_lem, files_named, files_good, current_read, previous_read}
 
 -- a refusal and the entry that comes with it, packed
-pub refused_left_lem : (g : Refusal) (s : ℕ) {r : ℕ} {o : List ℕ} → r ≡ in_one (number_of g) s
-    → IsLeft r o (written_left (record { left = unwritten o (number_of g); entry = s }))
-refused_left_lem g s {r} {o} n = rw (ne_eqb (number_of g) 0 (number_of_positive g)) (ap (λ (x : ℕ). record { returned = x; memory = o }) n)
+pub refused_left_lem : (f : Fault) {r : ℕ} {o : List ℕ} → r ≡ in_one (number_of f.refusal) f.entry
+    → IsLeft r o (written_left (record { left = unwritten o (number_of f.refusal); entry = f.entry }))
+refused_left_lem f {r} {o} n = rw (ne_eqb (number_of f.refusal) 0 (number_of_positive f.refusal)) (ap (λ (x : ℕ). record { returned = x; memory = o }) n)
 
 module _ (c p : List ℕ) (b : ℕ) (o : List ℕ) where
   pub refuses_output : {r : ℕ} → r ≡ 15 → (length o ≡ 88 → ⊥) → IsLeft r o (write_schedule_call c p b o)
@@ -45,33 +44,32 @@ module _ (c p : List ℕ) (b : ℕ) (o : List ℕ) where
       let first : record { left = unwritten o 15; entry = 0 } ≡ written_from c p b o = rw (ne_eqb (length o) 88 e) in
       left_number n ∙ ap written_left first
 
-  module _ (room : length o ≡ 88) (f : Files) (e : files_of f ≡ filed c p) where
+  module _ (room : length o ≡ 88) where
     -- past the test of the output
     past_output : ruled (unwritten_naming (files_entry c p) o) (file_faults c p) (write_schedule (read_plan c).plan (read_plan p).plan b o) ≡ written_from c p b o
     past_output = rw (eq-eqb (length o) 88 room)
 
-    pub refuses_files : {g : Refusal} {s r : ℕ} → f.verdict ≡ verdicts.Refused g s → r ≡ in_one (number_of g) s
-        → IsLeft r o (write_schedule_call c p b o)
-    refuses_files {g} {s} k n =
-        let number : number_of g ≡ (filed c p).number = sym (ap (λ (v : Verdict). (verdict_of v).number) k) ∙ ap (λ (z : Filed). z.number) e in
-        let entry : s ≡ naming (number_of g) (files_entry c p) =
-        sym (files_entry_lem c p f e k) ∙ sym (files_named c p) ∙ ap (λ (m : ℕ). naming m (files_entry c p)) (sym number) in
-        refused_left_lem g s n
+    pub refuses_files : (f : Fault) {r : ℕ} → Both c p (Err f) → r ≡ in_one (number_of f.refusal) f.entry → IsLeft r o (write_schedule_call c p b o)
+    refuses_files f e n =
+        let entry : f.entry ≡ naming (number_of f.refusal) (files_entry c p) =
+        sym (files_named c p f e) ∙ ap (naming (number_of f.refusal)) (sym (files_entry_lem c p f e)) in
+        refused_left_lem f n
         ∙ ap written_left
-        (ap (λ (t : ℕ). record { left = unwritten o (number_of g); entry = t }) entry
-        ∙ files_refused c p (unwritten_naming (files_entry c p) o) f e (write_schedule (read_plan c).plan (read_plan p).plan b o) k ∙ past_output)
+        (ap (λ (t : ℕ). record { left = unwritten o (number_of f.refusal); entry = t }) entry
+        ∙ files_refused c p f e (unwritten_naming (files_entry c p) o) (write_schedule (read_plan c).plan (read_plan p).plan b o)
+        ∙ past_output)
 
     -- the writer's answer for the plans is that for the files
-    pub as_filed : {w : ScheduleLeft} → f.verdict ≡ verdicts.Good → w ≡ write_schedule (plan_of f.current) (plan_of f.previous) b o → w ≡ written_from c p b o
-    as_filed k q =
-        q
-        ∙ (λ i. write_schedule (e i).current (e i).previous b o)
-        ∙ files_good c p (unwritten_naming (files_entry c p) o) f e (write_schedule (read_plan c).plan (read_plan p).plan b o) k
+    pub as_filed : (q : PlanCode × PlanCode) {w : ScheduleLeft} → Both c p (Ok q) → w ≡ write_schedule (plan_of q.0) (plan_of q.1) b o → w ≡ written_from c p b o
+    as_filed q e k =
+        k
+        ∙ (λ i. write_schedule (current_read c p q e i) (previous_read c p q e i) b o)
+        ∙ files_good c p q e (unwritten_naming (files_entry c p) o) (write_schedule (read_plan c).plan (read_plan p).plan b o)
         ∙ past_output
 
-pub message_small : (c p : Plan) (b : ℕ) (o q : List ℕ) {a : Sending} {u : ℕ} → sending_of a q ≡ write_schedule c p b o → a ≡ Written u → u ≤ 88
-message_small c p b o q e k =
-    let w = ap (λ (z : ScheduleLeft). z.left) (rw k at e) in
+pub message_small : (c p : Plan) (b : ℕ) (o q : List ℕ) {u : ℕ} → sending_of (Ok u) q ≡ write_schedule c p b o → u ≤ 88
+message_small c p b o q {u} e =
+    let w = ap (λ (z : ScheduleLeft). z.left) e in
     let s = accepts c p b o (sym (ap (λ (z : MessageLeft). z.number) w)) in
     omega (arith, s.few, ap (λ (z : MessageLeft). z.used) (w ∙ s.writes))
 
@@ -114,7 +112,7 @@ module _ (c p m : List ℕ) (received : ℕ) (w : List ℕ) where
   pub refuses_verdicts : {r : ℕ} → r ≡ 15 → (length w ≡ 48 → ⊥) → IsLeft r w (check_slots_call c p m received w)
   refuses_verdicts n e = rw (ne_eqb (length w) 48 e) (ap (λ (x : ℕ). record { returned = x; memory = w }) n)
 
-  module _ (room : length w ≡ 48) (f : Files) (e : files_of f ≡ filed c p) where
+  module _ (room : length w ≡ 48) where
     abbrev past : SlotsChecked
     past = check_slots (read_plan c).plan (read_plan p).plan m received w
 
@@ -122,24 +120,24 @@ module _ (c p m : List ℕ) (received : ℕ) (w : List ℕ) where
     past_verdicts : ruled (unjudged (files_entry c p) w) (file_faults c p) past ≡ slots_beside_files c p m received w
     past_verdicts = rw (eq-eqb (length w) 48 room)
 
-    pub refuses_both : {g : Refusal} {s r : ℕ} → f.verdict ≡ verdicts.Refused g s → r ≡ in_one (number_of g) s → IsLeft r w (check_slots_call c p m received w)
-    refuses_both {g} {s} {r} k n =
+    pub refuses_both : (f : Fault) {r : ℕ} → Both c p (Err f) → r ≡ in_one (number_of f.refusal) f.entry → IsLeft r w (check_slots_call c p m received w)
+    refuses_both f e n =
         ap (λ (x : ℕ). record { returned = x; memory = w }) n
         ∙ ap packed_slots
-        (ap (λ (t : ℕ). unjudged t w (number_of g)) (sym (files_entry_lem c p f e k))
-        ∙ files_refused c p (unjudged (files_entry c p) w) f e past k ∙ past_verdicts)
+        (ap (λ (t : ℕ). unjudged t w (number_of f.refusal)) (sym (files_entry_lem c p f e))
+        ∙ files_refused c p f e (unjudged (files_entry c p) w) past ∙ past_verdicts)
 
     -- the checker's answer for the plans is that for the files
-    pub as_beside : {x : SlotsChecked} → f.verdict ≡ verdicts.Good → x ≡ slots_beside (beside (plan_of f.current) (plan_of f.previous)) m received w
+    pub as_beside : (q : PlanCode × PlanCode) {x : SlotsChecked} → Both c p (Ok q) → x ≡ slots_beside (beside (plan_of q.0) (plan_of q.1)) m received w
         → x ≡ slots_beside_files c p m received w
-    as_beside k q =
-        q
-        ∙ slots_beside_lem (plan_of f.current) (plan_of f.previous) m received w
-        ∙ (λ i. check_slots (e i).current (e i).previous m received w)
-        ∙ files_good c p (unjudged (files_entry c p) w) f e past k
+    as_beside q e k =
+        k
+        ∙ slots_beside_lem (plan_of q.0) (plan_of q.1) m received w
+        ∙ (λ i. check_slots (current_read c p q e i) (previous_read c p q e i) m received w)
+        ∙ files_good c p q e (unjudged (files_entry c p) w) past
         ∙ past_verdicts
 
-pub named_small : (c p : Plan) (m : List ℕ) (received : ℕ) (w x : List ℕ) (a : Checking) → length w ≡ 48
+pub named_small : (c p : Plan) (m : List ℕ) (received : ℕ) (w x : List ℕ) (a : Result ⊤ SlotFault) → length w ≡ 48
     → record { checked = checked_of a; verdicts = x } ≡ slots_beside (beside c p) m received w → (checked_of a).slot ≤ 48
 named_small c p m received w x a room e =
     omega

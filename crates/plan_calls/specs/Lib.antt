@@ -1,2 +1,3 @@
 -- What `plan_calls` defines.
 pub mod Paper
+pub mod Inner

@@ -1,17 +1,14 @@
 // The entries for C that take plans, as files: they read them, and write and check schedule messages beside them.
 #![tactic(auto)]
 
-ghost use Rattle.std.specs.Prelude.{◌≡◌, cond, ◌≤◌, eqb};
+ghost use Rattle.std.specs.Prelude.{◌≡◌};
 ghost use Rattle.refusals.specs.Number.{number_of};
 ghost use Rattle.calls.specs.Paper.{in_one};
-ghost use Rattle.plan.specs.Coded.{verdict_of};
-ghost use Rattle.checker.specs.Coded.{checked_of};
-ghost use Rattle.plan_calls.specs.Paper.{plan_call, write_schedule_call, packed_checked, check_slots_call, check_schedule_call};
+ghost use Rattle.plan_calls.specs.Paper.{plan_call, write_schedule_call, check_slots_call, check_schedule_call};
+ghost use Rattle.plan_calls.specs.Inner.{Both};
 
-use checker::Checking;
-use plan::Verdict;
+use plan::{Fault, Plan};
 use refusals::Refusal;
-use sender::Sending;
 use sizes::{MESSAGE, SLOTS};
 
 // Reads a plan file: number + 256 × count, or the entry that the number names.
@@ -19,28 +16,26 @@ pub fn cb_read_plan(file: &[u8]) -> u32
     ensures { result ≡ plan_call file.now }
 {
     let reading = plan_read::read_plan(file);
-    let verdict = reading.verdict;
-    match verdict {
-        Verdict::Good => 256 * reading.plan.count as u32,
-        Verdict::Refused(refusal, entry) => packed(refusal, entry),
+    match reading {
+        Ok(plan) => 256 * plan.count as u32,
+        Err(fault) => packed(fault),
     }
 }
 
 // A refusal and the entry that comes with it, as one number.
-fn packed(refusal: Refusal, entry: u8) -> u32
-    ensures { result ≡ in_one (number_of refusal) entry }
+fn packed(fault: Fault) -> u32
+    ensures { result ≡ in_one (number_of fault.refusal) fault.entry }
 {
-    refusals::number(refusal) as u32 + 256 * entry as u32
+    u32::from(u8::from(fault.refusal)) + 256 * u32::from(fault.entry)
 }
 
-// The refusal of the current plan file, and where it has none that of the previous one.
-fn first_refusal(current: Verdict, previous: Verdict) -> Verdict
-    ensures { verdict_of result ≡ cond (eqb (verdict_of current).number 0) (verdict_of previous) (verdict_of current) }
+// The plans of two files. Where both are refused, the current one's fault is told.
+fn read_both(current: &[u8], previous: &[u8]) -> Result<(Plan, Plan), Fault>
+    ensures { Both current.now previous.now result }
 {
-    match current {
-        Verdict::Good => previous,
-        Verdict::Refused(refusal, entry) => Verdict::Refused(refusal, entry),
-    }
+    let plan = plan_read::read_plan(current)?;
+    let older = plan_read::read_plan(previous)?;
+    Ok((plan, older))
 }
 
 // Writes the schedule message of a plan file, beside the file before it: number + 256 × used octets, or the entry that the number names.
@@ -48,33 +43,17 @@ pub fn cb_write_schedule(current: &[u8], previous: &[u8], begin: usize, out: &mu
     ensures { record { returned = result; memory = out.new } ≡ write_schedule_call current.now previous.now begin out.old }
 {
     if out.len() != MESSAGE {
-        return refusals::number(Refusal::OutputLength) as u32;
+        return u32::from(u8::from(Refusal::OutputLength));
     }
-    let this = plan_read::read_plan(current);
-    let last = plan_read::read_plan(previous);
-    let verdict = this.verdict;
-    let other = last.verdict;
-    let first = first_refusal(verdict, other);
-    if let Verdict::Refused(refusal, entry) = first {
-        return packed(refusal, entry);
-    }
-    let plan = this.plan;
-    let older = last.plan;
+    let plans = read_both(current, previous);
+    let (plan, older) = match plans {
+        Ok(both) => both,
+        Err(fault) => return packed(fault),
+    };
     let answer = sender::write_schedule(plan, older, begin, out);
     match answer {
-        Sending::Written(used) => 256 * used as u32,
-        Sending::Refused(refusal, entry) => packed(refusal, entry),
-    }
-}
-
-// The checker's answer as one number.
-fn packed_checking(checking: Checking) -> u32
-    requires { (checked_of checking).slot ≤ 48 }
-    ensures { result ≡ packed_checked (checked_of checking) }
-{
-    match checking {
-        Checking::True => 0,
-        Checking::Refused(refusal, slot) => { refusals::number(refusal) as u32 + 256 * slot as u32 }
+        Ok(used) => 256 * used as u32,
+        Err(fault) => packed(fault),
     }
 }
 
@@ -89,21 +68,19 @@ pub fn cb_check_slots(
     ensures { record { returned = result; memory = verdicts.new } ≡ check_slots_call current.now previous.now message.now received verdicts.old }
 {
     if verdicts.len() != SLOTS {
-        return refusals::number(Refusal::OutputLength) as u32;
+        return u32::from(u8::from(Refusal::OutputLength));
     }
-    let this = plan_read::read_plan(current);
-    let last = plan_read::read_plan(previous);
-    let verdict = this.verdict;
-    let other = last.verdict;
-    let first = first_refusal(verdict, other);
-    if let Verdict::Refused(refusal, entry) = first {
-        return packed(refusal, entry);
+    let plans = read_both(current, previous);
+    let (plan, older) = match plans {
+        Ok(both) => both,
+        Err(fault) => return packed(fault),
+    };
+    let said = checker_plans::beside(plan, older);
+    let answer = checker::check_slots(said, message, received, verdicts);
+    match answer {
+        Ok(()) => 0,
+        Err(fault) => u32::from(u8::from(fault.refusal)) + 256 * fault.slot as u32,
     }
-    let plan = this.plan;
-    let older = last.plan;
-    let plans = checker_plans::beside(plan, older);
-    let answer = checker::check_slots(plans, message, received, verdicts);
-    packed_checking(answer)
 }
 
 // Checks a schedule message beside two plan files: number + 256 × slot, or the entry that the number names.
