@@ -47,6 +47,7 @@ impl From<Fault> for SlotFault {
 
 // Which rule fails first at slot i, counted from 0, by the place of its description and what the plans say of it; 0 for none, and
 // past the count.
+// Stays a number: check_slots and, for C, cb_check_slots lend their verdicts as octets.
 fn judge(said: Planned, message: &[u8], at: usize, count: usize, i: usize) -> u8
     requires { i < 48 }
     ensures { result ≡ rule_from said message.now at count i }

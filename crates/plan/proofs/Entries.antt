@@ -1,5 +1,5 @@
 -- Entries of an array as their numbers.
-use Rattle.laws.proofs.Base.{◌≡◌, ◌∙◌, List, ℕ, ◌≤◌, ◌<◌, length, get_or, take, length-map, length-take-le, get_or-take, list_get_d_map}
+use Rattle.laws.proofs.Base.{◌≡◌, List, ℕ, ◌<◌, length, get_or, list_get_d_map}
 use Rattle.plan.specs as defs
 use defs.Paper.{free}
 use defs.Coded.{entry_of, entries_of}
@@ -13,11 +13,3 @@ module _ (es : List EntryCode) where
   -- an entry of an array as its numbers
   pub entry_at : (i : ℕ) → i < length es → get_or (entries_of es) i free ≡ entry_of (get_or es i none)
   entry_at i k = list_get_d_map entry_of es i none
-
-  -- the first n entries
-  module _ (n : ℕ) where
-    pub length_within : n ≤ length es → length (take n (entries_of es)) ≡ n
-    length_within h = length-take-le n (entries_of es) (rw length-map h)
-
-    pub entry_within : (i : ℕ) → i < n → get_or (take n (entries_of es)) i free ≡ entry_of (get_or es i none)
-    entry_within i k = get_or-take n (entries_of es) i free k ∙ list_get_d_map entry_of es i none

@@ -1,7 +1,7 @@
 -- Marks: two entries with a page have the same one exactly if their marks are equal, so that a search among marks finds a page's slots.
 use Rattle.laws.proofs.Base.{◌≡◌, refl, sym, ap, ◌∙◌, Bool, true, false, not, ◌&&◌, List, [], ◌∷◌, ℕ, zero, suc, ◌+◌, ◌<◌, min, arith, eqb, ltb, length, get_or, take, set}
 use Rattle.laws.proofs.Base.{length-map, length-set, take_all, get_or-set_same, get_or-set_other, eq-eqb, ne_eqb, eqb-true, eqb-false, ltb-true, ltb-false}
-use borrow.Author.Count.{below_none, below_more}
+use borrow.Author.Count.{below_more}
 use Rattle.laws.specs.Search.{some, first_from}
 use Rattle.laws.proofs.Search.{found_some}
 use Rattle.page.specs.Coded.{key_of}
@@ -13,9 +13,6 @@ use defs.Paper.{page_of, holds}
 use Rattle.plan.specs.Coded.{entry_of, entries_of}
 use defs.Inner.{Marked, Marks}
 use Rattle.plan.proofs.Entries.{none, entry_at}
-
-pub marks_none : (es : List EntryCode) (ms : List ℕ) → length es ≡ 48 → length ms ≡ 48 → Marks ms (entries_of es) 0
-marks_none es ms full room = record { long = room; whole = length-map es entry_of ∙ full; each = below_none _ }
 
 -- a turn of the loop that fills an array with marks
 pub marks_more : (es : List EntryCode) (ms : List ℕ) (i m : ℕ) → i < length es → Marks ms (entries_of es) i

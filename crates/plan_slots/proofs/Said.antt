@@ -1,7 +1,7 @@
 -- What is said of the slots of a plan, told from the marks of it and of the plan before.
-use Rattle.laws.proofs.Base.{◌≡◌, refl, sym, ap, ◌∙◌, Bool, true, false, cond, List, map, ℕ, ◌+◌, ◌<◌, min, arith, eqb, ltb, get_or, take, set, replicate, get_or-replicate}
-use Rattle.laws.proofs.Base.{length-map, length-set, list_get_d_map, ext_get_or, get_or-take, get_or-set_same, get_or-set_other, eqb-true, lt-ltb, ltb-true, ltb-false}
-use borrow.Author.Count.{below_none, below_more}
+use Rattle.laws.proofs.Base.{◌≡◌, refl, sym, ap, ◌∙◌, Bool, true, false, cond, List, map, ℕ, ◌<◌, min, arith, eqb, ltb, get_or, take, replicate, get_or-replicate}
+use Rattle.laws.proofs.Base.{length-map, list_get_d_map, ext_get_or, get_or-take, eqb-true, lt-ltb, ltb-true, ltb-false}
+use borrow.Author.Count.{below_none}
 use Rattle.laws.specs.Search.{some, first_from}
 use Rattle.laws.specs.Upto.{each}
 use Rattle.laws.proofs.Upto.{each_length, each_at}
@@ -38,20 +38,6 @@ module _ (f : ℕ → Planned) where
         said = below_none _;
         rest = λ k b m. ap planned_of (get_or-replicate 48 k x nothing b) ∙ e;
       }
-
-  -- a turn of the loop that fills the array
-  pub says_more : (xs : List PlannedCode) (i : ℕ) (x : PlannedCode) → i < 48 → Says f xs i → planned_of x ≡ f i → Says f (set xs i x) (i + 1)
-  says_more xs i x l h own =
-      record {
-        long = length-set xs i x ∙ h.long;
-        said =
-            below_more _ i (λ k b. kept k (λ e. omega arith) (h.said k b))
-            (rw (get_or-set_same xs i x nothing (rw h.long l)) own);
-        rest = λ k b m. kept k (λ e. omega arith) (h.rest k b (omega arith));
-      }
-    where
-      kept : (k : ℕ) {v : Planned} → (k ≡ i → ⊥) → planned_of (get_or xs k nothing) ≡ v → planned_of (get_or (set xs i x) k nothing) ≡ v
-      kept k other q = rw (get_or-set_other xs i k x nothing other) q
 
 module _ (c p : Plan) (xs : List PlannedCode) where
   -- the array filled up to the count
