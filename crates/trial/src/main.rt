@@ -11,70 +11,67 @@ mod pieces;
 mod slots;
 mod told;
 
-ghost use Rattle.std.specs.Prelude.{◌≡◌, ◌+◌, ◌<◌, ◌≤◌, eqb, length, drop};
-ghost use Rattle.std.specs.List.{position_or_len};
-ghost use Rattle.trial.specs.Inner.{Within};
+ghost use Rattle.std.specs.Prelude.{length, ◌≤◌};
 
-use fields::UNREAD;
 use std::io::{Print, Read};
 use std::rt::{Env, Files};
-use told::NO_VALUE;
+use told::{Line, Unlike};
 
 // The most octets of a file.
 const FILE: usize = 262144;
 
-// The rows of the table: one for each letter, and one for lines and files that cannot be read.
-const ROWS: usize = 10;
+// The rows of the table: one for each letter of LETTERS, and the last for lines and files that cannot be read.
+const NAMES: [&[u8]; 10] = [
+    b"pieces",
+    b"sequences",
+    b"contents",
+    b"packings",
+    b"alphabet",
+    b"schedules",
+    b"descriptions",
+    b"decisions",
+    b"entries",
+    b"unread",
+];
 
-const UNREAD_ROW: usize = 9;
+const LETTERS: [u8; 9] = *b"IQCXASGDE";
 
-// The results tried in each row, and after them those that differ.
-const COUNTS: usize = 20;
+const UNREAD: usize = 9;
+
+// The results tried of a row, and those of them that differ.
+#[derive(Clone, Copy)]
+struct Row {
+    tried: u64,
+    differ: u64,
+}
+
+impl Row {
+    // Counts a result, and answers whether it is right.
+    fn count(&mut self, right: bool) -> bool {
+        self.tried = self.tried.wrapping_add(1);
+        if !right {
+            self.differ = self.differ.wrapping_add(1);
+        }
+        right
+    }
+}
+
+type Rows = [Row; 10];
 
 fn main(rt: HostRuntime) {
-    let mut counts = [0u64; COUNTS];
-    let count = arguments::count(&rt);
-    let mut i = 1;
-    while i < count {
-        try_argument(&rt, &rt.stdout(), &rt.stderr(), i, &mut counts);
-        i += 1;
+    let mut rows: Rows = [Row {
+        tried: 0,
+        differ: 0,
+    }; 10];
+    for i in 1..arguments::count(&rt) {
+        try_argument(&rt, &rt.stdout(), &rt.stderr(), i, &mut rows);
     }
     print(&rt.stdout(), &rt.stderr(), b"what tried differ\n");
-    print_rows(
-        &rt.stdout(),
-        &rt.stderr(),
-        b"pieces sequences contents packings alphabet schedules descriptions decisions entries unread ",
-        &counts,
-    );
-}
-
-// Prints the table's rows, each with its name.
-fn print_rows(output: &impl Print, errors: &impl Print, names: &[u8], counts: &[u64; COUNTS]) {
-    let mut at = 0;
-    let mut row = 0;
-    while row < ROWS {
-        let end = find(names, at, b' ');
-        print(output, errors, &names[at..end]);
-        print_number(output, errors, counts[row]);
-        print_number(output, errors, counts[ROWS + row]);
-        print(output, errors, b"\n");
-        if end == names.len() {
-            return;
-        }
-        at = end + 1;
-        row += 1;
-    }
-}
-
-// Where an octet stands first from a place on; the text's end, where it does not.
-fn find(text: &[u8], at: usize, octet: u8) -> usize
-    requires { at ≤ length text.now }
-    ensures first { result ≡ at + position_or_len (λ here. eqb here octet) (drop at text.now) }
-    ensures within { (at ≤ result) × (result ≤ length text.now) }
-{
-    match text[at..].iter().position(|here| *here == octet) {
-        Some(passed) => at + passed,
-        None => text.len(),
+    for (name, row) in NAMES.iter().zip(&rows) {
+        print(&rt.stdout(), &rt.stderr(), name);
+        print_number(&rt.stdout(), &rt.stderr(), row.tried);
+        print_number(&rt.stdout(), &rt.stderr(), row.differ);
+        print(&rt.stdout(), &rt.stderr(), b"\n");
     }
 }
 
@@ -98,44 +95,42 @@ fn try_argument<R: Env + Files>(
     output: &impl Print,
     errors: &impl Print,
     i: usize,
-    counts: &mut [u64; COUNTS],
+    rows: &mut Rows,
 ) {
     let mut name = io::buffer();
     let count = rt.arg(i, &mut name).unwrap_or(0);
-    let mut text = file_room();
-    let length = read_file(rt, errors, &name[..count], &mut text);
-    try_lines(output, errors, &name[..count], &text[..length], counts);
+    let mut room = [0; FILE];
+    let text = read_file(rt, errors, &name[..count], &mut room);
+    try_lines(output, errors, &name[..count], text, rows);
 }
 
-fn file_room() -> [u8; FILE]
-    ensures { 262144 ≡ length result }
-{
-    [0; FILE]
-}
-
-// Reads a file, and answers how much of it there is: nothing, where it cannot be read or does not fit.
-fn read_file(rt: &impl Files, errors: &impl Print, name: &[u8], room: &mut [u8]) -> usize
-    ensures { Within result room.new }
-{
+// Reads a file, and gives what there is of it: nothing, where it cannot be read or does not fit.
+fn read_file<'r>(
+    rt: &impl Files,
+    errors: &impl Print,
+    name: &[u8],
+    room: &'r mut [u8],
+) -> &'r [u8] {
     let mut file = match files::open(rt, name) {
         Ok(file) => file,
         Err(error) => {
             files::say(errors, name, error);
-            return 0;
+            return &[];
         }
     };
     let count = read_full(&mut file, room);
     if count == room.len() {
-        return 0;
+        return &[];
     }
-    count
+    &room[..count]
 }
 
 // Reads until a room is full or the file ends, and answers how much of it there is. A read that fails ends it too.
 fn read_full(file: &mut impl Read, room: &mut [u8]) -> usize
-    ensures { Within result room.new }
+    ensures { result ≤ length room.new }
 {
     let mut have = 0;
+    // Stays a loop: it ends where the file does, and a step is what one read gives.
     while have < room.len() {
         match file.read(&mut room[have..]) {
             Ok(0) => return have,
@@ -147,29 +142,24 @@ fn read_full(file: &mut impl Read, room: &mut [u8]) -> usize
 }
 
 // Tries each line, and tells of those that differ; of a file with nothing in it as if it had a line 0.
-fn try_lines(
-    output: &impl Print,
-    errors: &impl Print,
-    name: &[u8],
-    text: &[u8],
-    counts: &mut [u64; COUNTS],
-) {
-    if text.len() == 0 {
-        count_in(UNREAD_ROW, false, counts);
+fn try_lines(output: &impl Print, errors: &impl Print, name: &[u8], text: &[u8], rows: &mut Rows) {
+    if text.is_empty() {
+        rows[UNREAD].count(false);
         tell(output, errors, name, 0);
     }
-    let mut number: u64 = 1;
-    let mut at = 0;
-    while at < text.len() {
-        let end = find(text, at, b'\n');
-        if !try_line(&text[at..end], counts) {
+    let mut number: u64 = 0;
+    let mut rest = text;
+    // Stays a loop: a line's end is looked for from behind the line before, and `split` by a closure isn't taken here.
+    while !rest.is_empty() {
+        let end = rest
+            .iter()
+            .position(|octet| *octet == b'\n')
+            .unwrap_or(rest.len());
+        number = number.wrapping_add(1);
+        if !try_line(&rest[..end], rows) {
             tell(output, errors, name, number);
         }
-        if end == text.len() {
-            return;
-        }
-        at = end + 1;
-        number = number.wrapping_add(1);
+        rest = rest.get(end + 1..).unwrap_or(&[]);
     }
 }
 
@@ -181,33 +171,27 @@ fn tell(output: &impl Print, errors: &impl Print, name: &[u8], number: u64) {
 }
 
 // Tries a line, and answers whether nothing differs. A line is right only where it is told to its end.
-fn try_line(line: &[u8], counts: &mut [u64; COUNTS]) -> bool {
-    if line.len() == 0 {
-        return true;
+fn try_line(text: &[u8], rows: &mut Rows) -> bool {
+    let letter = match text.first() {
+        None | Some(b'#') => return true,
+        Some(letter) => *letter,
+    };
+    let mut line = Line::new(text);
+    tell_by(letter, &mut line);
+    let row = LETTERS
+        .iter()
+        .position(|other| *other == letter)
+        .unwrap_or(UNREAD);
+    match line.rest() {
+        Ok(rest) => rows[row].count(rest.is_empty()),
+        Err(Unlike::Differs) => rows[row].count(false),
+        Err(Unlike::Unread) => rows[UNREAD].count(false),
+        Err(Unlike::NoValue) => true,
     }
-    let letter = line[0];
-    if letter == b'#' {
-        return true;
-    }
-    let end = told_by(letter, line);
-    if end == NO_VALUE {
-        return true;
-    }
-    if end == UNREAD {
-        return count_in(UNREAD_ROW, false, counts);
-    }
-    count_in(row_of(letter), end == line.len(), counts)
 }
 
-// The row of a letter.
-fn row_of(letter: u8) -> usize
-    ensures { result ≤ 9 }
-{
-    find(b"IQCXASGDE", 0, letter)
-}
-
-// How far a line is told by the entry of its letter.
-fn told_by(letter: u8, line: &[u8]) -> usize {
+// Tells a line by the entry of its letter.
+fn tell_by(letter: u8, line: &mut Line) {
     match letter {
         b'I' => pieces::intake(line),
         b'Q' => pieces::sequence(line),
@@ -231,25 +215,7 @@ fn told_by(letter: u8, line: &[u8]) -> usize {
         | b'P'
         | b'W'
         | b'K'
-        | b'U' => NO_VALUE,
-        _ => UNREAD,
+        | b'U' => line.end(Unlike::NoValue),
+        _ => line.end(Unlike::Unread),
     }
-}
-
-// Counts a result in its row of the table, and answers whether it is right.
-fn count_in(row: usize, right: bool, counts: &mut [u64; COUNTS]) -> bool
-    requires { row ≤ 9 }
-{
-    count(row, counts);
-    if right {
-        return true;
-    }
-    count(ROWS + row, counts);
-    false
-}
-
-fn count(at: usize, counts: &mut [u64; COUNTS])
-    requires { at < 20 }
-{
-    counts[at] = counts[at].wrapping_add(1);
 }

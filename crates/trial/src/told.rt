@@ -1,99 +1,128 @@
-// Results as a line tells them, character by character. Each function answers the place after what it was given.
-
+// A line of stored results, told character by character.
 use block_intake::State;
 
-// The place after a result that a line tells otherwise: past every line.
-pub(crate) const DIFFERS: usize = usize::MAX - 1;
+// Why a line is not told to its end.
+#[derive(Clone, Copy, Debug, PartialEq, Eq)]
+pub(crate) enum Unlike {
+    // A field cannot be read.
+    Unread,
+    // The line tells a result otherwise.
+    Differs,
+    // The line tells of no entry by value.
+    NoValue,
+}
 
-// The place after a line that tells of no entry by value: past every line too.
-pub(crate) const NO_VALUE: usize = usize::MAX - 2;
+// A line, and what of it is still to be told, or why it is not told any further. What comes after that is passed over.
+#[derive(Clone, Copy)]
+pub(crate) struct Line<'a> {
+    text: &'a [u8],
+    rest: Result<&'a [u8], Unlike>,
+}
 
-// A character.
-fn mark(line: &[u8], at: usize, character: u8) -> usize {
-    if at > line.len() {
-        return at;
+impl<'a> Line<'a> {
+    // A line from behind its letter.
+    pub(crate) fn new(text: &'a [u8]) -> Line<'a> {
+        Line {
+            text,
+            rest: Ok(text.get(1..).unwrap_or(text)),
+        }
     }
-    if at == line.len() {
-        return DIFFERS;
+
+    // The characters of the whole line.
+    pub(crate) fn len(&self) -> usize {
+        self.text.len()
     }
-    if line[at] == character {
-        return at + 1;
+
+    // What is still to be told.
+    pub(crate) fn rest(&self) -> Result<&'a [u8], Unlike> {
+        self.rest
     }
-    DIFFERS
-}
 
-// Some characters.
-fn text(line: &[u8], at: usize, characters: &[u8]) -> usize {
-    if at > line.len() {
-        return at;
+    // Ends the telling.
+    pub(crate) fn end(&mut self, why: Unlike) {
+        self.rest = Err(why);
     }
-    if characters.len() > line.len() - at {
-        return DIFFERS;
+
+    // Ends the reading of a field, which was read if it was told to a blank or to the line's end.
+    pub(crate) fn end_field(&mut self) {
+        if !matches!(self.rest, Ok([] | [b' ', ..])) {
+            self.end(Unlike::Unread);
+        }
     }
-    let end = at + characters.len();
-    if check::same(&line[at..end], characters) {
-        return end;
+
+    // Some characters.
+    fn text(&mut self, characters: &[u8]) {
+        if let Ok(rest) = self.rest {
+            self.rest = rest.strip_prefix(characters).ok_or(Unlike::Differs);
+        }
     }
-    DIFFERS
-}
 
-// A number of so many digits at least.
-fn digits(line: &[u8], at: usize, number: u64, width: usize) -> usize {
-    let mut characters = [0u8; 16];
-    let count = io::hex(number, width, &mut characters);
-    text(line, at, &characters[..count])
-}
-
-// A number.
-pub(crate) fn number(line: &[u8], at: usize, number: u64) -> usize {
-    digits(line, mark(line, at, b' '), number, 1)
-}
-
-// Octets.
-pub(crate) fn octets(line: &[u8], at: usize, octets: &[u8]) -> usize {
-    let next = mark(line, at, b' ');
-    if octets.len() == 0 {
-        return mark(line, next, b'-');
+    // A number of so many digits at least.
+    fn digits(&mut self, number: u64, width: usize) {
+        let mut characters = [0u8; 16];
+        let count = io::hex(number, width, &mut characters);
+        self.text(&characters[..count]);
     }
-    all_octets(line, next, octets)
-}
 
-fn all_octets(line: &[u8], at: usize, octets: &[u8]) -> usize {
-    let mut next = at;
-    let mut i = 0;
-    while i < octets.len() {
-        next = octet(line, next, octets[i]);
-        i += 1;
+    // A number.
+    pub(crate) fn number(&mut self, number: u64) {
+        self.text(b" ");
+        self.digits(number, 1);
     }
-    next
-}
 
-fn octet(line: &[u8], at: usize, octet: u8) -> usize {
-    digits(line, at, octet as u64, 2)
-}
-
-// A code point, in four digits.
-pub(crate) fn code_point(line: &[u8], at: usize, code: u16) -> usize {
-    digits(line, mark(line, at, b' '), code as u64, 4)
-}
-
-// That memory stays as it was.
-pub(crate) fn kept(line: &[u8], at: usize) -> usize {
-    mark(line, mark(line, at, b' '), b'=')
-}
-
-// A state: kind, blocks taken, octets.
-pub(crate) fn state(line: &[u8], at: usize, state: State) -> usize {
-    let kind = octet(line, mark(line, at, b' '), state.kind);
-    let taken = octet(line, kind, state.taken);
-    let octets = state.octets;
-    all_octets(line, taken, &octets)
-}
-
-// A state after an entry: that it is as the line's first field gave it, or what it is.
-pub(crate) fn state_after(line: &[u8], at: usize, after: State) -> usize {
-    if state(line, 1, after) <= line.len() {
-        return kept(line, at);
+    // Some numbers.
+    pub(crate) fn numbers(&mut self, numbers: &[u64]) {
+        for number in numbers {
+            self.number(*number);
+        }
     }
-    state(line, at, after)
+
+    // Octets.
+    pub(crate) fn octets(&mut self, octets: &[u8]) {
+        self.text(b" ");
+        if octets.is_empty() {
+            self.text(b"-");
+        }
+        self.all_octets(octets);
+    }
+
+    fn all_octets(&mut self, octets: &[u8]) {
+        for octet in octets {
+            self.octet(*octet);
+        }
+    }
+
+    fn octet(&mut self, octet: u8) {
+        self.digits(u64::from(octet), 2);
+    }
+
+    // A code point, in four digits.
+    pub(crate) fn code_point(&mut self, code: u16) {
+        self.text(b" ");
+        self.digits(u64::from(code), 4);
+    }
+
+    // That memory stays as it was.
+    pub(crate) fn kept(&mut self) {
+        self.text(b" =");
+    }
+
+    // A state: kind, blocks taken, octets.
+    pub(crate) fn state(&mut self, state: State) {
+        self.text(b" ");
+        self.octet(state.kind);
+        self.octet(state.taken);
+        self.all_octets(&state.octets);
+    }
+
+    // A state after an entry: that it is as the line's first field gave it, or what it is.
+    pub(crate) fn state_after(&mut self, after: State) {
+        let mut first = Line::new(self.text);
+        first.state(after);
+        if first.rest.is_ok() {
+            self.kept();
+        } else {
+            self.state(after);
+        }
+    }
 }

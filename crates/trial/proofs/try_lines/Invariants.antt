@@ -1,9 +1,6 @@
--- `trial::try_lines` is safe and ends.
-use Rattle.laws.proofs.Base.{◌-◌, ◌≤◌, length}
+-- The loop of `trial::try_lines`: what is left gets shorter.
+use Rattle.std.proofs.Common.{ℕ, length}
 use Rattle.trial.proofs.try_lines.Given as goal
 
-abbrev pub invariant-loop-at : goal.invariant-loop-at
-invariant-loop-at g l = l.at ≤ length l.text
-
-abbrev pub decreases-loop-at : goal.decreases-loop-at
-decreases-loop-at g l = length l.text - l.at
+abbrev pub decreases-loop-rest : goal.decreases-loop-rest
+decreases-loop-rest g l = length l.rest

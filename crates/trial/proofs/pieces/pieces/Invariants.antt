@@ -1,8 +1,0 @@
--- `trial::pieces::pieces` is safe and ends. The measure is the number of turns left.
-use Rattle.trial.proofs.pieces.pieces.Given as goal
-
-abbrev pub invariant-loop-turns : goal.invariant-loop-turns
-invariant-loop-turns l = Unit {0}
-
-abbrev pub decreases-loop-turns : goal.decreases-loop-turns
-decreases-loop-turns l = l.turns

@@ -1,9 +1,0 @@
--- `trial::told::all_octets` is safe and ends.
-use Rattle.laws.proofs.Base.{◌-◌, length}
-use Rattle.trial.proofs.told.all_octets.Given as goal
-
-abbrev pub invariant-loop-i : goal.invariant-loop-i
-invariant-loop-i l = Unit {0}
-
-abbrev pub decreases-loop-i : goal.decreases-loop-i
-decreases-loop-i l = length l.octets - l.i

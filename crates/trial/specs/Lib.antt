@@ -1,2 +1,0 @@
--- What the contracts of `trial` cite.
-pub mod Inner
