@@ -27,9 +27,8 @@ use Rattle.checker.proofs.Telling.{slots_beside_lem, slots_checked}
 use Rattle.checker_plans.specs.Inner.{beside}
 use Rattle.calls.specs.Paper.{in_one}
 use Rattle.calls.specs.Claims.{IsLeft}
-use Rattle.calls.proofs.Packed.{left_number}
 use Rattle.plan_calls.specs as defs
-use defs.Paper.{file_faults, files_entry, written_from, written_left, write_schedule_call, checked_beside, packed_checked, check_schedule_call, slots_beside_files, packed_slots, check_slots_call}
+use defs.Paper.{file_faults, files_entry, written_from, written_left, write_schedule_call, checked_beside, packed_checked, check_schedule_call, slots_beside_files, check_slots_call}
 use defs.Inner.{Both}
 use Rattle.plan_calls.proofs.Filed.{files_refused, files_entry_lem, files_named, files_good, current_read, previous_read}
 
@@ -39,11 +38,6 @@ pub refused_left_lem : (f : Fault) {r : ℕ} {o : List ℕ} → r ≡ in_one (nu
 refused_left_lem f {r} {o} n = rw (ne_eqb (number_of f.refusal) 0 (number_of_positive f.refusal)) (ap (λ (x : ℕ). record { returned = x; memory = o }) n)
 
 module _ (c p : List ℕ) (b : ℕ) (o : List ℕ) where
-  pub refuses_output : {r : ℕ} → r ≡ 15 → (length o ≡ 88 → ⊥) → IsLeft r o (write_schedule_call c p b o)
-  refuses_output n e =
-      let first : record { left = unwritten o 15; entry = 0 } ≡ written_from c p b o = rw (ne_eqb (length o) 88 e) in
-      left_number n ∙ ap written_left first
-
   module _ (room : length o ≡ 88) where
     -- past the test of the output
     past_output : ruled (unwritten_naming (files_entry c p) o) (file_faults c p) (write_schedule (read_plan c).plan (read_plan p).plan b o) ≡ written_from c p b o
@@ -58,14 +52,6 @@ module _ (c p : List ℕ) (b : ℕ) (o : List ℕ) where
         (ap (λ (t : ℕ). record { left = unwritten o (number_of f.refusal); entry = t }) entry
         ∙ files_refused c p f e (unwritten_naming (files_entry c p) o) (write_schedule (read_plan c).plan (read_plan p).plan b o)
         ∙ past_output)
-
-    -- the writer's answer for the plans is that for the files
-    pub as_filed : (q : PlanCode × PlanCode) {w : ScheduleLeft} → Both c p (Ok q) → w ≡ write_schedule (plan_of q.0) (plan_of q.1) b o → w ≡ written_from c p b o
-    as_filed q e k =
-        k
-        ∙ (λ i. write_schedule (current_read c p q e i) (previous_read c p q e i) b o)
-        ∙ files_good c p q e (unwritten_naming (files_entry c p) o) (write_schedule (read_plan c).plan (read_plan p).plan b o)
-        ∙ past_output
 
 pub message_small : (c p : Plan) (b : ℕ) (o q : List ℕ) {u : ℕ} → sending_of (Ok u) q ≡ write_schedule c p b o → u ≤ 88
 message_small c p b o q {u} e =
@@ -119,13 +105,6 @@ module _ (c p m : List ℕ) (received : ℕ) (w : List ℕ) where
     -- past the test of the verdicts' memory
     past_verdicts : ruled (unjudged (files_entry c p) w) (file_faults c p) past ≡ slots_beside_files c p m received w
     past_verdicts = rw (eq-eqb (length w) 48 room)
-
-    pub refuses_both : (f : Fault) {r : ℕ} → Both c p (Err f) → r ≡ in_one (number_of f.refusal) f.entry → IsLeft r w (check_slots_call c p m received w)
-    refuses_both f e n =
-        ap (λ (x : ℕ). record { returned = x; memory = w }) n
-        ∙ ap packed_slots
-        (ap (λ (t : ℕ). unjudged t w (number_of f.refusal)) (sym (files_entry_lem c p f e))
-        ∙ files_refused c p f e (unjudged (files_entry c p) w) past ∙ past_verdicts)
 
     -- the checker's answer for the plans is that for the files
     pub as_beside : (q : PlanCode × PlanCode) {x : SlotsChecked} → Both c p (Ok q) → x ≡ slots_beside (beside (plan_of q.0) (plan_of q.1)) m received w
