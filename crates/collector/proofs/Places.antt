@@ -1,10 +1,10 @@
 -- Laws of a collector's pages: what stands at each place, how many are held, and what a page that is put in changes.
 use Rattle.laws.proofs.Base.{◌≡◌, refl, sym, ap, ◌∙◌, not, List, [], ◌∷◌, ◌++◌, append-nil, append_assoc, ℕ, zero, suc, ◌+◌, ◌*◌, ◌-◌, ◌≤◌, ◌<◌, add-zero, arith, length, take, drop, get_or}
-use Rattle.laws.proofs.Base.{take-append-drop, take_at, drop_at, drop-drop, drop_of_length-le, replicate, length-append, length-replicate, length-take-le, eqb, eq-eqb, ne_eqb, eqb-true, eqb-false, get_or-append-add}
+use Rattle.laws.proofs.Base.{take-append-drop, take_at, drop_at, drop-drop, drop_of_length-le, replicate, length-append, length-replicate, length-take-le, length-drop, eqb, eq-eqb, ne_eqb, eqb-true, eqb-false, get_or-append-add}
 use Rattle.laws.specs.Upto.{count}
 use Rattle.laws.proofs.Upto.{some_count, count_rest, count_more}
 use Rattle.laws.proofs.Tests.{true_or_false, le_or_lt}
-use borrow.Rule.Slice.PartMut.{put_mid}
+use borrow.Rule.Slice.PartMut.{put_mid, same_len_mid}
 use Rattle.laws.proofs.Parts.{put_copy, replaced_before, replaced_in, replaced_after}
 use Rattle.page.specs.Paper.{header}
 use Rattle.page.proofs.Sameness.{read_halves}
@@ -74,6 +74,13 @@ module _ (m₀ m : List ℕ) (from i : ℕ) (low : from ≤ i) (long : length m�
       ∙ ap (λ (x : List ℕ). take (page_place from) m₀ ++ x)
       (sym (append_assoc (blanks (i - from)) blank_page (drop (page_place (i + 1)) m₀))
       ∙ ap (λ (x : List ℕ). x ++ drop (page_place (i + 1)) m₀) (blanks_snoc (i - from) ∙ ap blanks more)))
+
+  pub blank_size : (y : List ℕ) → i < 15 → length m ≡ 1340 → y ≡ blank_page → length (put_mid (page_place i) (page_place i + 89 - page_place i) m y) ≡ 1340
+  blank_size y high size e =
+      let room : page_place i + 89 - page_place i ≤ length (drop (page_place i) m) = omega (arith, length-drop (page_place i) m) in
+      let own : length y ≡ page_place i + 89 - page_place i = ap length e ∙ omega (arith, blank_length) in
+      same_len_mid (page_place i) (page_place i + 89 - page_place i) m y (own ∙ sym (length-take-le (page_place i + 89 - page_place i) (drop (page_place i) m) room))
+      ∙ size
 
   pub blank_end : i ≡ 15 → m ≡ take (page_place from) m₀ ++ blanks (15 - from)
   blank_end e =

@@ -35,9 +35,9 @@ pub enum Answer {
 pub fn cb_start_collector(collector: &mut [u8]) -> u32
     ensures { record { number = result; collector = collector.new } ≡ start_call collector.old }
 {
-    if collector.len() != COLLECTOR {
+    let Some(collector) = collector.as_mut_array::<COLLECTOR>() else {
         return u32::from(u8::from(Refusal::StateImproper));
-    }
+    };
     clear(collector);
     0
 }
@@ -63,16 +63,16 @@ pub fn collect(
 ) -> Result<Answer, Refusal>
     ensures { record { number = number_of_answer result; pages = pages_of_answer result; collector = collector.new; output = output.new } ≡ collected collector.old page.now received output.old }
 {
-    if collector.len() != COLLECTOR {
+    let Some(collector) = collector.as_mut_array::<COLLECTOR>() else {
         return Err(Refusal::StateImproper);
-    }
+    };
     let Some(count) = held_pages(collector) else {
         clear(collector);
         return Err(Refusal::StateImproper);
     };
-    if output.len() != COLLECTOR {
+    let Some(output) = output.as_mut_array::<COLLECTOR>() else {
         return Err(Refusal::OutputLength);
-    }
+    };
     let Ok(page) = <&[u8; MESSAGE]>::try_from(page) else {
         return Err(Refusal::MessageLength);
     };
@@ -87,8 +87,7 @@ pub fn collect(
 
 // How many pages are held, if the collector is proper.
 #[tactic(auto, using(std::proofs::lemmas::Bool::Decides::nat_tests))]
-fn held_pages(collector: &[u8]) -> Option<usize>
-    requires { length collector.now ≡ 1340 }
+fn held_pages(collector: &[u8; COLLECTOR]) -> Option<usize>
     ensures { pages_of result ≡ pages_in collector.now }
 {
     let total = collector[0] as usize;
@@ -138,11 +137,11 @@ fn total_of(page: &[u8; MESSAGE]) -> u8
 
 // Takes a page that is not refused, into a collector that holds so many.
 fn take_page(
-    collector: &mut [u8],
+    collector: &mut [u8; COLLECTOR],
     count: usize,
     page: &[u8; MESSAGE],
     received: u8,
-    output: &mut [u8],
+    output: &mut [u8; COLLECTOR],
 ) -> Answer
     requires { Takes collector.old page.now received output.old × Holds collector.old count }
     ensures { record { number = number_of_answer (Ok result); pages = pages_of_answer (Ok result); collector = collector.new; output = output.new } ≡ moved (settled (with_page (goes_on collector.old page.now) page.now received)) output.old }
@@ -158,8 +157,7 @@ fn take_page(
 }
 
 // Whether a page is of the message that is collected. The coding scheme has no say.
-fn is_of(collector: &[u8], page: &[u8; MESSAGE]) -> bool
-    requires { length collector.now ≡ 1340 }
+fn is_of(collector: &[u8; COLLECTOR], page: &[u8; MESSAGE]) -> bool
     ensures { result ≡ is_of collector.now page.now }
 {
     if collector[0] != total_of(page) {
@@ -172,8 +170,7 @@ fn is_of(collector: &[u8], page: &[u8; MESSAGE]) -> bool
 }
 
 // Begins a page's message, without the page; what was held is dropped.
-fn begin(collector: &mut [u8], page: &[u8; MESSAGE])
-    requires { length collector.old ≡ 1340 }
+fn begin(collector: &mut [u8; COLLECTOR], page: &[u8; MESSAGE])
     ensures { collector.new ≡ begun page.now }
 {
     let total = total_of(page);
@@ -182,11 +179,11 @@ fn begin(collector: &mut [u8], page: &[u8; MESSAGE])
 
 // Adds a page that is missing, and hands the message out if that was the last.
 fn add(
-    collector: &mut [u8],
+    collector: &mut [u8; COLLECTOR],
     count: usize,
     page: &[u8; MESSAGE],
     received: u8,
-    output: &mut [u8],
+    output: &mut [u8; COLLECTOR],
 ) -> Answer
     requires { Takes collector.old page.now received output.old × Adds collector.old page.now count }
     ensures { record { number = number_of_answer (Ok result); pages = pages_of_answer (Ok result); collector = collector.new; output = output.new } ≡ moved (settled (put collector.old (page_number page.now - 1) page.now received)) output.old }
@@ -202,8 +199,8 @@ fn add(
 
 // Puts a page at its place, counted from 0, with the octets received. It goes by way of a local array, which the compiler
 // knows apart from the collector, so that it is moved in a few steps and not octet by octet.
-fn put_page(collector: &mut [u8], i: usize, page: &[u8; MESSAGE], received: u8)
-    requires { (length collector.old ≡ 1340) × (i < 15) }
+fn put_page(collector: &mut [u8; COLLECTOR], i: usize, page: &[u8; MESSAGE], received: u8)
+    requires { i < 15 }
     ensures { collector.new ≡ put collector.old i page.now received }
 {
     let mut held = [received; HELD];
@@ -213,8 +210,8 @@ fn put_page(collector: &mut [u8], i: usize, page: &[u8; MESSAGE], received: u8)
 }
 
 // Copies a whole message to output, and leaves the collector as at start.
-fn hand_out(collector: &mut [u8], total: usize, output: &mut [u8])
-    requires { (length collector.old ≡ 1340) × (length output.old ≡ 1340) × (total ≤ 15) }
+fn hand_out(collector: &mut [u8; COLLECTOR], total: usize, output: &mut [u8; COLLECTOR])
+    requires { total ≤ 15 }
     ensures { (collector.new ≡ start) × (output.new ≡ take (page_place total) collector.old ++ blanks (15 - total)) }
 {
     let end = FRONT + HELD * total;
@@ -225,16 +222,14 @@ fn hand_out(collector: &mut [u8], total: usize, output: &mut [u8])
 
 // The collector as at start.
 #[tactic(auto, unfolding(crate::specs::Paper::start))]
-fn clear(collector: &mut [u8])
-    requires { length collector.old ≡ 1340 }
+fn clear(collector: &mut [u8; COLLECTOR])
     ensures { collector.new ≡ start }
 {
     empty(collector, [0; FRONT]);
 }
 
 // A collector that holds no page, with these octets in front.
-fn empty(collector: &mut [u8], front: [u8; FRONT])
-    requires { length collector.old ≡ 1340 }
+fn empty(collector: &mut [u8; COLLECTOR], front: [u8; FRONT])
     ensures { collector.new ≡ front ++ blanks 15 }
 {
     octets::copy(&front, &mut collector[..FRONT]);
@@ -242,8 +237,8 @@ fn empty(collector: &mut [u8], front: [u8; FRONT])
 }
 
 // Makes the pages from one on, counted from 0, such as are not held.
-fn blank_pages(memory: &mut [u8], from: usize)
-    requires { (length memory.old ≡ 1340) × (from ≤ 15) }
+fn blank_pages(memory: &mut [u8; COLLECTOR], from: usize)
+    requires { from ≤ 15 }
     ensures { memory.new ≡ take (page_place from) memory.old ++ blanks (15 - from) }
 {
     let mut blank = [FILLER; HELD];

@@ -4,14 +4,13 @@ use Rattle.laws.proofs.Upto.{count_le}
 use Rattle.collector.specs.Paper.{page_number, page_place, total, held, put, blanks}
 use Rattle.collector.proofs.Places.{number_some, total_most}
 use Rattle.collector.proofs.Settled.{few, added_last, added_kept}
-use Rattle.std.proofs.Common.{rules}
 use Rattle.collector.proofs.add.Goals as goal
 
 pub overflow_sub-number_of : goal.overflow_sub-number_of
 overflow_sub-number_of c = omega (arith, number_some c.args.page.now, c.number_of.ensures)
 
 pub put_page-requires : goal.put_page-requires
-put_page-requires c = (c.requires.0.collector, omega (arith, few c.args.page.now c.requires.0.numbered, c.number_of.ensures))
+put_page-requires c = omega (arith, few c.args.page.now c.requires.0.numbered, c.number_of.ensures)
 
 pub overflow_add-count : goal.overflow_add-count
 overflow_add-count c =
@@ -19,7 +18,7 @@ overflow_add-count c =
     omega (arith, count_le (held m) (total m), c.requires.1.counted, c.requires.1.same, total_most c.args.page.now)
 
 pub hand_out-requires : goal.hand_out-requires
-hand_out-requires c = (search rules, c.requires.0.output, omega (arith, total_most c.args.page.now, c.total_of-total.ensures))
+hand_out-requires c = omega (arith, total_most c.args.page.now, c.total_of-total.ensures)
 
 pub returns-then-count-total : goal.returns-then-count-total
 returns-then-count-total c =

@@ -7,4 +7,4 @@ pub returns : goal.returns
 returns c =
     let first = c.copy in
     put_copied c.args.page.now first.new.to (search rules) first.ensures
-    c.args.collector.now c.copy-2.new.to c.args.i c.args.received c.requires.0 c.requires.1 c.copy-2.ensures
+    c.args.collector.now c.copy-2.new.to c.args.i c.args.received (search rules) c.requires c.copy-2.ensures
