@@ -96,9 +96,6 @@ module _ (p : List ℕ) (long : length p ≡ 88) where
   front_length : length (page_total p ∷ take 4 p) ≡ 5
   front_length = ap suc (length-take-le 4 p (omega arith))
 
-  pub begun_length : length (begun p) ≡ 1340
-  begun_length = length-append (page_total p ∷ take 4 p) (blanks 15) ∙ omega (arith, front_length, blanks_length 15)
-
   pub begun_received : (j : ℕ) → received_of (begun p) j ≡ 0
   begun_received j =
       ap (λ (k : ℕ). get_or (begun p) (k + 89 * j) 0) (sym front_length)

@@ -1,11 +1,11 @@
 -- What comes of a page that is not refused: handed out with its message, kept, or passed over.
-use Rattle.laws.proofs.Base.{◌≡◌, refl, sym, ap, ◌∙◌, true, false, not, ◌&&◌, ◌||◌, List, [], ◌++◌, ℕ, suc, ◌+◌, ◌-◌, ◌≤◌, ◌<◌, arith, take}
+use Rattle.laws.proofs.Base.{◌≡◌, refl, sym, ap, ◌∙◌, true, false, not, ◌&&◌, ◌||◌, List, [], ◌++◌, ℕ, suc, ◌+◌, ◌-◌, ◌≤◌, ◌<◌, arith, length, take}
 use Rattle.laws.proofs.Base.{leb, eqb, eq-eqb, ne_eqb, eqb-true}
 use Rattle.laws.specs.Upto.{some_below, count}
 use Rattle.laws.proofs.Tests.{true_or_false, both}
 use Rattle.collector.specs.Paper.{page_number, page_total, page_place, total, received_of, held, missing, wrong, proper, blanks, start, begun, is_of, goes_on, put, with_page, is_whole, whole_message, Taken, settled, Left, moved}
 use Rattle.collector.specs.Inner.{pages_in, Takes, Holds, Adds}
-use Rattle.collector.proofs.Places.{number_some, total_some, total_most, begun_length, begun_received, begun_none, put_total, put_held, whole_count}
+use Rattle.collector.proofs.Places.{number_some, total_some, total_most, begun_received, begun_none, put_total, put_held, whole_count}
 
 -- what the count of pages says of a collector
 pub pages_improper : (c : List ℕ) → 0 ≡ pages_in c → proper c ≡ false
@@ -35,7 +35,7 @@ settled_kept : (c : List ℕ) → is_whole c ≡ false → settled c ≡ record 
 settled_kept c e = rw e
 
 -- a page that is added to k others of its message
-module _ (c p : List ℕ) (n k : ℕ) (o : List ℕ) (takes : Takes c p n o) (adds : Adds c p k) where
+module _ (c p : List ℕ) (n k : ℕ) (o : List ℕ) (long : length c ≡ 1340) (size : length p ≡ 88) (takes : Takes p n) (adds : Adds c p k) where
   abbrev at : ℕ
   at = page_number p - 1
 
@@ -43,12 +43,12 @@ module _ (c p : List ℕ) (n k : ℕ) (o : List ℕ) (takes : Takes c p n o) (ad
   with = put c at p n
 
   with_total : total with ≡ page_total p
-  with_total = put_total c p at n takes.collector (few p takes.numbered) takes.page ∙ adds.same
+  with_total = put_total c p at n long (few p takes.numbered) size ∙ adds.same
 
   with_held : count (held with) (total with) ≡ k + 1
   with_held =
       ap (count (held with)) with_total
-      ∙ put_held c p at n takes.collector (few p takes.numbered) takes.page (page_total p) (within p takes.numbered) adds.missing takes.received
+      ∙ put_held c p at n long (few p takes.numbered) size (page_total p) (within p takes.numbered) adds.missing takes.received
       ∙ ap (λ (x : ℕ). x + 1) (ap (count (held c)) (sym adds.same) ∙ sym adds.counted)
 
   with_whole : is_whole with ≡ eqb (k + 1) (page_total p)
@@ -69,15 +69,12 @@ module _ (c p : List ℕ) (n k : ℕ) (o : List ℕ) (takes : Takes c p n o) (ad
       ∙ ap (λ (s : Taken). moved s o) (sym (settled_kept with (with_whole ∙ ne_eqb (k + 1) (page_total p) (λ q. more (q ∙ sym e)))))
 
 -- a page that begins its message
-module _ (c p : List ℕ) (n : ℕ) (o : List ℕ) (takes : Takes c p n o) where
-  pub begun_takes : Takes (begun p) p n o
-  begun_takes = record { collector = begun_length p takes.page; page = takes.page; received = takes.received; output = takes.output; numbered = takes.numbered }
-
+module _ (c p : List ℕ) (n : ℕ) (size : length p ≡ 88) where
   pub begun_adds : Adds (begun p) p 0
-  begun_adds = record { same = refl; counted = sym (begun_none p takes.page (page_total p)); missing = begun_received p takes.page (page_number p - 1) }
+  begun_adds = record { same = refl; counted = sym (begun_none p size (page_total p)); missing = begun_received p size (page_number p - 1) }
 
   pub kept_begun : is_of c p ≡ false → with_page (goes_on c p) p n ≡ put (begun p) (page_number p - 1) p n
-  kept_begun e = rw (e, begun_received p takes.page (page_number p - 1))
+  kept_begun e = rw (e, begun_received p size (page_number p - 1))
 
 -- a page of the message that is collected: passed over where it is held, and added where it is missing
 module _ (c p : List ℕ) (n k : ℕ) (o : List ℕ) (holds : Holds c k) (own : is_of c p ≡ true) where

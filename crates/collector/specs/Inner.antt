@@ -1,5 +1,5 @@
 -- What the inner functions of `collector` answer and ask.
-use Rattle.std.specs.Prelude.{◌≡◌, cond, true, List, ℕ, Option, None, Some, suc, ◌-◌, ◌≤◌, length}
+use Rattle.std.specs.Prelude.{◌≡◌, cond, true, List, ℕ, Option, None, Some, suc, ◌-◌, ◌≤◌}
 use Rattle.laws.specs.Upto.{count}
 use Rattle.collector.specs.Paper.{page_number, page_total, total, held, received_of, proper}
 
@@ -12,12 +12,9 @@ abbrev pub pages_of : Option ℕ → ℕ
 pages_of None = 0
 pages_of (Some n) = suc n
 
--- a page that no test of its own refuses, with n octets received and memory of the right lengths
-pub record Takes (c p : List ℕ) (n : ℕ) (o : List ℕ) : Type 0 where
-  pub collector : length c ≡ 1340
-  pub page : length p ≡ 88
+-- a page that no test of its own refuses, with n octets received
+pub record Takes (p : List ℕ) (n : ℕ) : Type 0 where
   pub received : 1 ≤ n
-  pub output : length o ≡ 1340
   pub numbered : page_number p ≤ page_total p
 
 -- a proper collector that holds n pages

@@ -143,7 +143,7 @@ fn take_page(
     received: u8,
     output: &mut [u8; COLLECTOR],
 ) -> Answer
-    requires { Takes collector.old page.now received output.old × Holds collector.old count }
+    requires { Takes page.now received × Holds collector.old count }
     ensures { record { number = number_of_answer (Ok result); pages = pages_of_answer (Ok result); collector = collector.new; output = output.new } ≡ moved (settled (with_page (goes_on collector.old page.now) page.now received)) output.old }
 {
     if !is_of(collector, page) {
@@ -185,7 +185,7 @@ fn add(
     received: u8,
     output: &mut [u8; COLLECTOR],
 ) -> Answer
-    requires { Takes collector.old page.now received output.old × Adds collector.old page.now count }
+    requires { Takes page.now received × Adds collector.old page.now count }
     ensures { record { number = number_of_answer (Ok result); pages = pages_of_answer (Ok result); collector = collector.new; output = output.new } ≡ moved (settled (put collector.old (page_number page.now - 1) page.now received)) output.old }
 {
     let total = total_of(page);

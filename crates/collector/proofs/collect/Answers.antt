@@ -66,7 +66,7 @@ pub take_page-requires : goal.take_page-requires
 take_page-requires c =
     let bounds = whole_bounds c.args.received (sym c.whole_blocks.ensures ∙ c.if-not-whole_blocks.false) in
     let numbered : page_number c.in-Ok.page.now ≤ page_total c.in-Ok.page.now = omega (arith, c.total_of.ensures, c.number_of.ensures, c.if-total_of-number_of.false) in (
-      record { collector = search rules; page = search rules; received = omega (arith, bounds); output = search rules; numbered = numbered },
+      record { received = omega (arith, bounds); numbered = numbered },
       pages_held c.in-Some.collector.now c.in-Some-held_pages.count c.in-Some-held_pages.ensures,
     )
 
