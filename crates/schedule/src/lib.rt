@@ -75,11 +75,13 @@ pub fn told_at(message: &[u8], at: usize) -> Description
 fn short_description(octet: u8) -> Description
     ensures { told_of result ≡ short octet }
 {
-    match octet {
-        slot @ 0x00..=0x3F => Description::Repeat(slot),
-        0x41 => Description::Advised,
-        _ => Description::Optional,
+    if octet < 0x40 {
+        return Description::Repeat(octet);
     }
+    if octet == 0x41 {
+        return Description::Advised;
+    }
+    Description::Optional
 }
 
 // Slot i, counted from 0, as it is told by the description that starts at a place.
