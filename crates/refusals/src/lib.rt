@@ -110,10 +110,3 @@ impl From<Refusal> for u8 {
         }
     }
 }
-
-// The refusal's number in the table.
-pub fn number(refusal: Refusal) -> u8
-    ensures { result ≡ number_of refusal }
-{
-    u8::from(refusal)
-}
