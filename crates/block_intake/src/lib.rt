@@ -40,6 +40,7 @@ pub enum Answer {
 }
 
 // The answer, the octets received and the message where it is complete, and the state afterwards.
+// Stays an array and a number of octets, here and in State: there is no heap on a board.
 #[derive(Clone, Copy)]
 pub struct Reply {
     pub answer: Result<Answer, Refusal>,

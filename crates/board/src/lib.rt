@@ -49,6 +49,7 @@ pub fn wanted_of(list: &[u16]) -> Wanted
 }
 
 // Whether an identifier that is wanted matches in 15 bits.
+// Stays a loop: `any` with a closure takes four times the instructions over a whole buffer.
 fn any_matches(wanted: &[u16], id: u16) -> bool
     ensures { result ≡ is_wanted (lent_wanted wanted.now) id }
 {
@@ -141,6 +142,7 @@ fn decide_by(
 
 // Reads or skips a slot, counted from 1, by a lent message, of which there may be none, and a lent list of the identifiers that are
 // wanted. Refuses by 41 and 42 (docs/FORMATS.md).
+// Stays a flag beside a message: cb_decide has it so.
 pub fn decide_on(
     known: bool,
     message: &[u8],
@@ -166,6 +168,7 @@ fn numbers_of(ids: [MessageId; WANTED]) -> [u16; WANTED]
 }
 
 // Reads or skips a slot by a schedule and identifiers held by value.
+// Stays beside `decide_on`: a caller has one or the other, and each is promised.
 pub fn decide(
     schedule: Schedule,
     slot: usize,

@@ -8,6 +8,7 @@ use board::Decision;
 use board_held::Held;
 
 // Reads or skips a slot: number + 256 × (1 read, 0 skip).
+// Stays a flag beside a message: C has no Option.
 pub fn cb_decide(
     known: bool,
     message: &[u8],

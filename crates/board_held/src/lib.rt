@@ -16,6 +16,7 @@ use sizes::{MESSAGE, SLOTS};
 pub struct Held(pub u64);
 
 // A schedule message and the octets received of it, where there is one.
+// Stays a flag beside a message: cb_decide and cb_enter hand both, and what decides takes them alike from here and from C.
 #[derive(Clone, Copy)]
 pub struct Schedule {
     pub known: bool,
@@ -80,6 +81,7 @@ pub fn entry_for(slot: usize, description: Description) -> usize
 }
 
 // The slot that a page got at a slot is entered under, by a lent message, of which there may be none.
+// Stays a flag beside a message: cb_enter has it so.
 pub fn entered_under_on(known: bool, message: &[u8], received: usize, slot: usize) -> usize
     ensures { result ≡ entered_under (lent_schedule known message.now received) slot }
 {
@@ -98,6 +100,7 @@ pub fn entered_under_on(known: bool, message: &[u8], received: usize, slot: usiz
 }
 
 // The slot that a page got at a slot is entered under, by a schedule held by value.
+// Stays beside the form on lent memory: a caller has one or the other, and each is promised.
 pub fn entered_under(schedule: Schedule, slot: usize) -> usize
     ensures { result ≡ entered_under (schedule_of schedule) slot }
 {

@@ -11,6 +11,7 @@ use plan_slots::Planned;
 use sizes::SLOTS;
 
 // What two good plans say, of which the current one has slots: its count and what is said of each slot.
+// Stays a count beside an array: there is no heap here, and a plan's slots are 1 to 48.
 #[derive(Clone, Copy)]
 pub struct Said {
     pub count: usize,

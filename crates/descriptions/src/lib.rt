@@ -12,6 +12,7 @@ use schedule_given::Numbered;
 use sizes::SLOTS;
 
 // All that the description reader gives, in the message's order: how many slots, or the refusal, and the slots themselves.
+// Stays an array beside its count: there is no heap here, and on a refusal the slots given before it stand.
 #[derive(Clone, Copy)]
 pub struct Ordered {
     pub answer: Result<usize, Refusal>,

@@ -21,6 +21,7 @@ pub const FRONT: usize = 6;
 pub const ENTRY: usize = 6;
 
 // The 16 bits, high octet first, at a place of the file.
+// Stays a place beside the file, here and below: document 01 gives its fields by their places.
 fn sixteen_at(file: &[u8], at: usize) -> u16
     requires { at + 2 ≤ length file.now }
     ensures { result ≡ get_or file.now at 0 * 256 + get_or file.now (at + 1) 0 }
@@ -101,6 +102,7 @@ pub fn read_plan(file: &[u8]) -> Result<Plan, Fault>
 
 // The octet where the kind of an entry stands in a file, entries counted from 1; 0 past the file's end. The front is as long as an entry, so
 // entry 0 is the front.
+// Stays a number, and 0 past the end: the contract's `octet` is, and the octet can be a kind that is refused.
 pub fn kind_of(file: &[u8], entry: u8) -> u8
     ensures { result ≡ octet file.now (6 * entry + 1) }
 {

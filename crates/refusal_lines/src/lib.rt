@@ -80,7 +80,7 @@ pub fn say_begin(
 }
 
 // Puts what is wrong with a bad entry, by its kind.
-// Stays a number: an entry is refused for a kind that is none of 0, 1, 2, and the line tells it.
+// Stays a number, here and below: an entry is refused for a kind that is none of 0, 1, 2, and the line tells it.
 fn put_wrong(kind: u8, text: &mut [u8], at: usize) -> usize
     ensures { record { end = result; text = text.new } ≡ all_behind (wrong_entry kind) at text.old }
 {

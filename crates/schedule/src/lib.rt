@@ -39,6 +39,7 @@ pub struct Span {
 }
 
 // An octet of a message, and 0 past its end.
+// Stays 0 past the end: the contract's `octet_at` is, and a slot's place may be the last.
 pub fn octet_at(message: &[u8], at: usize) -> u8
     ensures { result ≡ octet_at message.now at }
 {

@@ -18,7 +18,11 @@ pub struct Numbered {
 }
 
 // The description that stands after the given number of others, with its slot, if the message has one there.
-pub fn description_at(message: &[u8], received: usize, place: usize) -> Result<Option<Numbered>, Refusal>
+pub fn description_at(
+    message: &[u8],
+    received: usize,
+    place: usize,
+) -> Result<Option<Numbered>, Refusal>
     ensures { given_of result ≡ given message.now received place }
 {
     let found = schedule_places::read_places(message, received)?;
@@ -60,6 +64,7 @@ fn count_new(message: &[u8], end: usize) -> usize
 }
 
 // The slot, counted from 0, before which the given number of slots up to End have the same new bit, as given.
+// Stays a search by hand and a flag that picks the group: it counts as it goes, for both groups alike.
 fn pick(message: &[u8], end: usize, new: bool, place: usize) -> usize
     requires { (end ≡ end_of message.now) × (end ≤ 48) × (place < count (grouped message.now new) end) }
     ensures { Picks message.now new place result }

@@ -78,6 +78,7 @@ fn new_bits(message: &[u8]) -> u64
 
 // Finds the descriptions of the slots up to End whose new bit is as given, the first of which starts at a place: where that of
 // each slot starts, which are first transmissions, and the place behind the last.
+// Stays a flag that picks the group: both groups are found by one loop.
 fn find_group(
     message: &[u8],
     received: usize,

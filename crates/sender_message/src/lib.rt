@@ -83,6 +83,7 @@ impl Draft {
     }
 
     // The descriptions of the slots whose new bit is as given.
+    // Stays a flag that picks the group: both groups are put by one loop.
     fn put_group(&mut self, told: &[Slot], new: bool)
         requires { self.old.next + length (octets_of_all (shown_in told.now) (group (shown_in told.now) (length told.now) new)) ≤ 104 }
         ensures octets { self.new.octets ≡ sets self.old.octets self.old.next (octets_of_all (shown_in told.now) (group (shown_in told.now) (length told.now) new)) }
@@ -108,6 +109,7 @@ impl Draft {
 
 // Writes the message that tells the first `count` of some slots (GSM 04.12 3.5), and gives the octets that it uses of the 88. `begin` is
 // the number of the slot in which the schedule begins, counted from 1. A refusal, 15, 21 or 34 (docs/FORMATS.md), leaves the output as it is.
+// Stays a count beside the slots: one over 48 is refused by 21.
 #[tactic(auto, unfolding(crate::specs::Paper::write_message), using(std::proofs::lemmas::Bool::Decides::nat_tests))]
 pub fn write_message(
     slots: [Slot; SLOTS],

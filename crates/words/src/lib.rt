@@ -16,6 +16,7 @@ pub fn put_words(refusal: Refusal, text: &mut [u8], at: usize) -> usize
 }
 
 // The words of a refusal.
+// Stays a function, and no From or Display: Refusal and those traits are all of other crates.
 #[tactic(auto, unfolding(crate::specs::Paper::find, lines::specs::Paper::ascii))]
 fn words_of(refusal: Refusal) -> &'static str
     ensures { result.now ≡ words (number_of refusal) }
