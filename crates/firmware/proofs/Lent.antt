@@ -1,16 +1,20 @@
 -- Laws of a state in lent memory: two octets in front, and the 88 behind them.
 use Rattle.laws.proofs.Base.{◌≡◌, sym, ap, ◌∙◌, Bool, true, false, cond, List, [], ◌∷◌, ◌++◌, ℕ, suc, ◌+◌, ◌*◌, ◌-◌}
-use Rattle.laws.proofs.Base.{◌≤◌, add-zero, add-one, arith, length, take, drop, set, get_or, eqb, ne_eqb}
-use borrow.Rule.Slice.PartMut.{mid_of, put_mid}
+use Rattle.laws.proofs.Base.{◌≤◌, add-zero, add-one, arith, length, take, take_all, drop, length-drop, set, get_or, eqb, ne_eqb}
+use borrow.Rule.Slice.PartMut.{put_mid}
 use Rattle.laws.proofs.Parts.{put_copy}
 use Rattle.block.specs.Paper.{Held, blank, start, proper, refusal, added, handed}
 use Rattle.block.specs.Inner.{state_with, outcome, Adds}
-use Rattle.block.proofs.Filled.{rest_of, filled_next}
+use Rattle.block.proofs.Filled.{filled_next}
 use Rattle.firmware.specs.Paper.{IntakeLeft, lent, held_in, moved}
 
+-- the octets behind the front of a state
+octets_in : (s : List ℕ) → length s ≡ 90 → take 88 (drop 2 s) ≡ drop 2 s
+octets_in s long = take_all 88 (drop 2 s) (simp length-drop (omega arith))
+
 -- what is told of the octets behind the front is told of the state
-pub proper_in : (s : List ℕ) (b : Bool) → b ≡ proper (state_with (get_or s 0 0) (get_or s 1 0) (mid_of 2 (length s - 2) s)) → b ≡ proper (held_in s)
-proper_in s b e = rw (rest_of 2 s) at e
+pub proper_in : (s : List ℕ) (b : Bool) → length s ≡ 90 → b ≡ proper (state_with (get_or s 0 0) (get_or s 1 0) (take 88 (drop 2 s))) → b ≡ proper (held_in s)
+proper_in s b long e = rw (octets_in s long) at e
 
 -- a cleared state with its kind set holds a message of that kind with nothing taken
 pub begun_in : (s : List ℕ) (n k : ℕ) → s ≡ lent start → n ≡ k → held_in (set s 0 n) ≡ state_with k 0 blank
@@ -38,11 +42,13 @@ put_content (x ∷ t ∷ o) p c y long adds e q =
     ∙ ap (λ w. x ∷ suc t ∷ w) (rw e (filled_next t o p room size whole adds.rest))
 
 -- what the last block leaves
-pub complete_over : (h : Held) (o : List ℕ) (r : ℕ) (v w : List ℕ) → 1 ≤ h.taken → r ≡ cond (eqb h.kind 2) 7 0 + 256 * (22 * h.taken) → v ≡ lent start → w ≡ h.octets
-    → ◌≡◌ {A = IntakeLeft} (record { returned = r; state = v; output = w }) (moved (handed h) o)
-complete_over h o r v w some n q m =
-    let e : eqb (22 * h.taken) 0 ≡ false = ne_eqb (22 * h.taken) 0 (omega arith) in
-    rw e (λ i. record { returned = n i; state = q i; output = m i })
+pub complete_over : (s o : List ℕ) (r : ℕ) (v w : List ℕ) → length s ≡ 90 → 1 ≤ get_or s 1 0
+    → r ≡ cond (eqb (get_or s 0 0) 2) 7 0 + 256 * (22 * get_or s 1 0) → v ≡ lent start → w ≡ take 88 (drop 2 s)
+    → ◌≡◌ {A = IntakeLeft} (record { returned = r; state = v; output = w }) (moved (handed (held_in s)) o)
+complete_over s o r v w long some n q m =
+    let e : eqb (22 * get_or s 1 0) 0 ≡ false = ne_eqb (22 * get_or s 1 0) 0 (omega arith) in
+    let octets = m ∙ octets_in s long in
+    rw e (λ i. record { returned = n i; state = q i; output = octets i })
 
 module _ (last : Bool) (h : Held) (p o v : List ℕ) where
   -- what a block leaves that is only taken

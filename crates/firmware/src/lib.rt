@@ -19,9 +19,9 @@ pub const STATE: usize = 90;
 pub fn cb_start(state: &mut [u8]) -> u32
     ensures { record { number = result; state = state.new } ≡ start_call state.old }
 {
-    if state.len() != STATE {
+    let Some(state) = state.as_mut_array::<STATE>() else {
         return u32::from(u8::from(Refusal::StateImproper));
-    }
+    };
     clear(state);
     0
 }
@@ -33,20 +33,17 @@ pub fn cb_start(state: &mut [u8]) -> u32
 pub fn cb_intake(state: &mut [u8], piece: &[u8], output: &mut [u8]) -> u32
     ensures { record { returned = result; state = state.new; output = output.new } ≡ intake_call state.old piece.now output.old }
 {
-    if output.len() != MESSAGE {
+    let Some(output) = output.as_mut_array::<MESSAGE>() else {
         return u32::from(u8::from(Refusal::OutputLength));
-    }
-    if state.len() != STATE {
+    };
+    let Some(state) = state.as_mut_array::<STATE>() else {
         return u32::from(u8::from(Refusal::StateImproper));
-    }
+    };
     take_in(state, piece, output)
 }
 
 // The same for memory of the right lengths.
-// Stays slices, here and below: `try_from` for `&mut` promises nothing of the memory afterwards, so the proof of a call
-// on arrays does not close.
-fn take_in(state: &mut [u8], piece: &[u8], output: &mut [u8]) -> u32
-    requires { (length state.old ≡ 90) × (length output.old ≡ 88) }
+fn take_in(state: &mut [u8; STATE], piece: &[u8], output: &mut [u8; MESSAGE]) -> u32
     ensures { record { returned = result; state = state.new; output = output.new } ≡ moved (step (held_in state.old) piece.now) output.old }
 {
     let taken = state[1];
@@ -69,8 +66,7 @@ fn take_in(state: &mut [u8], piece: &[u8], output: &mut [u8]) -> u32
 }
 
 // A refused piece is lost, and so is what was held.
-fn refuse(state: &mut [u8], refusal: Refusal) -> u32
-    requires { length state.old ≡ 90 }
+fn refuse(state: &mut [u8; STATE], refusal: Refusal) -> u32
     ensures { (result ≡ number_of refusal) × (state.new ≡ lent start) }
 {
     clear(state);
@@ -78,8 +74,7 @@ fn refuse(state: &mut [u8], refusal: Refusal) -> u32
 }
 
 // The state as after start.
-fn clear(state: &mut [u8])
-    requires { length state.old ≡ 90 }
+fn clear(state: &mut [u8; STATE])
     ensures { state.new ≡ lent start }
 {
     fill(state);
@@ -97,8 +92,8 @@ fn fill(memory: &mut [u8])
 }
 
 // Adds a piece to the message in state; last: it completes the message.
-fn add(state: &mut [u8], piece: &[u8], last: bool, output: &mut [u8]) -> u32
-    requires { (length state.old ≡ 90) × (length output.old ≡ 88) × Adds (held_in state.old).taken (held_in state.old).octets piece.now }
+fn add(state: &mut [u8; STATE], piece: &[u8], last: bool, output: &mut [u8; MESSAGE]) -> u32
+    requires { Adds (held_in state.old).taken (held_in state.old).octets piece.now }
     ensures { record { returned = result; state = state.new; output = output.new } ≡ moved (outcome last (added (held_in state.old) piece.now)) output.old }
 {
     put(state, piece);
@@ -110,8 +105,8 @@ fn add(state: &mut [u8], piece: &[u8], last: bool, output: &mut [u8]) -> u32
 
 // Copies the content of a piece behind that of the blocks taken, and counts the block. It goes by way of a local array,
 // which the state cannot overlap, so that it is moved in a few steps and not octet by octet.
-fn put(state: &mut [u8], piece: &[u8])
-    requires { (length state.old ≡ 90) × Adds (held_in state.old).taken (held_in state.old).octets piece.now }
+fn put(state: &mut [u8; STATE], piece: &[u8])
+    requires { Adds (held_in state.old).taken (held_in state.old).octets piece.now }
     ensures { state.new ≡ lent (added (held_in state.old) piece.now) }
 {
     let taken = state[1];
@@ -124,8 +119,8 @@ fn put(state: &mut [u8], piece: &[u8])
 
 // Hands out the message: copies it to output, and leaves the state as after start.
 #[tactic(auto, using(crate::proofs::Lent::complete_over))]
-fn hand_out(state: &mut [u8], output: &mut [u8]) -> u32
-    requires { (length state.old ≡ 90) × (length output.old ≡ 88) × (1 ≤ (held_in state.old).taken) }
+fn hand_out(state: &mut [u8; STATE], output: &mut [u8; MESSAGE]) -> u32
+    requires { 1 ≤ (held_in state.old).taken }
     ensures { record { returned = result; state = state.new; output = output.new } ≡ moved (handed (held_in state.old)) output.old }
 {
     // Stays a number: the kind lies as an octet in memory that C lends.

@@ -1,5 +1,5 @@
 -- A block before the last is kept, and the last one hands the message out.
-use Rattle.laws.proofs.Base.{◌∙◌, arith}
+use Rattle.laws.proofs.Base.{◌∙◌}
 use Rattle.firmware.specs.Paper.{held_in}
 use Rattle.firmware.proofs.Lent.{taken_over, handed_over, taken_some}
 use Rattle.firmware.proofs.add.Goals as goal
@@ -8,7 +8,7 @@ pub returns-then-not-last : goal.returns-then-not-last
 returns-then-not-last c = taken_over c.args.last (held_in c.args.state.now) c.args.piece.now c.args.output.now _ c.if-not-last.true c.put.ensures
 
 pub hand_out-requires : goal.hand_out-requires
-hand_out-requires c = (omega arith, omega arith, taken_some (held_in c.args.state.now) c.args.piece.now _ c.put.ensures)
+hand_out-requires c = taken_some (held_in c.args.state.now) c.args.piece.now _ c.put.ensures
 
 pub returns : goal.returns
 returns c =
