@@ -68,9 +68,8 @@ fn judge_each(
     message: &[u8],
     places: &[u8; SLOTS],
     count: usize,
-    verdicts: &mut [u8],
+    verdicts: &mut [u8; SLOTS],
 )
-    requires { length verdicts.old ≡ 48 }
     ensures { verdicts.new ≡ each (rule_by all.now message.now places.now count) 48 }
 {
     for (i, said) in all.iter().enumerate() {
@@ -79,8 +78,7 @@ fn judge_each(
 }
 
 // The place, counted from 0, of the lowest slot that breaks a rule.
-fn first_untrue(verdicts: &[u8]) -> Option<usize>
-    requires { length verdicts.now ≡ 48 }
+fn first_untrue(verdicts: &[u8; SLOTS]) -> Option<usize>
     ensures { slot_of result ≡ lowest_of (breaks verdicts.now) 48 }
 {
     for (i, verdict) in verdicts.iter().enumerate() {
@@ -96,9 +94,8 @@ fn compare(
     plans: &Said,
     message: &[u8],
     received: usize,
-    verdicts: &mut [u8],
+    verdicts: &mut [u8; SLOTS],
 ) -> Result<(), SlotFault>
-    requires { length verdicts.old ≡ 48 }
     ensures { record { checked = checked_of result; verdicts = verdicts.new } ≡ compared plans.now.count (map planned_of plans.now.said) message.now received verdicts.old }
 {
     let placed = schedule_places::read_places(message, received)?;
@@ -126,9 +123,9 @@ pub fn check_slots(
 ) -> Result<(), SlotFault>
     ensures { record { checked = checked_of result; verdicts = verdicts.new } ≡ slots_beside (plans_of plans) message.now received verdicts.old }
 {
-    if verdicts.len() != SLOTS {
+    let Some(verdicts) = verdicts.as_mut_array::<SLOTS>() else {
         return Err(Refusal::OutputLength.into());
-    }
+    };
     let said = plans?;
     compare(&said, message, received, verdicts)
 }

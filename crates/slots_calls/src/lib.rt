@@ -24,8 +24,8 @@ fn packed_at(message: &[u8], end: usize, i: usize, at: usize) -> u32
 }
 
 // Tells each slot of a message that is read, by the places of its descriptions.
-fn tell(message: &[u8], places: [u8; SLOTS], end: usize, slots: &mut [u32])
-    requires { (length slots.old ≡ 48) × Shows message.now places end }
+fn tell(message: &[u8], places: &[u8; SLOTS], end: usize, slots: &mut [u32; SLOTS])
+    requires { Shows message.now places.now end }
     ensures { slots.new ≡ each (packed_slot message.now) 48 }
 {
     for i in 0..SLOTS {
@@ -37,15 +37,15 @@ fn tell(message: &[u8], places: [u8; SLOTS], end: usize, slots: &mut [u32])
 pub fn cb_slots(message: &[u8], received: usize, slots: &mut [u32]) -> u32
     ensures { record { returned = result; memory = slots.new } ≡ slots_call message.now received slots.old }
 {
-    if slots.len() != SLOTS {
+    let Some(slots) = slots.as_mut_array::<SLOTS>() else {
         return u32::from(u8::from(Refusal::OutputLength));
-    }
+    };
     let answer = schedule_places::read_places(message, received);
     match answer {
         Err(refusal) => u32::from(u8::from(refusal)),
         Ok(found) => {
             let span = found.span;
-            tell(message, found.places, span.end, slots);
+            tell(message, &found.places, span.end, slots);
             0x100 * span.begin as u32 + 0x10000 * span.end as u32
         }
     }

@@ -1,12 +1,13 @@
 -- `checker::judge_each` meets its contract: the slots before the loop's are judged.
 use Rattle.laws.proofs.Base.{arith, length-set}
 use Rattle.laws.proofs.Upto.{each_start, each_turn}
+use Rattle.std.proofs.Common.{rules}
 use Rattle.checker.proofs.judge_each.Goals as goal
 
 pub loop-i-init : goal.loop-i-init
 loop-i-init c =
     let a = c.args in
-    (c.requires, each_start _ a.verdicts.now)
+    (search rules, each_start _ a.verdicts.now)
 
 pub loop-i-preserved : goal.loop-i-preserved
 loop-i-preserved c =

@@ -1,17 +1,18 @@
 -- `slots_calls::cb_slots` meets its contract: all slots told from the places of the message's descriptions.
-use Rattle.laws.proofs.Base.{sym, ◌<◌, arith}
+use Rattle.laws.proofs.Base.{◌≡◌, sym, ◌<◌, arith}
 use Rattle.slots_calls.proofs.Slots.{slots_length, refuses_slots, found_shows, found_small, tells_slots}
+use Rattle.std.proofs.Common.{rules}
 use Rattle.slots_calls.proofs.cb_slots.Goals as goal
 
-pub returns-then-slots-ne-SLOTS : goal.returns-then-slots-ne-SLOTS
-returns-then-slots-ne-SLOTS c =
+pub returns-in_default : goal.returns-in_default
+returns-in_default c =
     let a = c.args in
-    rw (c.from-then-slots-ne-SLOTS.ensures, c.from.ensures) (sym (slots_length a.message.now a.received a.slots.now (λ e. omega arith)))
+    rw (c.from-in_default.ensures, c.from.ensures) (sym (slots_length a.message.now a.received a.slots.now (search rules)))
 
 pub tell-requires : goal.tell-requires
 tell-requires c =
     let a = c.args in
-    (omega arith, found_shows a.message.now a.received _ c.in-Ok.ensures)
+    found_shows a.message.now a.received _ c.in-Ok.ensures
 
 pub overflow_cast-result : goal.overflow_cast-result
 overflow_cast-result c =
@@ -41,9 +42,10 @@ overflow_add-result c =
 pub returns-in-Err : goal.returns-in-Err
 returns-in-Err c =
     let a = c.args in
-    rw (c.from-in-Err-2.ensures, c.from-in-Err.ensures) (refuses_slots a.message.now a.received a.slots.now (omega arith) _ c.in-Err.ensures)
+    let kept : c.in-Some.slots.now ≡ a.slots.now = c.in-Some.ensures.cases.same in
+    rw (c.from-in-Err-2.ensures, c.from-in-Err.ensures, kept) (refuses_slots a.message.now a.received a.slots.now c.in-Some.ensures.cases.long _ c.in-Err.ensures)
 
 pub returns-in-Ok : goal.returns-in-Ok
 returns-in-Ok c =
     let a = c.args in
-    tells_slots a.message.now a.received _ c.in-Ok.ensures a.slots.now (omega arith) _ c.tell.ensures
+    tells_slots a.message.now a.received _ c.in-Ok.ensures a.slots.now c.in-Some.ensures.cases.long _ c.tell.ensures
