@@ -18,9 +18,9 @@ use sizes::{CONTENT, MESSAGE};
 pub fn write_blocks(message: &[u8], kind: Kind, used: usize, out: &mut [u8]) -> Result<(), Refusal>
     ensures { sent_of result out.new ≡ written_blocks message.now (kind_of kind) used out.old }
 {
-    if out.len() != BLOCKS {
+    let Some(out) = out.as_mut_array::<BLOCKS>() else {
         return Err(Refusal::OutputLength);
-    }
+    };
     let Ok(message) = <&[u8; MESSAGE]>::try_from(message) else {
         return Err(Refusal::MessageLength);
     };
@@ -32,9 +32,7 @@ pub fn write_blocks(message: &[u8], kind: Kind, used: usize, out: &mut [u8]) -> 
 }
 
 // The four blocks, over the output.
-// Stays a slice, out: `try_from` for `&mut` promises nothing of the memory afterwards, so the proof does not close.
-fn put_blocks(message: &[u8; MESSAGE], kind: Kind, used: usize, out: &mut [u8])
-    requires { length out.old ≡ 92 }
+fn put_blocks(message: &[u8; MESSAGE], kind: Kind, used: usize, out: &mut [u8; BLOCKS])
     ensures { out.new ≡ blocks (kind_of kind) used message.now 4 }
 {
     for i in 0..4 {

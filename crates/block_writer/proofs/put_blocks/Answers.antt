@@ -18,4 +18,4 @@ loop-i-preserved c =
 pub returns : goal.returns
 returns c =
     let all : c.loop-i.i ≡ 4 = omega arith in
-    rw all at c.loop-i.invariant ∙ written_all (kind_of c.args.kind) c.args.used c.args.message.now (search rules) c.args.out.now c.requires
+    rw all at c.loop-i.invariant ∙ written_all (kind_of c.args.kind) c.args.used c.args.message.now (search rules) c.args.out.now (search rules)
