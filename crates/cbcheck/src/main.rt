@@ -13,6 +13,7 @@ ghost use Rattle.cbcheck.specs.Inner.{fresh_beside};
 use arguments::Program;
 use checker::SlotFault;
 use checker_plans::Said;
+use lines::Text;
 use logs::Listing;
 use plan::Fault;
 use refusals::Refusal;
@@ -69,43 +70,31 @@ impl Listing<ROOM> for Checks {
 
     ghost lendable = { lit< tt };
 
-    fn put_line(
-        &self,
-        number: u64,
-        answer: u32,
-        message: &[u8; MESSAGE],
-        text: &mut [u8],
-        at: usize,
-    ) -> usize {
+    fn put_line(&self, number: u64, answer: u32, message: &[u8; MESSAGE], lines: &mut Text) {
         if answer % 256 != 7 {
-            return at;
+            return;
         }
         let received = (answer / 256) as usize;
         // Stays a fixed array: check_slots leaves a verdict on each slot, and a program holds no heap.
         let mut verdicts = [0u8; SLOTS];
         let checked = checker::check_slots(self.plans, message, received, &mut verdicts);
-        put_checked(number, checked, &verdicts, text, at)
+        put_checked(number, checked, &verdicts, lines);
     }
 }
 
 // Puts the line of what the checker answers to the message that a block completes, and what it leaves of the slots.
-fn put_checked(
-    number: u64,
-    checked: Result<(), SlotFault>,
-    verdicts: &[u8],
-    out: &mut [u8],
-    at: usize,
-) -> usize
-    ensures { record { end = result; text = out.new } ≡ all_behind (line number (record { checked = checked_of checked; verdicts = verdicts.now })) at out.old }
+fn put_checked(number: u64, checked: Result<(), SlotFault>, verdicts: &[u8], lines: &mut Text)
+    ensures put { record { end = lines.new.end; text = lines.new.memory.now } ≡ all_behind (line number (record { checked = checked_of checked; verdicts = verdicts.now })) lines.old.end lines.old.memory.now }
+    ensures same { lines.new.memory.ghost_name ≡ lines.old.memory.ghost_name }
 {
     match checked {
         Ok(()) => {
-            let a = put_numbers(number, 0, 0, out, at);
-            lines::put(b"true\n", out, a)
+            put_numbers(number, 0, 0, lines);
+            lines.put(b"true\n");
         }
         Err(fault) => {
             let rule = rule_of(verdicts, fault.slot);
-            put_refused(number, fault, rule, out, at)
+            put_refused(number, fault, rule, lines);
         }
     }
 }
@@ -121,22 +110,24 @@ fn rule_of(verdicts: &[u8], slot: usize) -> u8
     }
 }
 
-fn put_refused(number: u64, fault: SlotFault, rule: u8, out: &mut [u8], at: usize) -> usize
-    ensures { record { end = result; text = out.new } ≡ all_behind (numbers number (number_of fault.refusal) fault.slot ++ said (number_of fault.refusal) fault.slot rule) at out.old }
+fn put_refused(number: u64, fault: SlotFault, rule: u8, lines: &mut Text)
+    ensures put { record { end = lines.new.end; text = lines.new.memory.now } ≡ all_behind (numbers number (number_of fault.refusal) fault.slot ++ said (number_of fault.refusal) fault.slot rule) lines.old.end lines.old.memory.now }
+    ensures same { lines.new.memory.ghost_name ≡ lines.old.memory.ghost_name }
 {
     let answer = u64::from(u8::from(fault.refusal));
-    let a = put_numbers(number, answer, fault.slot as u64, out, at);
-    let b = put_reason(fault, rule, out, a);
-    lines::put_octet(b'\n', out, b)
+    put_numbers(number, answer, fault.slot as u64, lines);
+    put_reason(fault, rule, lines);
+    lines.put_octet(b'\n');
 }
 
 // Puts three numbers, with a space behind each.
-fn put_numbers(number: u64, answer: u64, slot: u64, out: &mut [u8], at: usize) -> usize
-    ensures { record { end = result; text = out.new } ≡ all_behind (numbers number answer slot) at out.old }
+fn put_numbers(number: u64, answer: u64, slot: u64, lines: &mut Text)
+    ensures put { record { end = lines.new.end; text = lines.new.memory.now } ≡ all_behind (numbers number answer slot) lines.old.end lines.old.memory.now }
+    ensures same { lines.new.memory.ghost_name ≡ lines.old.memory.ghost_name }
 {
-    let a = lines::put_marked(number, b' ', out, at);
-    let b = lines::put_marked(answer, b' ', out, a);
-    lines::put_marked(slot, b' ', out, b)
+    lines.put_marked(number, b' ');
+    lines.put_marked(answer, b' ');
+    lines.put_marked(slot, b' ');
 }
 
 // Whether a slot that is told untruly comes with a refusal.
@@ -147,14 +138,16 @@ fn names_untrue(fault: SlotFault) -> bool
 }
 
 // Puts why a message is refused: the slot that is told untruly and the rule that it breaks, or the words of the refusal.
-fn put_reason(fault: SlotFault, rule: u8, out: &mut [u8], at: usize) -> usize
-    ensures { record { end = result; text = out.new } ≡ all_behind (reason (number_of fault.refusal) fault.slot rule) at out.old }
+fn put_reason(fault: SlotFault, rule: u8, lines: &mut Text)
+    ensures put { record { end = lines.new.end; text = lines.new.memory.now } ≡ all_behind (reason (number_of fault.refusal) fault.slot rule) lines.old.end lines.old.memory.now }
+    ensures same { lines.new.memory.ghost_name ≡ lines.old.memory.ghost_name }
 {
     if !names_untrue(fault) {
-        return words::put_words(fault.refusal, out, at);
+        words::put_words(fault.refusal, lines);
+        return;
     }
-    let a = lines::put(b"slot ", out, at);
-    let b = lines::put_number(fault.slot as u64, out, a);
-    let c = lines::put(b": ", out, b);
-    words::put_rule(rule, out, c)
+    lines.put(b"slot ");
+    lines.put_number(fault.slot as u64);
+    lines.put(b": ");
+    words::put_rule(rule, lines);
 }

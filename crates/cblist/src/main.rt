@@ -7,6 +7,7 @@ ghost use Rattle.lines.specs.Paper.{all_behind};
 ghost use Rattle.cblist.specs.Paper.{line, line_of};
 
 use arguments::Program;
+use lines::Text;
 use logs::Listing;
 use sizes::MESSAGE;
 
@@ -53,23 +54,17 @@ impl Listing<ROOM> for Blocks {
 
     ghost lendable = { lit< tt };
 
-    fn put_line(
-        &self,
-        number: u64,
-        answer: u32,
-        _message: &[u8; MESSAGE],
-        text: &mut [u8],
-        at: usize,
-    ) -> usize {
-        put_line(number, answer, text, at)
+    fn put_line(&self, number: u64, answer: u32, _message: &[u8; MESSAGE], lines: &mut Text) {
+        put_line(number, answer, lines);
     }
 }
 
-// Puts the line of a block behind the text so far, and answers where the text ends.
-fn put_line(number: u64, returned: u32, text: &mut [u8], at: usize) -> usize
-    ensures { record { end = result; text = text.new } ≡ all_behind (line number (returned % 256) (returned / 256)) at text.old }
+// Puts the line of a block behind the lines so far.
+fn put_line(number: u64, returned: u32, lines: &mut Text)
+    ensures put { record { end = lines.new.end; text = lines.new.memory.now } ≡ all_behind (line number (returned % 256) (returned / 256)) lines.old.end lines.old.memory.now }
+    ensures same { lines.new.memory.ghost_name ≡ lines.old.memory.ghost_name }
 {
-    let a = lines::put_marked(number, b' ', text, at);
-    let b = lines::put_marked((returned % 256) as u64, b' ', text, a);
-    lines::put_marked((returned / 256) as u64, b'\n', text, b)
+    lines.put_marked(number, b' ');
+    lines.put_marked((returned % 256) as u64, b' ');
+    lines.put_marked((returned / 256) as u64, b'\n');
 }

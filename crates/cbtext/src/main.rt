@@ -1,15 +1,15 @@
 // Shows the pages of a log of blocks from a file or standard input: a line for each, with its text, or its content in hex.
 #![tactic(auto)]
 
-ghost use Rattle.std.specs.Prelude.{◌≡◌, true, ◌+◌, ◌*◌, ◌≤◌, length};
+ghost use Rattle.std.specs.Prelude.{◌≡◌, true, map};
 ghost use Rattle.std.proofs.Common.{lit≤, lit<};
 ghost use Rattle.sizes.specs.Paper.{whole_blocks};
-ghost use Rattle.lines.specs.Paper.{hexadecimal, all_behind};
-ghost use Rattle.lines.specs.Inner.{Puts};
-ghost use Rattle.cbtext.specs.Paper.{utf8, character, joined, text_part, hex_part, names, parts, heading, body, page_line, line_of};
-ghost use Rattle.cbtext.specs.Inner.{lettered};
+ghost use Rattle.lines.specs.Paper.{hexadecimal, behind, all_behind};
+ghost use Rattle.cbtext.specs.Paper.{utf8, character, names, parts, heading, line_of};
+ghost use Rattle.cbtext.specs.Inner.{lettered, text_texts, hex_texts, body_texts, page_texts};
 
 use arguments::Program;
+use lines::Text;
 use logs::Listing;
 use page::{Header, MessageId, Serial};
 use sizes::MESSAGE;
@@ -50,107 +50,102 @@ impl Listing<ROOM> for Pages {
 
     ghost lendable = { lit< tt };
 
-    fn put_line(
-        &self,
-        number: u64,
-        answer: u32,
-        message: &[u8; MESSAGE],
-        text: &mut [u8],
-        at: usize,
-    ) -> usize {
+    fn put_line(&self, number: u64, answer: u32, message: &[u8; MESSAGE], lines: &mut Text) {
         if answer % 256 != 0 {
-            return at;
+            return;
         }
-        put_page(number, message, (answer / 256) as usize, text, at)
+        put_page(number, message, (answer / 256) as usize, lines);
     }
 }
 
-fn put_page(number: u64, page: &[u8; MESSAGE], received: usize, out: &mut [u8], at: usize) -> usize
-    requires { (whole_blocks received ≡ true) × (at + 358 ≤ length out.old) }
-    ensures { Puts (page_line number page.now received) 358 at out.old out.new result }
+fn put_page(number: u64, page: &[u8; MESSAGE], received: usize, lines: &mut Text)
+    requires { whole_blocks received ≡ true }
+    ensures put { record { end = lines.new.end; text = lines.new.memory.now } ≡ all_behind (page_texts number page.now received) lines.old.end lines.old.memory.now }
+    ensures same { lines.new.memory.ghost_name ≡ lines.old.memory.ghost_name }
 {
-    let a = put_heading(number, page, out, at);
-    let b = put_body(page, received, out, a);
-    out[b] = b'\n';
-    b + 1
+    put_heading(number, page, lines);
+    put_body(page, received, lines);
+    lines.put_octet(b'\n');
 }
 
 // Puts a block's number and what the page's header says.
-fn put_heading(number: u64, page: &[u8; MESSAGE], out: &mut [u8], at: usize) -> usize
-    ensures { record { end = result; text = out.new } ≡ all_behind (heading number page.now) at out.old }
+fn put_heading(number: u64, page: &[u8; MESSAGE], lines: &mut Text)
+    ensures put { record { end = lines.new.end; text = lines.new.memory.now } ≡ all_behind (heading number page.now) lines.old.end lines.old.memory.now }
+    ensures same { lines.new.memory.ghost_name ≡ lines.old.memory.ghost_name }
 {
     let header = Header::from([page[0], page[1], page[2], page[3], page[4], page[5]]);
     let serial = header.serial;
     let id = header.id;
     let parameter = header.parameter;
-    let a = put_names(number, serial, id, out, at);
-    let b = lines::put_octet(b' ', out, a);
-    put_parameter(parameter, out, b)
+    put_names(number, serial, id, lines);
+    lines.put_octet(b' ');
+    put_parameter(parameter, lines);
 }
 
 // Puts a block's number, and a page's serial number and identifier.
-fn put_names(number: u64, serial: Serial, id: MessageId, out: &mut [u8], at: usize) -> usize
-    ensures { record { end = result; text = out.new } ≡ all_behind (names number serial.0 id.0) at out.old }
+fn put_names(number: u64, serial: Serial, id: MessageId, lines: &mut Text)
+    ensures put { record { end = lines.new.end; text = lines.new.memory.now } ≡ all_behind (names number serial.0 id.0) lines.old.end lines.old.memory.now }
+    ensures same { lines.new.memory.ghost_name ≡ lines.old.memory.ghost_name }
 {
-    let a = lines::put_marked(number, b' ', out, at);
-    let b = lines::put_hex(serial.0 as u64, 4, out, a);
-    let c = lines::put_octet(b' ', out, b);
-    lines::put_hex(id.0 as u64, 4, out, c)
+    lines.put_marked(number, b' ');
+    lines.put_hex(serial.0 as u64, 4);
+    lines.put_octet(b' ');
+    lines.put_hex(id.0 as u64, 4);
 }
 
 // Puts the page and the total of a page parameter.
-fn put_parameter(parameter: u8, out: &mut [u8], at: usize) -> usize
-    ensures { record { end = result; text = out.new } ≡ all_behind (parts parameter) at out.old }
+fn put_parameter(parameter: u8, lines: &mut Text)
+    ensures put { record { end = lines.new.end; text = lines.new.memory.now } ≡ all_behind (parts parameter) lines.old.end lines.old.memory.now }
+    ensures same { lines.new.memory.ghost_name ≡ lines.old.memory.ghost_name }
 {
-    let a = lines::put_marked((parameter / 16) as u64, b'/', out, at);
-    lines::put_number((parameter % 16) as u64, out, a)
+    lines.put_marked((parameter / 16) as u64, b'/');
+    lines.put_number((parameter % 16) as u64);
 }
 
 // Puts what was received of a page: its text, or its content where the scheme is another.
-fn put_body(page: &[u8; MESSAGE], received: usize, out: &mut [u8], at: usize) -> usize
-    requires { (whole_blocks received ≡ true) × (at + 285 ≤ length out.old) }
-    ensures { Puts (body page.now received) 285 at out.old out.new result }
+fn put_body(page: &[u8; MESSAGE], received: usize, lines: &mut Text)
+    requires { whole_blocks received ≡ true }
+    ensures put { record { end = lines.new.end; text = lines.new.memory.now } ≡ all_behind (body_texts page.now received) lines.old.end lines.old.memory.now }
+    ensures same { lines.new.memory.ghost_name ≡ lines.old.memory.ghost_name }
 {
     // Stays a fixed array: read_text writes all of its places, and a program holds no heap.
     let mut points = [0u16; PLACES];
     let got = text_reader::read_text(page, received, &mut points);
     if let Ok(count) = got {
-        return put_text(&points[..count], out, at);
+        put_text(&points[..count], lines);
+        return;
     }
-    put_content(page::content(page, received), out, at)
+    put_content(page::content(page, received), lines);
 }
 
-fn put_text(points: &[u16], out: &mut [u8], at: usize) -> usize
-    requires { at + (6 + 3 * length points.now) ≤ length out.old }
-    ensures { Puts (text_part points.now) (6 + 3 * length points.now) at out.old out.new result }
+fn put_text(points: &[u16], lines: &mut Text)
+    ensures put { record { end = lines.new.end; text = lines.new.memory.now } ≡ all_behind (text_texts points.now) lines.old.end lines.old.memory.now }
+    ensures same { lines.new.memory.ghost_name ≡ lines.old.memory.ghost_name }
 {
-    let a = lines::put(b" text ", out, at);
-    put_characters(points, out, a)
+    lines.put(b" text ");
+    put_characters(points, lines);
 }
 
-fn put_characters(points: &[u16], out: &mut [u8], at: usize) -> usize
-    requires { at + 3 * length points.now ≤ length out.old }
-    ensures { Puts (joined character points.now) (3 * length points.now) at out.old out.new result }
+fn put_characters(points: &[u16], lines: &mut Text)
+    ensures put { record { end = lines.new.end; text = lines.new.memory.now } ≡ all_behind (map character points.now) lines.old.end lines.old.memory.now }
+    ensures same { lines.new.memory.ghost_name ≡ lines.old.memory.ghost_name }
 {
-    let mut end = at;
     for point in points {
-        end = put_character(*point, out, end);
+        put_character(*point, lines);
     }
-    end
 }
 
 // Line ends, form feeds and backslashes in a text are told by letters behind a backslash, so that each page keeps to its line
 // and no two texts look alike.
-fn put_character(point: u16, out: &mut [u8], at: usize) -> usize
-    requires { at + 3 ≤ length out.old }
-    ensures { Puts (character point) 3 at out.old out.new result }
+fn put_character(point: u16, lines: &mut Text)
+    ensures put { record { end = lines.new.end; text = lines.new.memory.now } ≡ behind (character point) lines.old.end lines.old.memory.now }
+    ensures same { lines.new.memory.ghost_name ≡ lines.old.memory.ghost_name }
 {
-    let Some(behind) = letter_of(point) else {
-        return put_utf8(point, out, at);
+    let Some(letter) = letter_of(point) else {
+        put_utf8(point, lines);
+        return;
     };
-    out[at] = b'\\';
-    out[at + 1] = behind;
-    at + 2
+    lines.put(&[b'\\', letter]);
 }
 
 // The letter that stands for a character behind a backslash, where it is not written as it is.
@@ -168,40 +163,39 @@ fn letter_of(point: u16) -> Option<u8>
 }
 
 // Stays by hand: a u16 may be a surrogate, which is no char and has no encode_utf8.
-fn put_utf8(point: u16, out: &mut [u8], at: usize) -> usize
-    requires { at + 3 ≤ length out.old }
-    ensures { Puts (utf8 point) 3 at out.old out.new result }
+fn put_utf8(point: u16, lines: &mut Text)
+    ensures put { record { end = lines.new.end; text = lines.new.memory.now } ≡ behind (utf8 point) lines.old.end lines.old.memory.now }
+    ensures same { lines.new.memory.ghost_name ≡ lines.old.memory.ghost_name }
 {
     if point < 0x80 {
-        out[at] = point as u8;
-        return at + 1;
+        lines.put_octet(point as u8);
+        return;
     }
     if point < 0x800 {
-        out[at] = (0xC0 + point / 64) as u8;
-        out[at + 1] = (0x80 + point % 64) as u8;
-        return at + 2;
+        lines.put(&[(0xC0 + point / 64) as u8, (0x80 + point % 64) as u8]);
+        return;
     }
-    out[at] = (0xE0 + point / 4096) as u8;
-    out[at + 1] = (0x80 + point / 64 % 64) as u8;
-    out[at + 2] = (0x80 + point % 64) as u8;
-    at + 3
+    let first = (0xE0 + point / 4096) as u8;
+    lines.put(&[
+        first,
+        (0x80 + point / 64 % 64) as u8,
+        (0x80 + point % 64) as u8,
+    ]);
 }
 
-fn put_content(content: &[u8], out: &mut [u8], at: usize) -> usize
-    requires { at + (5 + 2 * length content.now) ≤ length out.old }
-    ensures { Puts (hex_part content.now) (5 + 2 * length content.now) at out.old out.new result }
+fn put_content(content: &[u8], lines: &mut Text)
+    ensures put { record { end = lines.new.end; text = lines.new.memory.now } ≡ all_behind (hex_texts content.now) lines.old.end lines.old.memory.now }
+    ensures same { lines.new.memory.ghost_name ≡ lines.old.memory.ghost_name }
 {
-    let a = lines::put(b" hex ", out, at);
-    put_octets(content, out, a)
+    lines.put(b" hex ");
+    put_octets(content, lines);
 }
 
-fn put_octets(content: &[u8], out: &mut [u8], at: usize) -> usize
-    requires { at + 2 * length content.now ≤ length out.old }
-    ensures { Puts (joined (hexadecimal 2) content.now) (2 * length content.now) at out.old out.new result }
+fn put_octets(content: &[u8], lines: &mut Text)
+    ensures put { record { end = lines.new.end; text = lines.new.memory.now } ≡ all_behind (map (hexadecimal 2) content.now) lines.old.end lines.old.memory.now }
+    ensures same { lines.new.memory.ghost_name ≡ lines.old.memory.ghost_name }
 {
-    let mut end = at;
     for octet in content {
-        end = lines::put_hex(*octet as u64, 2, out, end);
+        lines.put_hex(*octet as u64, 2);
     }
-    end
 }

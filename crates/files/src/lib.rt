@@ -6,6 +6,7 @@ ghost use Rattle.lines.specs.Paper.{all_behind};
 ghost use Rattle.files.specs.Paper.{faulty};
 ghost use Rattle.files.specs.Inner.{named, filled};
 
+use lines::Text;
 use std::env::FillError;
 use std::fmt::Write;
 use std::fs::File;
@@ -55,31 +56,29 @@ pub struct ReadFault {
     pub octets: usize,
 }
 
-// Stays an array and its count: programs take no heap, and the words are cut before their number.
-// An error's words, and where they end.
+// An error's words.
 #[derive(Drop)]
-struct Words {
-    text: [u8; WORDS],
-    end: usize,
-}
+struct Words<'a>(Text<'a>);
 
-impl Write for Words {
+impl Write for Words<'_> {
     fn write_str(&mut self, words: &str) -> fmt::Result {
-        self.end = lines::put(words.as_bytes(), &mut self.text, self.end);
+        self.0.put(words.as_bytes());
         Ok(())
     }
 }
 
 // Says on standard error what the system refused, and behind it why.
 pub fn say(errors: &impl Print, what: &[u8], error: Error) {
-    let mut words = Words {
-        text: [0; WORDS],
+    // Stays an array: programs take no heap.
+    let mut memory = [0u8; WORDS];
+    let mut words = Words(Text {
+        memory: &mut memory,
         end: 0,
-    };
+    });
     let _ = write!(words, "{error}");
     let _ = errors.write_all(what);
     let _ = errors.write_all(b": ");
-    let _ = errors.write_all(unnumbered(first(&words.text, words.end)));
+    let _ = errors.write_all(unnumbered(words.0.as_bytes()));
     let _ = errors.write_all(b"\n");
 }
 
@@ -91,18 +90,14 @@ fn unnumbered(words: &[u8]) -> &[u8] {
     }
 }
 
-// The first octets of a text; the whole text, where it has no more.
-fn first(text: &[u8], count: usize) -> &[u8] {
-    text.get(..count).unwrap_or(text)
-}
-
-// Puts the name of a program and that of a thing that the system refused it, and answers where they end; a part that does not fit is left out.
-fn put_fault(program: &[u8], name: &[u8], text: &mut [u8], at: usize) -> usize
-    ensures { record { end = result; text = text.new } ≡ all_behind (faulty program.now name.now) at text.old }
+// Puts the name of a program and that of a thing that the system refused it. A part that does not fit is left out.
+fn put_fault(program: &[u8], name: &[u8], line: &mut Text)
+    ensures put { record { end = line.new.end; text = line.new.memory.now } ≡ all_behind (faulty program.now name.now) line.old.end line.old.memory.now }
+    ensures same { line.new.memory.ghost_name ≡ line.old.memory.ghost_name }
 {
-    let named = lines::put(program, text, at);
-    let led = lines::put(b": ", text, named);
-    lines::put(name, text, led)
+    line.put(program);
+    line.put(b": ");
+    line.put(name);
 }
 
 // Says on standard error what the system refused a program, and behind it why. The names are put into lent memory; answers how long they are.
@@ -115,9 +110,13 @@ pub fn say_fault(
 ) -> usize
     ensures { record { end = result; text = text.new } ≡ all_behind (faulty program.now name.now) 0 text.old }
 {
-    let end = put_fault(program, name, text, 0);
-    say(errors, first(text, end), error);
-    end
+    let mut line = Text {
+        memory: text,
+        end: 0,
+    };
+    put_fault(program, name, &mut line);
+    say(errors, line.as_bytes(), error);
+    line.end
 }
 
 fn fail(errors: &impl Print, error: Error, program: &[u8], name: &[u8]) {
@@ -181,9 +180,16 @@ pub fn open_log<R: Env + Files + Input>(
     ensures { named result ≤ length name.old }
 {
     if let Err(FillError::NotPresent) = rt.arg(i, &mut []) {
-        let length = lines::put(b"standard input", name, 0);
+        let mut text = Text {
+            memory: name,
+            end: 0,
+        };
+        text.put(b"standard input");
         let file = Source::Input(rt.reader());
-        return Some(Opened { file, length });
+        return Some(Opened {
+            file,
+            length: text.end,
+        });
     }
     let opened = open_named(rt, errors, program, i, name)?;
     Some(Opened {

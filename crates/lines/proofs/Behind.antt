@@ -1,6 +1,6 @@
 -- Laws of what stands behind a text: the cases of `behind`, and one thing put behind another.
 use Rattle.laws.proofs.Base.{◌≡◌, refl, sym, ap, ◌∙◌, Bool, true, false, List, [], ◌∷◌, ◌++◌, append_assoc, append-nil, ℕ, ◌+◌, ◌-◌, ◌≤◌, ◌<◌, add-one, arith}
-use Rattle.laws.proofs.Base.{length, take, drop, set, length-take, length-drop, length-append, take_at, take-suc-set, leb, le-leb, lt-leb, leb-true, leb-false}
+use Rattle.laws.proofs.Base.{length, take, drop, set, length-take, length-drop, length-append, take_at, leb, le-leb, lt-leb, leb-true, leb-false}
 use lib.Seq.{set_split}
 use borrow.Rule.Slice.PartMut.{put_mid}
 use Rattle.laws.proofs.Parts.{put_copy}
@@ -76,10 +76,6 @@ length_behind s n t = go (leb (n + length s) (length t)) refl
 pub puts_none : (n : ℕ) (t : List ℕ) → Puts [] 0 n t t n
 puts_none n t = record { text = sym (append-nil (take n t)); onward = omega arith; room = omega arith }
 
--- one octet is put
-pub puts_octet : (n x : ℕ) (t : List ℕ) → n < length t → Puts (x ∷ []) 1 n t (set t n x) (n + 1)
-puts_octet n x t h = record { text = rw (add-one n) (take-suc-set t n x h); onward = omega arith; room = omega arith }
-
 -- what is put is no longer than more, either
 pub puts_wider : {s : List ℕ} {m n r : ℕ} {t t' : List ℕ} (more : ℕ) → m ≤ more → Puts s m n t t' r → Puts s more n t t' r
 puts_wider more h p = record { text = p.text; onward = p.onward; room = omega (arith, p.room) }
@@ -92,23 +88,3 @@ puts_then {s} {s'} {m} {m'} {n} {t} p q =
       onward = omega (arith, p.onward, q.onward);
       room = omega (arith, p.room, q.room);
     }
-
--- an octet between the two
-pub puts_marked : {s s' : List ℕ} {m m' n : ℕ} {t t₁ t₂ : List ℕ} {a b : ℕ} (x : ℕ) → Puts s m n t t₁ a → a < length t₁ → Puts s' m' (a + 1) (set t₁ a x) t₂ b
-    → Puts (s ++ (x ∷ s')) (m + (1 + m')) n t t₂ b
-puts_marked {s} {s'} {m} {m'} {n} {t} {t₁} {t₂} {a} x p h q = puts_then p (puts_then (puts_octet a x t₁ h) q)
-
-module _ (s : List ℕ) (n : ℕ) (t : List ℕ) {left : PutLeft} (e : left ≡ behind s n t) where
-  put : n + length s ≤ length t → Puts s (length s) n t left.text left.end
-  put h = puts_behind s n t (length s) left.end left.text e (omega arith) h
-
-  -- room for more is left behind octets for which there is room too
-  pub put_room : (more : ℕ) → n + (length s + more) ≤ length t → left.end + more ≤ length left.text
-  put_room more h =
-      let same : length left.text ≡ length t = ap (λ (x : PutLeft). length x.text) e ∙ length_behind s n t in
-      let p = put (omega arith) in
-      omega (arith, p.room)
-
-  -- octets, and what is put behind them
-  pub put_then : {s' : List ℕ} {m b : ℕ} {t₂ : List ℕ} → n + length s ≤ length t → Puts s' m left.end left.text t₂ b → Puts (s ++ s') (length s + m) n t t₂ b
-  put_then h q = puts_then (put h) q

@@ -4,7 +4,7 @@ use Rattle.lines.specs as defs
 use defs.Paper.{PutLeft, behind, all_behind, flat}
 use defs.Inner.{Puts}
 use Rattle.lines.proofs as own
-use own.Behind.{ends_inside, length_behind, puts_behind, puts_none, puts_wider, puts_then}
+use own.Behind.{length_behind, puts_behind, puts_none, puts_wider, puts_then}
 
 -- one text, and others behind it
 pub and_then : (s : List ℕ) (ss : List (List ℕ)) (n : ℕ) (t : List ℕ) {one left : PutLeft} → one ≡ behind s n t → left ≡ all_behind ss one.end one.text
@@ -24,18 +24,14 @@ unfolding all_behind
 and_others [] ss n t e h = h ∙ ap (λ (x : PutLeft). all_behind ss x.end x.text) e
 and_others (r ∷ rs) ss n t e h = and_others rs ss (behind r n t).end (behind r n t).text e h
 
--- they end within the memory
-pub all_inside : (ss : List (List ℕ)) (n : ℕ) (t : List ℕ) → n ≤ length t → (all_behind ss n t).end ≤ length t
+-- the memory is as long as it was
+length_texts : (ss : List (List ℕ)) (n : ℕ) (t : List ℕ) → length (all_behind ss n t).text ≡ length t
 unfolding all_behind
-all_inside [] n t h = h
-all_inside (s ∷ ss) n t h =
-    let same = length_behind s n t in
-    rw (← same) (all_inside ss (behind s n t).end (behind s n t).text (rw same (ends_inside s n t h refl)))
+length_texts [] n t = refl
+length_texts (s ∷ ss) n t = length_texts ss (behind s n t).end (behind s n t).text ∙ length_behind s n t
 
-pub ends_all : (ss : List (List ℕ)) (n : ℕ) (t : List ℕ) {left : PutLeft} → n ≤ length t → left ≡ all_behind ss n t → left.end ≤ length t
-ends_all ss n t {left} h e =
-    let end : left.end ≡ (all_behind ss n t).end = ap (λ (x : PutLeft). x.end) e in
-    rw end (all_inside ss n t h)
+pub length_all : (ss : List (List ℕ)) (n : ℕ) (t : List ℕ) {left : PutLeft} → left ≡ all_behind ss n t → length left.text ≡ length t
+length_all ss n t e = ap (λ (x : PutLeft). length x.text) e ∙ length_texts ss n t
 
 -- texts for which there is room are put as one
 puts_texts : (ss : List (List ℕ)) (n : ℕ) (t : List ℕ) → n + length (flat ss) ≤ length t

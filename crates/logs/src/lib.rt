@@ -13,6 +13,7 @@ ghost use Rattle.logs.specs.Inner.{moved_on, ending_of, chunk_of, Reads, Answers
 use block::BLOCK;
 use files::ReadFault;
 use firmware::STATE;
+use lines::Text;
 use sizes::MESSAGE;
 use std::io::{Input, Print, Read};
 use std::rt::{Env, Files};
@@ -134,18 +135,13 @@ pub trait Listing<const ROOM: usize> {
     // The octets of the longest line.
     ghost wide: { ℕ };
 
-    // Puts the line of a piece's answer behind the lines so far, and answers where they end. The number is the piece's, the
-    // answer that of the intake's call, and the message what the call left in its output.
-    fn put_line(
-        &self,
-        number: u64,
-        answer: u32,
-        message: &[u8; MESSAGE],
-        text: &mut [u8],
-        at: usize,
-    ) -> usize
-        requires { ((g : Given) × Answers g answer message.now) × (at + wide ≤ length text.old) }
-        ensures { (g : Given) → Answers g answer message.now → Puts (line self.now number g) wide at text.old text.new result };
+    // Puts the line of a piece's answer behind the lines so far. The number is the piece's, the answer that of the intake's
+    // call, and the message what the call left in its output.
+    fn put_line(&self, number: u64, answer: u32, message: &[u8; MESSAGE], lines: &mut Text)
+        requires { ((g : Given) × Answers g answer message.now) × (lines.old.end + wide ≤ length lines.old.memory.now) }
+        ensures put { (g : Given) → Answers g answer message.now → Puts (line self.now number g) wide lines.old.end lines.old.memory.now lines.new.memory.now lines.new.end }
+        ensures size { length lines.new.memory.now ≡ length lines.old.memory.now }
+        ensures same { lines.new.memory.ghost_name ≡ lines.old.memory.ghost_name };
 
     ghost fits: { 1024 * wide ≤ ROOM };
 
@@ -189,13 +185,17 @@ fn list_opened<L: Listing<ROOM>, const ROOM: usize>(
     form: &L,
 ) {
     let mut state = started();
-    let mut text = [0u8; ROOM];
+    let mut memory = [0u8; ROOM];
+    let mut lines = Text {
+        memory: &mut memory,
+        end: 0,
+    };
     list_all(
-        output, errors, program, name, file, form, &mut state, &mut text,
+        output, errors, program, name, file, form, &mut state, &mut lines,
     );
 }
 
-// Lists a log to its end, chunk after chunk. The text and the state are left as after the last chunk; answers the length of its lines.
+// Lists a log to its end, chunk after chunk. The lines and the state are left as after the last chunk.
 fn list_all<L: Listing<ROOM>, const ROOM: usize>(
     output: &impl Print,
     errors: &impl Print,
@@ -204,46 +204,45 @@ fn list_all<L: Listing<ROOM>, const ROOM: usize>(
     file: &mut impl Read,
     form: &L,
     state: &mut [u8; STATE],
-    text: &mut [u8],
-) -> usize
-    requires { (state.old ≡ lent start) × (length text.old ≡ ROOM) }
-    ensures { Continues (L.line form.now) state.new text.new result }
+    lines: &mut Text,
+)
+    requires { (state.old ≡ lent start) × (length lines.old.memory.now ≡ ROOM) }
+    ensures { Continues (L.line form.now) state.new lines.new.memory.now lines.new.end }
 {
     let mut log = [0u8; WHOLE];
     let mut message = [0u8; MESSAGE];
     let mut number: u64 = 1;
-    let mut end = 0;
+    lines.end = 0;
     // Stays while: the log's end is known only when it is read.
     while number < LAST {
         let chunk = read_chunk(errors, program, name, file, number, &mut log);
         let octets = chunk.octets;
-        end = list(form, state, number, &log[..octets], &mut message, text);
-        if !write_chunk(output, errors, program, chunk, &text[..end]) {
-            return end;
+        list(form, state, number, &log[..octets], &mut message, lines);
+        if !write_chunk(output, errors, program, chunk, lines.as_bytes()) {
+            return;
         }
         number = chunk.next;
     }
-    end
 }
 
-// Lists a chunk of a log, whose first piece has a number: a shorter tail is a piece too. Answers the length of the lines.
+// Lists a chunk of a log, whose first piece has a number, in place of what was listed before: a shorter tail is a piece too.
 fn list<L: Listing<ROOM>, const ROOM: usize>(
     form: &L,
     state: &mut [u8; STATE],
     first: u64,
     log: &[u8],
     message: &mut [u8; MESSAGE],
-    text: &mut [u8],
-) -> usize
-    requires { (length log.now ≤ 23552) × (length text.old ≡ ROOM) × (first < 1000000000000000000) }
-    ensures { (take result text.new ≡ listing (L.line form.now) (held_in state.old) first (cut log.now)) × (state.new ≡ lent (after (held_in state.old) (cut log.now))) × (result ≤ ROOM) }
+    lines: &mut Text,
+)
+    requires { (length log.now ≤ 23552) × (length lines.old.memory.now ≡ ROOM) × (first < 1000000000000000000) }
+    ensures listed { (take lines.new.end lines.new.memory.now ≡ listing (L.line form.now) (held_in state.old) first (cut log.now)) × (state.new ≡ lent (after (held_in state.old) (cut log.now))) × (lines.new.end ≤ ROOM) }
+    ensures size { length lines.new.memory.now ≡ length lines.old.memory.now }
 {
     let mut number = first;
-    let mut end = 0;
+    lines.end = 0;
     for piece in log.chunks(BLOCK) {
         let answer = firmware::cb_intake(state, piece, message);
-        end = form.put_line(number, answer, message, text, end);
+        form.put_line(number, answer, message, lines);
         number += 1;
     }
-    end
 }

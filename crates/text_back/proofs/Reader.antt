@@ -18,7 +18,7 @@ pub count : (p : List ℕ) (n : ℕ) (t : List ℕ) → reading p n t ≡ shown_
     → (reading p n t).characters ≡ length (shown (septets_received p n))
 count p n t e = ap (λ (r : Reading). r.characters) e ∙ shown_characters blank_cell (shown (septets_received p n))
 
-received_bound : (p : List ℕ) (n : ℕ) → n ≤ 88 → length (septets_received p n) ≤ 93
+pub received_bound : (p : List ℕ) (n : ℕ) → n ≤ 88 → length (septets_received p n) ≤ 93
 unfolding whole_of
 received_bound p n h =
     let o : List ℕ = take (n - 6) (drop 6 p) in

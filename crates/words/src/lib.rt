@@ -6,13 +6,15 @@ ghost use Rattle.refusals.specs.Number.{number_of};
 ghost use Rattle.lines.specs.Paper.{behind};
 ghost use Rattle.words.specs.Paper.{words, rule_words};
 
+use lines::Text;
 use refusals::Refusal;
 
-// Puts the words of a refusal behind the first octets of a text, and answers where they end. Where they do not fit, nothing is put.
-pub fn put_words(refusal: Refusal, text: &mut [u8], at: usize) -> usize
-    ensures { record { end = result; text = text.new } ≡ behind (words (number_of refusal)) at text.old }
+// Puts the words of a refusal behind a text. Where they do not fit, nothing is put.
+pub fn put_words(refusal: Refusal, line: &mut Text)
+    ensures put { record { end = line.new.end; text = line.new.memory.now } ≡ behind (words (number_of refusal)) line.old.end line.old.memory.now }
+    ensures same { line.new.memory.ghost_name ≡ line.old.memory.ghost_name }
 {
-    lines::put(words_of(refusal).as_bytes(), text, at)
+    line.put(words_of(refusal).as_bytes());
 }
 
 // The words of a refusal.
@@ -60,10 +62,11 @@ fn words_of(refusal: Refusal) -> &'static str
 
 // Puts the words of a rule that a slot breaks; a number that is no rule has none.
 // Stays a number: checker::check_slots lends its verdicts as octets.
-pub fn put_rule(rule: u8, text: &mut [u8], at: usize) -> usize
-    ensures { record { end = result; text = text.new } ≡ behind (rule_words rule) at text.old }
+pub fn put_rule(rule: u8, line: &mut Text)
+    ensures put { record { end = line.new.end; text = line.new.memory.now } ≡ behind (rule_words rule) line.old.end line.old.memory.now }
+    ensures same { line.new.memory.ghost_name ≡ line.old.memory.ghost_name }
 {
-    lines::put(words_of_rule(rule).as_bytes(), text, at)
+    line.put(words_of_rule(rule).as_bytes());
 }
 
 // The words of a rule, or none.

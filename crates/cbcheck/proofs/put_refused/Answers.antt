@@ -7,11 +7,11 @@ use Rattle.lines.proofs.Texts.{and_last, and_others}
 use Rattle.cbcheck.specs.Paper.{numbers, reason, said}
 use Rattle.cbcheck.proofs.put_refused.Goals as goal
 
-pub returns : goal.returns
+pub returns-clause-put : goal.returns-clause-put
 unfolding said
-returns c =
+returns-clause-put c =
     let a = c.args in
     let answer : c.from-answer.result ≡ number_of a.fault.refusal = search rules in
     rw (ne_eqb _ 0 (number_of_positive a.fault.refusal))
-    (and_others (numbers _ _ _) _ _ _ (rw answer at c.put_numbers-a.ensures)
-    (and_others (reason _ _ _) _ _ _ c.put_reason-b.ensures (and_last _ _ _ c.put_octet.ensures)))
+    (and_others (numbers _ _ _) _ _ _ (rw answer at c.put_numbers.ensures.put)
+    (and_others (reason _ _ _) _ _ _ c.put_reason.ensures.put (and_last _ _ _ c.put_octet.ensures.put)))

@@ -1,10 +1,8 @@
 -- `cbtext::put_content` meets its contract: the word is put, and the rest behind it.
-use Rattle.laws.proofs.Base.{arith}
-use Rattle.lines.proofs.Behind.{put_room, put_then}
+use Rattle.lines.specs.Paper.{ascii}
+use Rattle.lines.proofs.Texts.{and_then}
 use Rattle.cbtext.proofs.put_content.Goals as goal
 
-pub put_octets-requires : goal.put_octets-requires
-put_octets-requires c = put_room _ _ _ c.put-a.ensures _ c.requires
-
-pub returns : goal.returns
-returns c = put_then _ _ _ c.put-a.ensures (omega (arith, c.requires)) c.put_octets.ensures
+pub returns-clause-put : goal.returns-clause-put
+unfolding ascii
+returns-clause-put c = and_then _ _ _ _ c.put.ensures.put c.put_octets.ensures.put

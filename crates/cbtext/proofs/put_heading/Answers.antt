@@ -5,8 +5,8 @@ use Rattle.cbtext.specs.Paper.{names}
 use Rattle.cbtext.proofs.Body.{header_front}
 use Rattle.cbtext.proofs.put_heading.Goals as goal
 
-pub returns : goal.returns
-returns c =
+pub returns-clause-put : goal.returns-clause-put
+returns-clause-put c =
     let page = c.args.page.now in
     rw (← (c.from-header.ensures ∙ header_front page))
-    (and_others (names _ _ _) _ _ _ c.put_names-a.ensures (and_then _ _ _ _ c.put_octet-b.ensures c.put_parameter.ensures))
+    (and_others (names _ _ _) _ _ _ c.put_names.ensures.put (and_then _ _ _ _ c.put_octet.ensures.put c.put_parameter.ensures.put))

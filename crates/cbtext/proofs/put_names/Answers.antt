@@ -3,7 +3,7 @@ use Rattle.lines.specs.Paper.{marked}
 use Rattle.lines.proofs.Texts.{and_then, and_last, and_others}
 use Rattle.cbtext.proofs.put_names.Goals as goal
 
-pub returns : goal.returns
-returns c =
-    and_others (marked _ _) _ _ _ c.put_marked-a.ensures
-    (and_then _ _ _ _ c.put_hex-b.ensures (and_then _ _ _ _ c.put_octet-c.ensures (and_last _ _ _ c.put_hex.ensures)))
+pub returns-clause-put : goal.returns-clause-put
+returns-clause-put c =
+    and_others (marked _ _) _ _ _ c.put_marked.ensures.put
+    (and_then _ _ _ _ c.put_hex.ensures.put (and_then _ _ _ _ c.put_octet.ensures.put (and_last _ _ _ c.put_hex-2.ensures.put)))

@@ -1,19 +1,17 @@
 -- `cbtext::put_octets` meets its contract. The invariant: the octets so far are put.
-use Rattle.laws.proofs.Base.{◌+◌, ◌≤◌, arith, length, get_or}
-use Rattle.lines.specs.Paper.{hexadecimal}
-use Rattle.lines.proofs.Behind.{puts_behind}
-use Rattle.lines.proofs.Numbers.{length_hexadecimal}
-use Rattle.cbtext.proofs.Characters.{joins_start, joins_turn}
+use Rattle.laws.proofs.Base.{refl, ◌∙◌, arith}
+use Rattle.lines.specs.Paper.{hexadecimal, all_behind}
+use Rattle.cbtext.proofs.Characters.{each_turn, each_end}
 use Rattle.cbtext.proofs.put_octets.Goals as goal
 
 pub loop-octet-init : goal.loop-octet-init
-loop-octet-init c = joins_start
+unfolding all_behind
+loop-octet-init c = (refl, refl)
 
 pub loop-octet-preserved : goal.loop-octet-preserved
 loop-octet-preserved c =
-    let put = c.put_hex-end in
-    let l = c.loop-octet in
-    let x = get_or c.args.content.now l.octet-index 0 in
-    let room : l.end + 2 ≤ length l.out = omega (arith, l.invariant.size, l.invariant.puts.room, c.requires) in
-    joins_turn l.invariant c.loop-octet-test.true put.auto.text
-    (puts_behind (hexadecimal 2 x) l.end l.out 2 put.result put.new.text put.ensures (omega (arith, length_hexadecimal 2 x)) room)
+    let so_far = c.loop-octet.invariant in
+    (each_turn (hexadecimal 2) _ _ _ _ so_far.0 c.loop-octet-test.true c.put_hex.ensures.put, c.put_hex.ensures.same ∙ so_far.1)
+
+pub returns-clause-put : goal.returns-clause-put
+returns-clause-put c = each_end (hexadecimal 2) _ _ _ _ c.loop-octet.invariant.0 (omega (arith, c.loop-octet-test.false))

@@ -4,4 +4,4 @@ use Rattle.lines.proofs.Behind.{ends_inside}
 use Rattle.files.proofs.open_log.Goals as goal
 
 pub returns-in-Err-NotPresent : goal.returns-in-Err-NotPresent
-returns-in-Err-NotPresent g c = ends_inside _ _ _ (omega arith) c.put-length.ensures
+returns-in-Err-NotPresent g c = ends_inside _ _ _ (omega arith) c.put.ensures.put

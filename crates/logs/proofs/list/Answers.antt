@@ -1,5 +1,5 @@
 -- `logs::list` meets its contract. The invariant: the text so far and the lines of the pieces to come are the listing.
-use Rattle.laws.proofs.Base.{◌≡◌, ◌∙◌}
+use Rattle.laws.proofs.Base.{◌≡◌, sym, ◌∙◌}
 use Rattle.std.proofs.Common.{rules}
 use Rattle.logs.proofs.Complete.{answers}
 use Rattle.logs.proofs.Listed.{listed_start, listed_end, taken, line_room, listed_turn}
@@ -11,8 +11,8 @@ loop-piece-init g c =
     let rest : c.into_iter-piece-iterator.result.rest.now ≡ c.args.log.now = search rules in
     (size, rw rest (listed_start (search rules) (search rules) c.requires g.met.L.Listing.fits))
 
-pub put_line-end-requires : goal.put_line-end-requires
-put_line-end-requires g c =
+pub put_line-requires : goal.put_line-requires
+put_line-requires g c =
     let l = c.loop-piece.invariant.1 in
     let s = c.in-Some.ensures.steps.1 in
     ((_, answers _ _ (taken l _ c.cb_intake-answer.ensures)), line_room l _ _ s.0 (rw c.loop-piece.invariant.0 at s.1) s.2)
@@ -23,9 +23,12 @@ loop-piece-preserved g c =
     let s = c.in-Some.ensures.steps.1 in
     let t = taken l _ c.cb_intake-answer.ensures in (
       c.in-Some.ensures.steps.0 ∙ c.loop-piece.invariant.0,
-      listed_turn l _ _ s.0 (rw c.loop-piece.invariant.0 at s.1) s.2 t c.cb_intake-answer.auto.state c.cb_intake-answer.auto.output c.put_line-end.auto.text
-          (c.put_line-end.ensures _ (answers _ _ t)),
+      listed_turn l _ _ s.0 (rw c.loop-piece.invariant.0 at s.1) s.2 t c.cb_intake-answer.auto.state c.cb_intake-answer.auto.output c.put_line.ensures.size
+          (c.put_line.ensures.put _ (answers _ _ t)),
     )
 
-pub returns : goal.returns
-returns g c = listed_end c.loop-piece.invariant.1 c.in-None.ensures.steps.1.0
+pub returns-clause-listed : goal.returns-clause-listed
+returns-clause-listed g c = listed_end c.loop-piece.invariant.1 c.in-None.ensures.steps.1.0
+
+pub returns-clause-size : goal.returns-clause-size
+returns-clause-size g c = c.loop-piece.invariant.1.text_size ∙ sym c.requires.1

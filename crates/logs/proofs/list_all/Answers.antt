@@ -8,7 +8,7 @@ pub loop-number-init : goal.loop-number-init
 loop-number-init g c = going_start _ _ c.requires (search rules) (search rules)
 
 pub returns-then-not-write_chunk : goal.returns-then-not-write_chunk
-returns-then-not-write_chunk g c = turn_told c.loop-number.invariant c.loop-number-test.true c.read_chunk-chunk.ensures c.list-end.ensures
+returns-then-not-write_chunk g c = turn_told c.loop-number.invariant c.loop-number-test.true c.read_chunk-chunk.ensures c.list.ensures.listed
 
 pub loop-number-smaller : goal.loop-number-smaller
 loop-number-smaller g c =
@@ -18,7 +18,7 @@ loop-number-smaller g c =
 
 pub loop-number-preserved : goal.loop-number-preserved
 loop-number-preserved g c =
-    let state_size : length c.list-end.new.state ≡ 90 = search rules in
-    let message_size : length c.list-end.new.message ≡ 88 = search rules in
-    turn_going c.loop-number.invariant c.loop-number-test.true c.read_chunk-chunk.ensures c.list-end.ensures
-    (c.write_chunk.ensures.0 c.if-not-write_chunk.false) (state_size ∙ sym c.loop-number.invariant.state_size) (message_size ∙ sym c.loop-number.invariant.message_size) c.list-end.auto.text
+    let state_size : length c.list.new.state ≡ 90 = search rules in
+    let message_size : length c.list.new.message ≡ 88 = search rules in
+    turn_going c.loop-number.invariant c.loop-number-test.true c.read_chunk-chunk.ensures c.list.ensures.listed
+    (c.write_chunk.ensures.0 c.if-not-write_chunk.false) (state_size ∙ sym c.loop-number.invariant.state_size) (message_size ∙ sym c.loop-number.invariant.message_size) c.list.ensures.size

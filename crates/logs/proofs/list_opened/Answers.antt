@@ -2,5 +2,5 @@
 use Rattle.laws.proofs.Base.{arith}
 use Rattle.logs.proofs.list_opened.Goals as goal
 
-pub whole_as_slice-list_all : goal.whole_as_slice-list_all
-whole_as_slice-list_all g c = let h = g.met.L.Listing.lendable in omega arith
+pub whole_as_slice-lines : goal.whole_as_slice-lines
+whole_as_slice-lines g c = let h = g.met.L.Listing.lendable in omega arith

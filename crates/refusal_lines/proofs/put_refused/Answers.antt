@@ -5,9 +5,9 @@ use Rattle.lines.proofs.Texts.{and_then, and_last, and_others}
 use Rattle.refusal_lines.specs.Paper.{numbered}
 use Rattle.refusal_lines.proofs.put_refused.Goals as goal
 
-pub returns : goal.returns
+pub returns-clause-put : goal.returns-clause-put
 unfolding ascii
-returns c =
+returns-clause-put c =
     let a = c.args in
-    and_others (numbered a.program.now (number_of a.refusal)) _ a.at a.text.now c.put_named-numbered.ensures
-    (and_then _ _ _ _ c.put-told.ensures (and_then _ _ _ _ c.put_words-said.ensures (and_last _ _ _ c.put.ensures)))
+    and_others (numbered a.program.now (number_of a.refusal)) _ _ _ c.put_named.ensures.put
+    (and_then _ _ _ _ c.put.ensures.put (and_then _ _ _ _ c.put_words.ensures.put (and_last _ _ _ c.put-2.ensures.put)))
