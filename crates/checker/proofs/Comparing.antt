@@ -1,8 +1,10 @@
 -- What is answered of a message and left of its slots, told from the places of its descriptions.
 use Rattle.laws.proofs.Base.{◌≡◌, Bool, true, eqb, ltb, eq-eqb, ne_eqb, sym, ap, ◌∙◌, not, List, map, ℕ, suc, ◌≤◌, ◌<◌, arith, get_or, list_get_d_map}
-use Rattle.laws.proofs.Base.{ltb-true, le-ltb, lt-ltb}
+use Rattle.laws.proofs.Base.{length, ltb-true, ltb-false, le-ltb, lt-ltb}
+use Rattle.std.specs.List.{position, position_or_len}
+use Rattle.std.proofs.lemmas.List.Sums.{passes_at_first, fails_before_first}
 use Rattle.laws.specs.Upto.{lowest, each}
-use Rattle.laws.proofs.Lowest.{Lowest, none_passes, first_passes, lowest_is, lowest_within}
+use Rattle.laws.proofs.Lowest.{Lowest, none_passes, first_passes, lowest_is, lowest_at_lem, lowest_none, lowest_within}
 use Rattle.laws.proofs.Tests.{true_or_false}
 use Rattle.laws.proofs.Upto.{each_at, each_agree}
 use Rattle.refusals.specs.Number.{number_of}
@@ -19,8 +21,20 @@ use Rattle.checker_slots.specs.Paper.{failing_rule}
 use Rattle.checker_slots.proofs.Rules.{rule_true}
 use Rattle.checker.specs as defs
 use defs.Paper.{unchecked, untrue_at, SlotsChecked, unjudged}
-use defs.Inner.{breaks, untrue_to, rule_to, compared}
-use defs.Coded.{rule_by}
+use defs.Inner.{is_broken, breaks, untrue_to, rule_to, compared}
+use defs.Coded.{slot_of, rule_by}
+
+-- the first verdict that is a rule stands at the lowest slot that breaks one
+pub lowest_position : (w : List ℕ) → length w ≡ 48 → slot_of (position is_broken w) ≡ lowest (breaks w) 48
+lowest_position w size =
+    let first = position_or_len is_broken w in
+    true_or_false (ltb first (length w))
+    (λ e.
+    let there = ltb-true first (length w) e in
+    rw e (sym (lowest_at_lem (breaks w) 48 first (omega arith) (passes_at_first is_broken w 0 there) (λ k l. fails_before_first is_broken w k 0 l))))
+    (λ e.
+    let past = ltb-false first (length w) e in
+    rw e (sym (lowest_none (breaks w) 48 (λ k l. fails_before_first is_broken w k 0 (omega arith)))))
 
 -- the lowest of n numbers, counted from 1, is no more than n
 pub lowest_few : (f : ℕ → Bool) (n : ℕ) → lowest f n ≤ n

@@ -9,9 +9,13 @@ use Rattle.checker_slots.specs.Paper.{true_by, failing_rule}
 use Rattle.checker_plans.specs.Inner.{Plans}
 use Rattle.checker.specs.Paper.{Checked, unchecked, untrue_at, SlotsChecked, unjudged}
 
+-- a verdict is a rule
+abbrev pub is_broken : ℕ → Bool
+is_broken v = not (eqb v 0)
+
 -- a slot's verdict is a rule that fails
 abbrev pub breaks : List ℕ → ℕ → Bool
-breaks w i = not (eqb (get_or w i 0) 0)
+breaks w i = is_broken (get_or w i 0)
 
 -- 01 Numbers given, 40: what a message shows of a slot is untrue by what is said of it
 abbrev pub untrue_to : List Planned → List ℕ → ℕ → Bool

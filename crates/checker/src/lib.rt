@@ -1,14 +1,14 @@
 // Schedule messages checked against a plan and the plan before it.
 #![tactic(auto)]
 
-ghost use Rattle.std.specs.Prelude.{◌≡◌, ◌<◌, map, length};
-ghost use Rattle.laws.specs.Upto.{lowest as lowest_of, each};
+ghost use Rattle.std.specs.Prelude.{◌≡◌, ◌<◌, map, position};
+ghost use Rattle.laws.specs.Upto.{each};
 ghost use Rattle.plan.specs.Coded.{plan_of};
 ghost use Rattle.plan_slots.specs.Coded.{planned_of};
 ghost use Rattle.checker_plans.specs.Coded.{plans_of};
 ghost use Rattle.checker.specs.Paper.{check};
-ghost use Rattle.checker.specs.Inner.{breaks, compared, slots_beside};
-ghost use Rattle.checker.specs.Coded.{rule_from, rule_by, slot_of, checked_of};
+ghost use Rattle.checker.specs.Inner.{is_broken, compared, slots_beside};
+ghost use Rattle.checker.specs.Coded.{rule_from, rule_by, checked_of};
 
 use checker_plans::Said;
 use plan::{Fault, Plan};
@@ -77,16 +77,11 @@ fn judge_each(
     }
 }
 
-// The place, counted from 0, of the lowest slot that breaks a rule.
+// The place, counted from 0, of the first slot that breaks a rule.
 fn first_untrue(verdicts: &[u8; SLOTS]) -> Option<usize>
-    ensures { slot_of result ≡ lowest_of (breaks verdicts.now) 48 }
+    ensures { result ≡ position is_broken verdicts.now }
 {
-    for (i, verdict) in verdicts.iter().enumerate() {
-        if *verdict != 0 {
-            return Some(i);
-        }
-    }
-    None
+    verdicts.iter().position(|verdict| *verdict != 0)
 }
 
 // Holds a message, of which some octets are received, beside what good plans say.
