@@ -30,53 +30,64 @@ pub fn description_at(
     if place >= end {
         return Ok(None);
     }
-    let i = slot_at(message, end, place);
+    let told = Told { message, end };
+    let i = told.slot_at(place);
     let at = found.places[i];
     let slot = schedule::shown(message, i, at as usize);
     let number = i + 1;
     Ok(Some(Numbered { number, slot }))
 }
 
-// The slot, counted from 0, whose description stands after the given number of others.
-fn slot_at(message: &[u8], end: usize, place: usize) -> usize
-    requires { (end ≡ end_of message.now) × (end ≤ 48) × (place < end) }
-    ensures { (result ≡ slot_of message.now place) × (result < end) }
-{
-    let news = count_new(message, end);
-    if place < news {
-        return pick(message, end, true, place);
-    }
-    pick(message, end, false, place - news)
+// A message that was read, with its End.
+#[derive(Clone, Copy)]
+struct Told<'a> {
+    message: &'a [u8],
+    end: usize,
+    ghost ends: { end ≡ end_of message.now },
+    ghost last: { end ≤ 48 },
 }
 
-// How many of the slots up to End have their new bit set.
-fn count_new(message: &[u8], end: usize) -> usize
-    requires { end ≤ 48 }
-    ensures { result ≡ count (grouped message.now true) end }
-{
-    let mut n = 0;
-    for i in 0..end {
-        if schedule::is_new(message, i) {
-            n += 1;
+impl Told<'_> {
+    // The slot, counted from 0, whose description stands after the given number of others.
+    fn slot_at(self, place: usize) -> usize
+        requires { place < self.end }
+        ensures { (result ≡ slot_of self.entry.message.now place) × (result < self.entry.end) }
+    {
+        let news = self.count_new();
+        if place < news {
+            return self.pick(true, place);
         }
+        self.pick(false, place - news)
     }
-    n
-}
 
-// The slot, counted from 0, before which the given number of slots up to End have the same new bit, as given.
-// Stays a search by hand and a flag that picks the group: it counts as it goes, for both groups alike.
-fn pick(message: &[u8], end: usize, new: bool, place: usize) -> usize
-    requires { (end ≡ end_of message.now) × (end ≤ 48) × (place < count (grouped message.now new) end) }
-    ensures { Picks message.now new place result }
-{
-    let mut left = place;
-    for i in 0..end {
-        if schedule::is_new(message, i) == new {
-            if left == 0 {
-                return i;
+    // How many of the slots up to End have their new bit set.
+    fn count_new(self) -> usize
+        ensures { result ≡ count (grouped self.entry.message.now true) self.entry.end }
+    {
+        let mut n = 0;
+        for i in 0..self.end {
+            if schedule::is_new(self.message, i) {
+                n += 1;
             }
-            left -= 1;
         }
+        n
     }
-    end
+
+    // The slot, counted from 0, before which the given number of slots up to End have the same new bit, as given.
+    // Stays a search by hand and a flag that picks the group: it counts as it goes, for both groups alike.
+    fn pick(self, new: bool, place: usize) -> usize
+        requires { place < count (grouped self.message.now new) self.end }
+        ensures { Picks self.entry.message.now new place result }
+    {
+        let mut left = place;
+        for i in 0..self.end {
+            if schedule::is_new(self.message, i) == new {
+                if left == 0 {
+                    return i;
+                }
+                left -= 1;
+            }
+        }
+        self.end
+    }
 }

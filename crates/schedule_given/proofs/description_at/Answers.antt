@@ -1,5 +1,5 @@
 -- `schedule_given::description_at` meets its contract: each answer is told from that of the reader with all places.
-use Rattle.laws.proofs.Base.{refl, ◌<◌, arith}
+use Rattle.laws.proofs.Base.{refl, arith}
 use Rattle.std.proofs.lemmas.Result.{err_from_is_err_and}
 use Rattle.schedule_places.proofs.Known.{given_good}
 use Rattle.schedule_given.proofs.Givens.{given_refused, given_none, given_next}
@@ -15,16 +15,10 @@ returns-then-place-end c =
     let good = given_good _ _ _ c.in_ok-found.ensures _ _ refl in
     given_none _ _ _ c.in_ok-found.ensures _ _ good (omega (arith, c.if-place-end.true))
 
-pub slot_at-i-requires : goal.slot_at-i-requires
-slot_at-i-requires c =
+pub invariant_of-told : goal.invariant_of-told
+invariant_of-told c =
     let g = given_good _ _ _ c.in_ok-found.ensures _ _ refl in
-    (g.ends, g.last, omega (arith, c.if-place-end.false))
-
-pub bounds-found-i : goal.bounds-found-i
-bounds-found-i c =
-    let g = given_good _ _ _ c.in_ok-found.ensures _ _ refl in
-    let low : c.slot_at-i.result < 48 = omega (arith, g.last, c.slot_at-i.ensures.1) in
-    omega (arith, low)
+    record { ends = g.ends; last = g.last }
 
 pub returns : goal.returns
 returns c =
