@@ -51,6 +51,7 @@ pub struct Reply {
 
 // Takes in one piece. A state that is not proper is refused as StateImproper, and then a piece as `block::place_of` has it;
 // after a refusal the state is as after start.
+// Stays beside cb_intake: who lends no memory has a state by value, and each is promised.
 pub fn intake(state: State, piece: &[u8]) -> Reply
     ensures { given_of result ≡ step (held_of state) piece.now }
 {
@@ -88,6 +89,7 @@ fn refused(refusal: Refusal, state: State) -> Reply
 }
 
 // The answer to a piece that is added to the message in state; last: it completes the message.
+// Stays a flag, last: it is what the place of the block says, and both ways add it alike.
 fn add(state: State, piece: &[u8], last: bool) -> Reply
     requires { Adds state.taken state.octets piece.now }
     ensures { given_of result ≡ outcome last (added (held_of state) piece.now) }

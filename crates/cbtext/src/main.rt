@@ -126,6 +126,7 @@ fn put_text(points: &[u16], lines: &mut Text)
     put_characters(points, lines);
 }
 
+// Stays beside `put_octets`: one for both would take a closure for a loop of three lines.
 fn put_characters(points: &[u16], lines: &mut Text)
     ensures put { record { end = lines.new.end; text = lines.new.memory.now } ≡ all_behind (map character points.now) lines.old.end lines.old.memory.now }
     ensures same { lines.new.memory.ghost_name ≡ lines.old.memory.ghost_name }

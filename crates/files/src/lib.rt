@@ -225,6 +225,8 @@ pub fn fill(
 }
 
 // Writes text to standard output, and answers whether all of it was written.
+// Stays apart, output, errors and program, here and in the programs: a struct of them has the types of both as parameters, which each
+// function would name.
 pub fn write_text(output: &impl Print, errors: &impl Print, program: &[u8], text: &[u8]) -> bool
     ensures { length text.now ≡ 0 → result ≡ true }
 {

@@ -92,6 +92,7 @@ fn fill(memory: &mut [u8])
 }
 
 // Adds a piece to the message in state; last: it completes the message.
+// Stays a flag, last: it is what the place of the block says, and both ways add it alike.
 fn add(state: &mut [u8; STATE], piece: &[u8], last: bool, output: &mut [u8; MESSAGE]) -> u32
     requires { Adds (held_in state.old).taken (held_in state.old).octets piece.now }
     ensures { record { returned = result; state = state.new; output = output.new } ≡ moved (outcome last (added (held_in state.old) piece.now)) output.old }

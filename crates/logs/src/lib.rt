@@ -137,6 +137,7 @@ pub trait Listing<const ROOM: usize> {
 
     // Puts the line of a piece's answer behind the lines so far. The number is the piece's, the answer that of the intake's
     // call, and the message what the call left in its output.
+    // Stays apart, number, answer and lines: a line has the two numbers as they come, and puts them one by one.
     fn put_line(&self, number: u64, answer: u32, message: &[u8; MESSAGE], lines: &mut Text)
         requires { ((g : Given) × Answers g answer message.now) × (lines.old.end + wide ≤ length lines.old.memory.now) }
         ensures put { (g : Given) → Answers g answer message.now → Puts (line self.now number g) wide lines.old.end lines.old.memory.now lines.new.memory.now lines.new.end }

@@ -10,6 +10,7 @@ const ROOM: usize = 1024;
 const FULL: u64 = 0x0FFF_FFFF_FFFF_FFFF;
 
 // Room for octets.
+// Stays an array, here and where one is made: programs take no heap.
 pub(crate) fn room() -> [u8; ROOM] {
     [0; ROOM]
 }
