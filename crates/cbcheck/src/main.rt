@@ -83,6 +83,7 @@ impl Listing<ROOM> for Checks {
 }
 
 // Puts the line of what the checker answers to the message that a block completes, and what it leaves of the slots.
+#[tactic(auto, unfolding(lines::specs::Paper::ascii, lines::specs::Paper::all_behind, crate::specs::Paper::said))]
 fn put_checked(number: u64, checked: Result<(), SlotFault>, verdicts: &[u8], lines: &mut Text)
     ensures put { record { end = lines.new.end; text = lines.new.memory.now } ≡ all_behind (line number (record { checked = checked_of checked; verdicts = verdicts.now })) lines.old.end lines.old.memory.now }
     ensures same { lines.new.memory.ghost_name ≡ lines.old.memory.ghost_name }
@@ -121,6 +122,7 @@ fn put_refused(number: u64, fault: SlotFault, rule: u8, lines: &mut Text)
 }
 
 // Puts three numbers, with a space behind each.
+#[tactic(auto, unfolding(lines::specs::Paper::all_behind))]
 fn put_numbers(number: u64, answer: u64, slot: u64, lines: &mut Text)
     ensures put { record { end = lines.new.end; text = lines.new.memory.now } ≡ all_behind (numbers number answer slot) lines.old.end lines.old.memory.now }
     ensures same { lines.new.memory.ghost_name ≡ lines.old.memory.ghost_name }
@@ -138,6 +140,7 @@ fn names_untrue(fault: SlotFault) -> bool
 }
 
 // Puts why a message is refused: the slot that is told untruly and the rule that it breaks, or the words of the refusal.
+#[tactic(auto, unfolding(lines::specs::Paper::ascii, lines::specs::Paper::all_behind, crate::specs::Paper::reason))]
 fn put_reason(fault: SlotFault, rule: u8, lines: &mut Text)
     ensures put { record { end = lines.new.end; text = lines.new.memory.now } ≡ all_behind (reason (number_of fault.refusal) fault.slot rule) lines.old.end lines.old.memory.now }
     ensures same { lines.new.memory.ghost_name ≡ lines.old.memory.ghost_name }

@@ -60,6 +60,7 @@ impl Listing<ROOM> for Blocks {
 }
 
 // Puts the line of a block behind the lines so far.
+#[tactic(auto, unfolding(lines::specs::Paper::all_behind))]
 fn put_line(number: u64, returned: u32, lines: &mut Text)
     ensures put { record { end = lines.new.end; text = lines.new.memory.now } ≡ all_behind (line number (returned % 256) (returned / 256)) lines.old.end lines.old.memory.now }
     ensures same { lines.new.memory.ghost_name ≡ lines.old.memory.ghost_name }

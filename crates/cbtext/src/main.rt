@@ -83,6 +83,7 @@ fn put_heading(number: u64, page: &[u8; MESSAGE], lines: &mut Text)
 }
 
 // Puts a block's number, and a page's serial number and identifier.
+#[tactic(auto, unfolding(lines::specs::Paper::all_behind))]
 fn put_names(number: u64, serial: Serial, id: MessageId, lines: &mut Text)
     ensures put { record { end = lines.new.end; text = lines.new.memory.now } ≡ all_behind (names number serial.0 id.0) lines.old.end lines.old.memory.now }
     ensures same { lines.new.memory.ghost_name ≡ lines.old.memory.ghost_name }
@@ -94,6 +95,7 @@ fn put_names(number: u64, serial: Serial, id: MessageId, lines: &mut Text)
 }
 
 // Puts the page and the total of a page parameter.
+#[tactic(auto, unfolding(lines::specs::Paper::all_behind))]
 fn put_parameter(parameter: u8, lines: &mut Text)
     ensures put { record { end = lines.new.end; text = lines.new.memory.now } ≡ all_behind (parts parameter) lines.old.end lines.old.memory.now }
     ensures same { lines.new.memory.ghost_name ≡ lines.old.memory.ghost_name }
@@ -118,6 +120,7 @@ fn put_body(page: &[u8; MESSAGE], received: usize, lines: &mut Text)
     put_content(page::content(page, received), lines);
 }
 
+#[tactic(auto, unfolding(lines::specs::Paper::ascii, lines::specs::Paper::all_behind))]
 fn put_text(points: &[u16], lines: &mut Text)
     ensures put { record { end = lines.new.end; text = lines.new.memory.now } ≡ all_behind (text_texts points.now) lines.old.end lines.old.memory.now }
     ensures same { lines.new.memory.ghost_name ≡ lines.old.memory.ghost_name }
@@ -184,6 +187,7 @@ fn put_utf8(point: u16, lines: &mut Text)
     ]);
 }
 
+#[tactic(auto, unfolding(lines::specs::Paper::ascii, lines::specs::Paper::all_behind))]
 fn put_content(content: &[u8], lines: &mut Text)
     ensures put { record { end = lines.new.end; text = lines.new.memory.now } ≡ all_behind (hex_texts content.now) lines.old.end lines.old.memory.now }
     ensures same { lines.new.memory.ghost_name ≡ lines.old.memory.ghost_name }

@@ -91,6 +91,7 @@ fn unnumbered(words: &[u8]) -> &[u8] {
 }
 
 // Puts the name of a program and that of a thing that the system refused it. A part that does not fit is left out.
+#[tactic(auto, unfolding(lines::specs::Paper::ascii, lines::specs::Paper::all_behind))]
 fn put_fault(program: &[u8], name: &[u8], line: &mut Text)
     ensures put { record { end = line.new.end; text = line.new.memory.now } ≡ all_behind (faulty program.now name.now) line.old.end line.old.memory.now }
     ensures same { line.new.memory.ghost_name ≡ line.old.memory.ghost_name }

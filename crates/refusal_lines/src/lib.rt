@@ -14,6 +14,7 @@ use std::io::Print;
 pub const LINE: usize = 200;
 
 // Puts a line on a refusal: a program, the number, what it is about, and the words. A part that does not fit is left out.
+#[tactic(auto, unfolding(lines::specs::Paper::ascii, lines::specs::Paper::all_behind))]
 fn put_refused(program: &[u8], about: &[u8], refusal: Refusal, line: &mut Text)
     ensures put { record { end = line.new.end; text = line.new.memory.now } ≡ all_behind (refused program.now about.now (number_of refusal)) line.old.end line.old.memory.now }
     ensures same { line.new.memory.ghost_name ≡ line.old.memory.ghost_name }
@@ -82,6 +83,7 @@ pub fn say_begin(
 
 // Puts what is wrong with a bad entry, by its kind.
 // Stays a number, here and below: an entry is refused for a kind that is none of 0, 1, 2, and the line tells it.
+#[tactic(auto, unfolding(lines::specs::Paper::ascii, lines::specs::Paper::all_behind))]
 fn put_wrong(kind: u8, line: &mut Text)
     ensures put { record { end = line.new.end; text = line.new.memory.now } ≡ all_behind (wrong_entry kind) line.old.end line.old.memory.now }
     ensures same { line.new.memory.ghost_name ≡ line.old.memory.ghost_name }
