@@ -46,7 +46,10 @@ pub fn say_refused(
 ) -> usize
     ensures { record { end = result; text = text.new } ≡ all_behind (refused program.now about.now (number_of refusal)) 0 text.old }
 {
-    let mut line = Text { memory: text, end: 0 };
+    let mut line = Text {
+        memory: text,
+        end: 0,
+    };
     put_refused(program, about, refusal, &mut line);
     let _ = errors.write_all(line.as_bytes());
     line.end
@@ -75,7 +78,10 @@ pub fn say_begin(
 ) -> usize
     ensures { record { end = result; text = text.new } ≡ all_behind (begin_refused program.now begin.now count) 0 text.old }
 {
-    let mut line = Text { memory: text, end: 0 };
+    let mut line = Text {
+        memory: text,
+        end: 0,
+    };
     put_begin(program, begin, count, &mut line);
     let _ = errors.write_all(line.as_bytes());
     line.end
@@ -124,7 +130,10 @@ pub fn say_entry(
 ) -> usize
     ensures { record { end = result; text = text.new } ≡ all_behind (entry_refused program.now about.now (number_of refusal) entry kind) 0 text.old }
 {
-    let mut line = Text { memory: text, end: 0 };
+    let mut line = Text {
+        memory: text,
+        end: 0,
+    };
     put_entry(program, about, refusal, entry, kind, &mut line);
     let _ = errors.write_all(line.as_bytes());
     line.end
