@@ -12,7 +12,7 @@ use refusals::Refusal;
 use sizes::{CONTENT, FILLER, MESSAGE};
 
 // A message of which some blocks are taken: kind 0 for none, 1 for a page, 2 for a schedule.
-// Stays a number, kind: a state is what a caller kept, and one of another kind is refused.
+// Stays a number, kind: a state is what a caller kept, and `intake` refuses one of another kind by 8.
 #[derive(Clone, Copy)]
 pub struct State {
     pub kind: u8,

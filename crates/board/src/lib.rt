@@ -21,7 +21,7 @@ use sizes::SLOTS;
 pub const WANTED: usize = 64;
 
 // The identifiers that are wanted; those past the count mean nothing.
-// Stays a count beside an array: fixed memory, and a count over the room is refused by 42.
+// Stays a count beside an array: fixed memory, and `decide` refuses a count over the room by 42.
 #[derive(Clone, Copy)]
 pub struct Wanted {
     pub count: usize,
@@ -49,7 +49,6 @@ pub fn wanted_of(list: &[u16]) -> Wanted
 }
 
 // Whether an identifier that is wanted matches in 15 bits.
-// Stays a loop: `any` with a closure takes four times the instructions over a whole buffer.
 fn any_matches(wanted: &[u16], id: u16) -> bool
     ensures { result ≡ is_wanted (lent_wanted wanted.now) id }
 {
@@ -104,7 +103,7 @@ fn reads_for(message: &[u8], places: &[u8; SLOTS], i: usize, wanted: &[u16], hel
 }
 
 // Reads or skips a slot by a lent message, of which there may be none, where so many of some identifiers are wanted.
-// Stays a flag beside a message: cb_decide and Schedule have it so, and one test here asks it.
+// Stays a flag beside a message: cb_decide hands both, and `decide` takes a Schedule, which has both.
 #[tactic(auto, using(std::proofs::lemmas::Bool::Decides::nat_tests), unfolding(crate::specs::Paper::decide))]
 fn decide_by(
     known: bool,

@@ -16,7 +16,7 @@ use sizes::{MESSAGE, SLOTS};
 pub struct Held(pub u64);
 
 // A schedule message and the octets received of it, where there is one.
-// Stays a flag beside a message: cb_decide and cb_enter hand both, and what decides takes them alike from here and from C.
+// Stays a flag beside a message: `decide` and `entered_under` take it so (`schedule_of` in their contracts), and C hands both.
 #[derive(Clone, Copy)]
 pub struct Schedule {
     pub known: bool,

@@ -36,6 +36,7 @@ const PROGRAM: Program<'static> = Program {
     most: 4,
 };
 
+// Stays a main of its own: what it works on is this program's.
 fn main(rt: HostRuntime) {
     let output = rt.stdout();
     let errors = rt.stderr();
@@ -101,7 +102,7 @@ fn put_checked(number: u64, checked: Result<(), SlotFault>, verdicts: &[u8], lin
 }
 
 // The verdict on a slot, by its number; 0 where there is none.
-// Stays a number: cb_check_slots lends the verdicts as octets, of which 0 says that nothing is untrue.
+// Stays a number, here and below: check_slots lends the verdicts as octets, of which 0 says that nothing is untrue.
 fn rule_of(verdicts: &[u8], slot: usize) -> u8
     ensures { result ≡ rule_of verdicts.now slot }
 {

@@ -30,6 +30,7 @@ const PROGRAM: Program<'static> = Program {
     most: 2,
 };
 
+// Stays a main of its own: what it works on is this program's.
 fn main(rt: HostRuntime) {
     let output = rt.stdout();
     let errors = rt.stderr();

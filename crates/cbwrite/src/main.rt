@@ -29,6 +29,7 @@ const PROGRAM: Program<'static> = Program {
     most: 4,
 };
 
+// Stays a main of its own: what it works on is this program's.
 fn main(rt: HostRuntime) {
     let output = rt.stdout();
     let errors = rt.stderr();
@@ -123,7 +124,7 @@ fn compose(current: Plan, previous: Plan, begin: usize, out: &mut [u8]) -> Resul
 {
     // Stays an array: programs take no heap.
     let mut message = [0u8; MESSAGE];
-    // Stays a match: ? would want a From that drops the entry of a fault.
+    // Stays a match: the entry of a fault is dropped here, where it can be seen.
     let answer = sender::write_schedule(current, previous, begin, &mut message);
     match answer {
         Ok(used) => block_writer::write_blocks(&message, Kind::Schedule, used, out),

@@ -10,8 +10,8 @@ ghost use Rattle.checker_slots.specs.Coded.{rule_of, failing_of};
 use plan_slots::Planned;
 use schedule::{Description, Slot};
 
-// The rules of what is told of a slot (01, Truthful), in the order of its list. Their numbers are those places, so that the octet that a
-// caller is given of a rule, or 0 for none, is the value itself.
+// The rules of what is told of a slot (01, Truthful), in the order of its list. The variants have the numbers of
+// their places too, so that the compiler makes the octet of a rule without a table.
 #[derive(Clone, Copy, Debug, PartialEq, Eq)]
 pub enum Rule {
     // the lowest slot with a page

@@ -197,8 +197,8 @@ fn add(
     Answer::Kept
 }
 
-// Puts a page at its place, counted from 0, with the octets received. It goes by way of a local array, which the compiler
-// knows apart from the collector, so that it is moved in a few steps and not octet by octet.
+// Puts a page at its place, counted from 0, with the octets received.
+// Stays by way of a local array: the compiler knows it apart from the collector, so that it is moved in a few steps and not octet by octet.
 fn put_page(collector: &mut [u8; COLLECTOR], i: usize, page: &[u8; MESSAGE], received: u8)
     requires { i < 15 }
     ensures { collector.new ≡ put collector.old i page.now received }

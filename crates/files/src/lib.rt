@@ -161,8 +161,8 @@ pub fn open_named<R: Env + Files>(
     }
 }
 
-// Stays a function, and no From: FillError and Error are both the standard library's.
 // The number of the error where an argument is not to be had.
+// Stays a function, and no From: FillError and Error are both the standard library's.
 fn number(unfilled: FillError) -> i32 {
     match unfilled {
         FillError::NotPresent => EINVAL,

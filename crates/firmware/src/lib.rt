@@ -104,8 +104,8 @@ fn add(state: &mut [u8; STATE], piece: &[u8], last: bool, output: &mut [u8; MESS
     hand_out(state, output)
 }
 
-// Copies the content of a piece behind that of the blocks taken, and counts the block. It goes by way of a local array,
-// which the state cannot overlap, so that it is moved in a few steps and not octet by octet.
+// Copies the content of a piece behind that of the blocks taken, and counts the block.
+// Stays by way of a local array: the state cannot overlap it, so that it is moved in a few steps and not octet by octet.
 fn put(state: &mut [u8; STATE], piece: &[u8])
     requires { Adds (held_in state.old).taken (held_in state.old).octets piece.now }
     ensures { state.new ≡ lent (added (held_in state.old) piece.now) }

@@ -12,7 +12,7 @@ use refusals::Refusal;
 use sizes::SLOTS;
 
 // A slot as planned (docs/FORMATS.md): kind 0 for optional, 1 for advised, 2 for a page.
-// Stays a number: a kind over 2 is a value that a plan can have and that is refused by 36.
+// Stays a number: a kind over 2 is a value that a plan can have and that `plan_answer` refuses by 36.
 #[derive(Clone, Copy)]
 pub struct Entry {
     pub kind: u8,
@@ -22,7 +22,7 @@ pub struct Entry {
 }
 
 // The slots as planned; entries past the count mean nothing.
-// Stays a count beside an array: there is no heap here, and a count over 48 is a value that is refused by 32.
+// Stays a count beside an array: there is no heap here, and a count over 48 is a value that `plan_answer` refuses by 32.
 #[derive(Clone, Copy)]
 pub struct Plan {
     pub count: usize,

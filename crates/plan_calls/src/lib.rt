@@ -23,7 +23,7 @@ pub fn cb_read_plan(file: &[u8]) -> u32
 }
 
 // A refusal and the entry that comes with it, as one number.
-// Stays a function: Fault and u32 are both of other crates, so From can't stand here.
+// Stays a function: how numbers are packed for C is this room's alone, and From can't stand here, between types of other crates.
 fn packed(fault: Fault) -> u32
     ensures { result ≡ in_one (number_of fault.refusal) fault.entry }
 {

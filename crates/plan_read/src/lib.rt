@@ -21,7 +21,6 @@ pub const FRONT: usize = 6;
 pub const ENTRY: usize = 6;
 
 // The 16 bits, high octet first, at a place of the file.
-// Stays a place beside the file, here and below: document 01 gives its fields by their places.
 fn sixteen_at(file: &[u8], at: usize) -> u16
     requires { at + 2 ≤ length file.now }
     ensures { result ≡ get_or file.now at 0 * 256 + get_or file.now (at + 1) 0 }

@@ -12,7 +12,7 @@ use plan::{Entry, Plan};
 use sizes::SLOTS;
 
 // What the plans say of a slot; where it is planned with no page, all but the kind is 0 or false.
-// Stays a number: the kind is that of a plan's entry, which can be over 2.
+// Stays a number: the kind is that of a plan's entry, which can be over 2 where `all_planned` is asked.
 #[derive(Clone, Copy)]
 pub struct Planned {
     pub kind: u8,
@@ -61,6 +61,7 @@ fn first_slot(marks: &[u64], mark: u64) -> u8
 }
 
 // What is said of a slot planned with no page.
+// Stays a number, kind: as in Planned.
 fn none_planned(kind: u8) -> Planned
     ensures { planned_of result ≡ none_planned kind }
 {

@@ -37,6 +37,7 @@ fn put_named(program: &[u8], refusal: Refusal, line: &mut Text)
 }
 
 // Says on standard error what refused something, in a line that is made in lent memory. Answers the line's length.
+// Stays beside the two others that say a line: each has a line of its own, and one for all would take what makes it as a closure.
 pub fn say_refused(
     errors: &impl Print,
     program: &[u8],
@@ -88,7 +89,7 @@ pub fn say_begin(
 }
 
 // Puts what is wrong with a bad entry, by its kind.
-// Stays a number, here and below: an entry is refused for a kind that is none of 0, 1, 2, and the line tells it.
+// Stays a number, here and below: an entry is refused for a kind that is none of 0, 1, 2, and `say_entry` promises the line that tells it.
 #[tactic(auto, unfolding(lines::specs::Paper::ascii, lines::specs::Paper::all_behind))]
 fn put_wrong(kind: u8, line: &mut Text)
     ensures put { record { end = line.new.end; text = line.new.memory.now } ≡ all_behind (wrong_entry kind) line.old.end line.old.memory.now }

@@ -8,7 +8,7 @@ ghost use Rattle.schedule_calls.specs.Paper.{code_of, schedule_call, description
 use schedule::Description;
 
 // A description as one number.
-// Stays a function: Description and u32 are both of other crates, so From can't stand here.
+// Stays a function: the code is what C is given, so it's this room's, and From can't stand here, between types of other crates.
 pub fn code(description: Description) -> u32
     ensures { result ≡ code_of (told_of description) }
 {

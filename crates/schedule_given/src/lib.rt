@@ -74,7 +74,7 @@ impl Told<'_> {
     }
 
     // The slot, counted from 0, before which the given number of slots up to End have the same new bit, as given.
-    // Stays a search by hand and a flag that picks the group: it counts as it goes, for both groups alike.
+    // Stays a flag that picks the group: both groups are searched by one loop.
     fn pick(self, new: bool, place: usize) -> usize
         requires { place < count (grouped self.message.now new) self.end }
         ensures { Picks self.entry.message.now new place result }

@@ -15,6 +15,7 @@ use sizes::SLOTS;
 
 // Begin and End of a message, and where the description of each slot starts, in octets from the message's first, which is 0;
 // 0 too for a slot past End.
+// Stays an array: there is no heap here, and cb_slots gives 0 past End.
 #[derive(Clone, Copy, Debug, PartialEq, Eq)]
 pub struct Placed {
     pub span: Span,

@@ -18,7 +18,7 @@ pub fn put_words(refusal: Refusal, line: &mut Text)
 }
 
 // The words of a refusal.
-// Stays a function, and no From or Display: Refusal and those traits are all of other crates.
+// Stays a function, and no From or Display: the words are the programs' alone, and Refusal and those traits are of other crates.
 #[tactic(auto, unfolding(crate::specs::Paper::find, lines::specs::Paper::ascii))]
 fn words_of(refusal: Refusal) -> &'static str
     ensures { result.now ≡ words (number_of refusal) }
@@ -61,7 +61,7 @@ fn words_of(refusal: Refusal) -> &'static str
 }
 
 // Puts the words of a rule that a slot breaks; a number that is no rule has none.
-// Stays a number: checker::check_slots lends its verdicts as octets.
+// Stays a number, here and below: checker::check_slots lends its verdicts as octets.
 pub fn put_rule(rule: u8, line: &mut Text)
     ensures put { record { end = line.new.end; text = line.new.memory.now } ≡ behind (rule_words rule) line.old.end line.old.memory.now }
     ensures same { line.new.memory.ghost_name ≡ line.old.memory.ghost_name }
