@@ -5,9 +5,8 @@ ghost use Rattle.std.specs.Prelude.{◌≡◌};
 ghost use Rattle.refusals.specs.Number.{number_of};
 ghost use Rattle.calls.specs.Paper.{in_one};
 ghost use Rattle.plan_calls.specs.Paper.{plan_call, write_schedule_call, check_slots_call, check_schedule_call};
-ghost use Rattle.plan_calls.specs.Inner.{Both};
 
-use plan::{Fault, Plan};
+use plan::Fault;
 use refusals::Refusal;
 use sizes::{MESSAGE, SLOTS};
 
@@ -30,15 +29,6 @@ fn packed(fault: Fault) -> u32
     u32::from(u8::from(fault.refusal)) + 256 * u32::from(fault.entry)
 }
 
-// The plans of two files. Where both are refused, the current one's fault is told.
-fn read_both(current: &[u8], previous: &[u8]) -> Result<(Plan, Plan), Fault>
-    ensures { Both current.now previous.now result }
-{
-    let plan = plan_read::read_plan(current)?;
-    let older = plan_read::read_plan(previous)?;
-    Ok((plan, older))
-}
-
 // Writes the schedule message of a plan file, beside the file before it: number + 256 × used octets, or the entry that the number names.
 pub fn cb_write_schedule(current: &[u8], previous: &[u8], begin: usize, out: &mut [u8]) -> u32
     ensures { record { returned = result; memory = out.new } ≡ write_schedule_call current.now previous.now begin out.old }
@@ -46,9 +36,14 @@ pub fn cb_write_schedule(current: &[u8], previous: &[u8], begin: usize, out: &mu
     if out.len() != MESSAGE {
         return u32::from(u8::from(Refusal::OutputLength));
     }
-    let plans = read_both(current, previous);
-    let (plan, older) = match plans {
-        Ok(both) => both,
+    let this = plan_read::read_plan(current);
+    let plan = match this {
+        Ok(plan) => plan,
+        Err(fault) => return packed(fault),
+    };
+    let last = plan_read::read_plan(previous);
+    let older = match last {
+        Ok(plan) => plan,
         Err(fault) => return packed(fault),
     };
     let answer = sender::write_schedule(plan, older, begin, out);
@@ -71,9 +66,14 @@ pub fn cb_check_slots(
     if verdicts.len() != SLOTS {
         return u32::from(u8::from(Refusal::OutputLength));
     }
-    let plans = read_both(current, previous);
-    let (plan, older) = match plans {
-        Ok(both) => both,
+    let this = plan_read::read_plan(current);
+    let plan = match this {
+        Ok(plan) => plan,
+        Err(fault) => return packed(fault),
+    };
+    let last = plan_read::read_plan(previous);
+    let older = match last {
+        Ok(plan) => plan,
         Err(fault) => return packed(fault),
     };
     let said = checker_plans::beside(plan, older);

@@ -11,25 +11,22 @@ use Rattle.plan_calls.proofs.cb_check_slots.Goals as goal
 pub overflow_cast-result : goal.overflow_cast-result
 overflow_cast-result c =
     let a = c.args in
-    let both = c.in-Ok.both in
     let checks = c.in-Err-answer.ensures ∙ ap (λ (b : Plans). slots_beside b a.message.now a.received a.verdicts.now) c.beside-said.ensures in
-    omega (arith, named_small (plan_of both.0) (plan_of both.1) a.message.now a.received a.verdicts.now _ (Err c.in-Err-answer.fault) (omega arith) checks)
+    omega (arith, named_small (plan_of c.in-Ok.plan) (plan_of c.in-Ok-last.plan) a.message.now a.received a.verdicts.now _ (Err c.in-Err-answer.fault) (omega arith) checks)
 
 pub overflow_mul-result : goal.overflow_mul-result
 overflow_mul-result c =
     let a = c.args in
-    let both = c.in-Ok.both in
     let checks = c.in-Err-answer.ensures ∙ ap (λ (b : Plans). slots_beside b a.message.now a.received a.verdicts.now) c.beside-said.ensures in
-    omega (arith, named_small (plan_of both.0) (plan_of both.1) a.message.now a.received a.verdicts.now _ (Err c.in-Err-answer.fault) (omega arith) checks)
+    omega (arith, named_small (plan_of c.in-Ok.plan) (plan_of c.in-Ok-last.plan) a.message.now a.received a.verdicts.now _ (Err c.in-Err-answer.fault) (omega arith) checks)
 
 pub overflow_add-result : goal.overflow_add-result
 overflow_add-result c =
     let a = c.args in
-    let both = c.in-Ok.both in
     let checks = c.in-Err-answer.ensures ∙ ap (λ (b : Plans). slots_beside b a.message.now a.received a.verdicts.now) c.beside-said.ensures in
     omega (
       arith,
-      named_small (plan_of both.0) (plan_of both.1) a.message.now a.received a.verdicts.now _ (Err c.in-Err-answer.fault) (omega arith) checks,
+      named_small (plan_of c.in-Ok.plan) (plan_of c.in-Ok-last.plan) a.message.now a.received a.verdicts.now _ (Err c.in-Err-answer.fault) (omega arith) checks,
       c.from-in-Err-answer-2.ensures,
       c.from-in-Err-answer.type_inv,
     )
@@ -38,11 +35,11 @@ pub returns-in-Ok-answer : goal.returns-in-Ok-answer
 returns-in-Ok-answer c =
     let a = c.args in
     let checks = c.in-Ok-answer.ensures ∙ ap (λ (b : Plans). slots_beside b a.message.now a.received a.verdicts.now) c.beside-said.ensures in
-    ap packed_slots (as_beside a.current.now a.previous.now a.message.now a.received a.verdicts.now (omega arith) c.in-Ok.both c.in-Ok.ensures checks)
+    ap packed_slots (as_beside a.current.now a.previous.now a.message.now a.received a.verdicts.now (omega arith) (c.in-Ok.plan, c.in-Ok-last.plan) (c.in-Ok.ensures, c.in-Ok-last.ensures) checks)
 
 pub returns-in-Err-answer : goal.returns-in-Err-answer
 returns-in-Err-answer c =
     let a = c.args in
     let checks = c.in-Err-answer.ensures ∙ ap (λ (b : Plans). slots_beside b a.message.now a.received a.verdicts.now) c.beside-said.ensures in
     rw (c.from-in-Err-answer-2.ensures, c.from-in-Err-answer.ensures)
-    (ap packed_slots (as_beside a.current.now a.previous.now a.message.now a.received a.verdicts.now (omega arith) c.in-Ok.both c.in-Ok.ensures checks))
+    (ap packed_slots (as_beside a.current.now a.previous.now a.message.now a.received a.verdicts.now (omega arith) (c.in-Ok.plan, c.in-Ok-last.plan) (c.in-Ok.ensures, c.in-Ok-last.ensures) checks))
