@@ -22,7 +22,7 @@
  *   cb_start             100    cb_intake            100    cb_write_text      1,100
  *   cb_read_text         600    cb_content           100    cb_read_header       100
  *   cb_write_blocks      100    cb_read_schedule     300    cb_slots             200
- *   cb_description       400    cb_read_plan       1,300    cb_write_schedule  5,300
+ *   cb_description       400    cb_read_plan       1,300    cb_write_schedule  4,500
  *   cb_check_schedule  3,600    cb_decide            300    cb_enter             300
  *   cb_start_collector   100    cb_collect           300    cb_check_slots     3,500
  */
