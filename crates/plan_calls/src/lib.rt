@@ -36,6 +36,7 @@ pub fn cb_write_schedule(current: &[u8], previous: &[u8], begin: usize, out: &mu
     if out.len() != MESSAGE {
         return u32::from(u8::from(Refusal::OutputLength));
     }
+    // Stays a match for each file, here and below: a function that hands on both plans takes 700 octets of stack more.
     let this = plan_read::read_plan(current);
     let plan = match this {
         Ok(plan) => plan,
