@@ -17,8 +17,8 @@ pub enum Asked {
     Usage,
 }
 
-// A program: its name, how it is used and what it does, each of these two in whole lines, and the number of arguments from fewest
-// to most with which it works. The program's name counts as one.
+// A program: its name, the line that says how it is used, as it is said on standard error, its help, whose first line says the same,
+// and the number of arguments from fewest to most with which it works. The program's name counts as one.
 #[derive(Clone, Copy)]
 pub struct Program<'a> {
     pub name: &'a [u8],
@@ -66,20 +66,17 @@ pub fn asked_for(count: usize, first: &[u8], fewest: usize, most: usize) -> Aske
 }
 
 // Says how a program is used, and what it does where help is asked for. Answers whether the program is to work: nothing is said then.
+// Each text is one write: a reader that goes after the first line makes no fault, and other programs' lines don't come in between.
 pub fn tell(asked: Asked, program: &Program, output: &impl Print, errors: &impl Print) -> bool
     ensures { result ≡ works asked }
 {
     match asked {
         Asked::Work => true,
         Asked::Help => {
-            if files::write_text(output, errors, program.name, program.usage) {
-                files::write_text(output, errors, program.name, program.help);
-            }
+            files::write_text(output, errors, program.name, program.help);
             false
         }
         Asked::Usage => {
-            let _ = errors.write_all(program.name);
-            let _ = errors.write_all(b": ");
             let _ = errors.write_all(program.usage);
             false
         }

@@ -27,8 +27,9 @@ const ROOM: usize = 146432;
 // The program, as its arguments are asked for and told.
 const PROGRAM: Program<'static> = Program {
     name: b"cbcheck",
-    usage: b"usage: cbcheck CURRENT PREVIOUS [FILE]\n",
-    help: b"Checks the schedule messages of a log of blocks, FILE or standard input, beside two plan files, a line for each message.\n\
+    usage: b"cbcheck: usage: cbcheck CURRENT PREVIOUS [FILE]\n",
+    help: b"usage: cbcheck CURRENT PREVIOUS [FILE]\n\
+        Checks the schedule messages of a log of blocks, FILE or standard input, beside two plan files, a line for each message.\n\
         A line has the number of the message's last block, 0 where the message is true or the number that refuses it,\n\
         the lowest untrue slot or 0, and the same in words.\n\
         A previous plan of no slots stands for none.\n",

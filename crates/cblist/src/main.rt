@@ -17,8 +17,9 @@ const ROOM: usize = 64512;
 // The program, as its arguments are asked for and told.
 const PROGRAM: Program<'static> = Program {
     name: b"cblist",
-    usage: b"usage: cblist [FILE]\n",
-    help: b"Lists a log of blocks, FILE or standard input: 23 octets are a block, and a shorter tail is a piece too.\n\
+    usage: b"cblist: usage: cblist [FILE]\n",
+    help: b"usage: cblist [FILE]\n\
+        Lists a log of blocks, FILE or standard input: 23 octets are a block, and a shorter tail is a piece too.\n\
         A line has the block's number, the intake's answer, and the octets received where a message is complete, 0 otherwise.\n\
         Answers: 0 page complete, 1 block taken, 7 schedule message complete; refused: 2 not 23 octets, 3 discriminator not 01,\n\
         4 reserved code, 5 null block, 6 not the next block of its message.\n",

@@ -21,8 +21,9 @@ const ROOM: usize = 366592;
 // The program, as its arguments are asked for and told.
 const PROGRAM: Program<'static> = Program {
     name: b"cbtext",
-    usage: b"usage: cbtext [FILE]\n",
-    help: b"Shows the pages of a log of blocks, FILE or standard input, a line for each page that is complete.\n\
+    usage: b"cbtext: usage: cbtext [FILE]\n",
+    help: b"usage: cbtext [FILE]\n\
+        Shows the pages of a log of blocks, FILE or standard input, a line for each page that is complete.\n\
         A line has the number of the page's last block, its serial number and identifier in hex, page and total,\n\
         and then the word text with the text received or, where the coding scheme is over 0F, hex with the content received.\n\
         Inside a text \\n and \\r are line ends, \\f is a form feed and \\\\ a backslash.\n",

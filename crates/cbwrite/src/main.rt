@@ -21,8 +21,9 @@ const MOST: usize = 1000;
 // The program, as its arguments are asked for and told.
 const PROGRAM: Program<'static> = Program {
     name: b"cbwrite",
-    usage: b"usage: cbwrite CURRENT PREVIOUS BEGIN\n",
-    help: b"Writes the schedule message of a plan file, beside the plan file before it, to standard output.\n\
+    usage: b"cbwrite: usage: cbwrite CURRENT PREVIOUS BEGIN\n",
+    help: b"usage: cbwrite CURRENT PREVIOUS BEGIN\n\
+        Writes the schedule message of a plan file, beside the plan file before it, to standard output.\n\
         BEGIN is the message's Begin in decimal, one of the slots of the current plan.\n\
         A previous plan of no slots stands for none. What is written is four blocks of 23 octets, which cblist and cbcheck read.\n",
     fewest: 4,
