@@ -1,13 +1,13 @@
 // Checks the schedule messages of a log of blocks from a file or standard input beside two plan files, a line for each: cbcheck CURRENT PREVIOUS [FILE].
 #![tactic(auto)]
 
-ghost use Rattle.std.specs.Prelude.{◌≡◌, ◌++◌};
+ghost use Rattle.std.specs.Prelude.{◌≡◌, refl, ◌++◌};
 ghost use Rattle.std.proofs.Common.{lit≤, lit<};
 ghost use Rattle.refusals.specs.Number.{number_of};
 ghost use Rattle.checker.specs.Coded.{checked_of};
 ghost use Rattle.checker_plans.specs.Coded.{plans_of};
 ghost use Rattle.lines.specs.Paper.{all_behind};
-ghost use Rattle.cbcheck.specs.Paper.{numbers, names_untrue, rule_of, reason, said, line, line_of};
+ghost use Rattle.cbcheck.specs.Paper.{numbers, names_untrue, rule_of, reason, said, line, line_of, lines};
 ghost use Rattle.cbcheck.specs.Inner.{fresh_beside};
 
 use arguments::Program;
@@ -66,7 +66,11 @@ struct Checks {
 impl Listing<ROOM> for Checks {
     ghost line = { λ checks. line_of (fresh_beside (plans_of checks.plans)) };
 
+    ghost all_lines = { λ checks. lines (fresh_beside (plans_of checks.plans)) };
+
     ghost wide = { 143 };
+
+    ghost line_by_line = { λ _ _ _ _. refl };
 
     ghost fits = { lit≤ tt };
 

@@ -1,10 +1,10 @@
 // Lists a log of blocks from a file or standard input: the number of each, the intake's answer, and the octets received.
 #![tactic(auto)]
 
-ghost use Rattle.std.specs.Prelude.{◌≡◌, ◌/◌, ◌%◌};
+ghost use Rattle.std.specs.Prelude.{◌≡◌, refl, ◌/◌, ◌%◌};
 ghost use Rattle.std.proofs.Common.{lit≤, lit<};
 ghost use Rattle.lines.specs.Paper.{all_behind};
-ghost use Rattle.cblist.specs.Paper.{line, line_of};
+ghost use Rattle.cblist.specs.Paper.{line, line_of, lines};
 
 use arguments::Program;
 use lines::Text;
@@ -50,7 +50,11 @@ struct Blocks;
 impl Listing<ROOM> for Blocks {
     ghost line = { λ _. line_of };
 
+    ghost all_lines = { λ _. lines };
+
     ghost wide = { 63 };
+
+    ghost line_by_line = { λ _ _ _ _. refl };
 
     ghost fits = { lit≤ tt };
 

@@ -1,11 +1,11 @@
 // Shows the pages of a log of blocks from a file or standard input: a line for each, with its text, or its content in hex.
 #![tactic(auto)]
 
-ghost use Rattle.std.specs.Prelude.{◌≡◌, true, map};
+ghost use Rattle.std.specs.Prelude.{◌≡◌, refl, true, map};
 ghost use Rattle.std.proofs.Common.{lit≤, lit<};
 ghost use Rattle.sizes.specs.Paper.{whole_blocks};
 ghost use Rattle.lines.specs.Paper.{hexadecimal, behind, all_behind};
-ghost use Rattle.cbtext.specs.Paper.{utf8, character, names, parts, heading, line_of};
+ghost use Rattle.cbtext.specs.Paper.{utf8, character, names, parts, heading, line_of, page_lines};
 ghost use Rattle.cbtext.specs.Inner.{lettered, text_texts, hex_texts, body_texts, page_texts};
 
 use arguments::Program;
@@ -46,7 +46,11 @@ struct Pages;
 impl Listing<ROOM> for Pages {
     ghost line = { λ _. line_of };
 
+    ghost all_lines = { λ _. page_lines };
+
     ghost wide = { 358 };
+
+    ghost line_by_line = { λ _ _ _ _. refl };
 
     ghost fits = { lit≤ tt };
 

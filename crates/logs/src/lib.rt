@@ -2,7 +2,7 @@
 #![tactic(auto)]
 
 ghost use Rattle.std.specs.Prelude.{◌≡◌, true, List, ℕ, ◌+◌, ◌*◌, ◌/◌, ◌≤◌, ◌<◌, length, take};
-ghost use Rattle.block.specs.Paper.{Given, start};
+ghost use Rattle.block.specs.Paper.{Held, Given, start};
 ghost use Rattle.block_history.specs.Claims.{after};
 ghost use Rattle.firmware.specs.Paper.{lent, held_in};
 ghost use Rattle.files.specs.Inner.{filled};
@@ -132,6 +132,9 @@ pub trait Listing<const ROOM: usize> {
     // The line of a numbered answer.
     ghost line: { Self → ℕ → Given → List ℕ };
 
+    // The lines of pieces taken in order from a state, the first of them with a number: those of their answers, one behind the other.
+    ghost all_lines: { Self → Held → ℕ → List (List ℕ) → List ℕ };
+
     // The octets of the longest line.
     ghost wide: { ℕ };
 
@@ -143,6 +146,8 @@ pub trait Listing<const ROOM: usize> {
         ensures put { (g : Given) → Answers g answer message.now → Puts (line self.now number g) wide lines.old.end lines.old.memory.now lines.new.memory.now lines.new.end }
         ensures size { length lines.new.memory.now ≡ length lines.old.memory.now }
         ensures same { lines.new.memory.ghost_name ≡ lines.old.memory.ghost_name };
+
+    ghost line_by_line: { (s : Self) (h : Held) (n : ℕ) (ps : List (List ℕ)) → all_lines s h n ps ≡ listing (line s) h n ps };
 
     ghost fits: { 1024 * wide ≤ ROOM };
 
@@ -236,7 +241,7 @@ fn list<L: Listing<ROOM>, const ROOM: usize>(
     lines: &mut Text,
 )
     requires { (length log.now ≤ 23552) × (length lines.old.memory.now ≡ ROOM) × (first < 1000000000000000000) }
-    ensures listed { (take lines.new.end lines.new.memory.now ≡ listing (L.line form.now) (held_in state.old) first (cut log.now)) × (state.new ≡ lent (after (held_in state.old) (cut log.now))) × (lines.new.end ≤ ROOM) }
+    ensures listed { (take lines.new.end lines.new.memory.now ≡ L.all_lines form.now (held_in state.old) first (cut log.now)) × (state.new ≡ lent (after (held_in state.old) (cut log.now))) × (lines.new.end ≤ ROOM) }
     ensures size { length lines.new.memory.now ≡ length lines.old.memory.now }
 {
     let mut number = first;

@@ -28,7 +28,9 @@ loop-piece-preserved g c =
     )
 
 pub returns-clause-listed : goal.returns-clause-listed
-returns-clause-listed g c = listed_end c.loop-piece.invariant.1 c.in-None.ensures.steps.1.0
+returns-clause-listed g c =
+    let e = listed_end c.loop-piece.invariant.1 c.in-None.ensures.steps.1.0 in
+    (e.0 ∙ sym (g.met.L.Listing.line_by_line _ _ _ _), e.1, e.2)
 
 pub returns-clause-size : goal.returns-clause-size
 returns-clause-size g c = c.loop-piece.invariant.1.text_size ∙ sym c.requires.1
