@@ -10,6 +10,5 @@ determined_started a b p q = p ∙ sym q
 pub determined_moved_on : (number : ℕ) (chunk : List ℕ) (a b : ℕ) → a ≡ moved_on number chunk → b ≡ moved_on number chunk → a ≡ b
 determined_moved_on number chunk a b p q = p ∙ sym q
 
--- the end of a piece in a chunk, by numbers alone: `chunks` cuts there
 pub determined_piece_end : (at end a b : ℕ) → a ≡ min (at + 23) end → b ≡ min (at + 23) end → a ≡ b
 determined_piece_end at end a b p q = p ∙ sym q

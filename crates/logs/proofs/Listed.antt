@@ -1,6 +1,6 @@
 -- The loop over a log: what is listed so far, and one piece more.
 use Rattle.laws.proofs.Base.{◌≡◌, refl, sym, ap, ◌∙◌, cond, List, [], ◌∷◌, ◌++◌, append_assoc, append-nil, ℕ, ◌+◌, ◌*◌, ◌/◌, ◌%◌, ◌≤◌, ◌<◌}
-use Rattle.laws.proofs.Base.{min, mul-suc, arith, length, take, eqb}
+use Rattle.laws.proofs.Base.{mul-suc, arith, length, take, eqb}
 use Rattle.std.proofs.Common.{mul-le-mul}
 use Rattle.std.proofs.lemmas.List.{nil_from_length}
 use Rattle.block.specs.Paper.{Given, step}
@@ -11,7 +11,7 @@ use Rattle.calls.proofs.Packed.{apart}
 use Rattle.firmware.proofs.History.{right}
 use Rattle.logs.specs.Paper.{listing, pieces, cut}
 use Rattle.lines.specs.Inner.{Puts}
-use Rattle.logs.proofs.Pieces.{length_cut, cut_next}
+use Rattle.logs.proofs.Pieces.{Front, length_cut, cut_next}
 
 -- memory of 90 octets is the state that it holds
 lent_held : (s : List ℕ) → length s ≡ 90 → lent (held_in s) ≡ s
@@ -82,9 +82,9 @@ module _ {f : ℕ → Given → List ℕ} {wide size : ℕ} {s₀ : List ℕ} {f
         output = ap (λ (x : IntakeLeft). x.output) did;
       }
 
-  module _ (p rest' : List ℕ) (is : rest ≡ p ++ rest') (long : length p ≡ min 23 (length rest)) (some : 0 < length rest) where
+  module _ {p rest' : List ℕ} (front : Front rest p rest') where
     next : cut rest ≡ p ∷ cut rest'
-    next = rw is (cut_next p rest' (rw is at long) (rw is at some))
+    next = rw front.is (cut_next p rest' (rw front.is at front.long) (rw front.is at front.some))
 
     one_less : length (cut rest) ≡ length (cut rest') + 1
     one_less = omega (arith, ap length next)

@@ -1,9 +1,36 @@
 -- Laws of a log cut into pieces: the next piece and the log behind it, and a log in two parts.
-use Rattle.laws.proofs.Base.{◌≡◌, refl, ap, ◌∙◌, List, [], ◌∷◌, ◌++◌, append-nil, ℕ, zero, suc, ◌+◌, ◌*◌, ◌/◌, ◌≤◌, ◌<◌, min, zero-add, add-zero, arith}
-use Rattle.laws.proofs.Base.{length, take, drop, length-append, length-drop, take_all, take-append-le, drop-append-le, drop-append-add}
+use Rattle.laws.proofs.Base.{◌≡◌, refl, sym, ap, ◌∙◌, List, [], ◌∷◌, ◌++◌, append-nil, ℕ, zero, suc, ◌+◌, ◌*◌, ◌-◌, ◌/◌, ◌≤◌, ◌<◌, min, zero-add, add-zero, arith}
+use Rattle.laws.proofs.Base.{length, take, drop, length-append, length-drop, length-take, take_all, take-append-drop, take-append-le, drop-append-le, drop-append-add, drop-drop}
 use Rattle.std.proofs.lemmas.List.{nil_from_length}
 use Rattle.laws.proofs.Tests.{le_or_lt}
 use Rattle.logs.specs.Paper.{pieces, cut}
+
+-- the next place
+abbrev pub ended : ℕ → List ℕ → ℕ
+ended at log = min (at + 23) (length log)
+
+-- the piece that is lent is the next piece of the log
+pub piece_is : (at : ℕ) (log : List ℕ) → at < length log → take (ended at log - at) (drop at log) ≡ take 23 (drop at log)
+piece_is at log h =
+    le_or_lt (at + 23) (length log)
+    (λ inside. let n : ended at log - at ≡ 23 = omega arith in rw n)
+    (λ short.
+    take_all (ended at log - at) (drop at log) (simp length-drop (omega arith)) ∙ sym (take_all 23 (drop at log) (simp length-drop (omega arith))))
+
+-- a piece at the front of a log, and the log behind it
+pub record Front (log p rest : List ℕ) : Type 0 where
+  pub is : log ≡ p ++ rest
+  pub long : length p ≡ min 23 (length log)
+  pub some : 0 < length log
+
+-- the piece that is lent is at the front of the log from a place on
+pub front_at : (at behind : ℕ) (log : List ℕ) {end : ℕ} → at < length log → behind ≡ at + 23 → end ≡ ended at log
+    → Front (drop at log) (take (end - at) (drop at log)) (drop behind log)
+front_at at behind log h b e =
+    let p : take (ended at log - at) (drop at log) ≡ take 23 (drop at log) = piece_is at log h in
+    let both : take 23 (drop at log) ++ drop (at + 23) log ≡ drop at log =
+    ap (λ (l : List ℕ). take 23 (drop at log) ++ l) (sym (drop-drop 23 at log)) ∙ take-append-drop 23 (drop at log) in
+    rw (e, b, p) record { is = sym both; long = length-take 23 (drop at log); some = rw (length-drop at log) (omega arith) }
 
 pub length_pieces : (k at : ℕ) (log : List ℕ) → length (pieces k at log) ≡ k
 unfolding pieces

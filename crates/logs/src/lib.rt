@@ -1,7 +1,7 @@
 // Logs: read in chunks, taken in piece by piece, and listed by what a program puts for each answer.
 #![tactic(auto)]
 
-ghost use Rattle.std.specs.Prelude.{◌≡◌, true, List, ℕ, ◌+◌, ◌*◌, ◌/◌, ◌≤◌, ◌<◌, length, take};
+ghost use Rattle.std.specs.Prelude.{◌≡◌, true, List, ℕ, ◌+◌, ◌*◌, ◌/◌, ◌≤◌, ◌<◌, min, length, take};
 ghost use Rattle.block.specs.Paper.{Held, Given, start};
 ghost use Rattle.block_history.specs.Claims.{after};
 ghost use Rattle.firmware.specs.Paper.{lent, held_in};
@@ -127,6 +127,19 @@ pub fn write_chunk(
     }
 }
 
+// Where the piece at a place of a log ends.
+pub fn piece_end(at: usize, end: usize) -> usize
+    ensures { result ≡ min (at + 23) end }
+{
+    if end <= at {
+        return end;
+    }
+    if 23 < end - at {
+        return at + 23;
+    }
+    end
+}
+
 // What a program puts for the answers to the pieces of a log. The lines of a whole chunk have room in so many octets.
 pub trait Listing<const ROOM: usize> {
     // The line of a numbered answer.
@@ -246,7 +259,10 @@ fn list<L: Listing<ROOM>, const ROOM: usize>(
 {
     let mut number = first;
     lines.end = 0;
-    for piece in log.chunks(BLOCK) {
+    // Stays by places, and no chunks: where a piece ends is what piece_end promises.
+    for k in 0..log.len().div_ceil(BLOCK) {
+        let at = k * BLOCK;
+        let piece = &log[at..piece_end(at, log.len())];
         let answer = firmware::cb_intake(state, piece, message);
         form.put_line(number, answer, message, lines);
         number += 1;
