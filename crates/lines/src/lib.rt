@@ -32,6 +32,7 @@ impl<'a> Text<'a> {
     }
 
     // Puts octets behind the text. Where they do not fit, nothing is put.
+    #[tactic(auto, using(std::proofs::lemmas::Bool::Decides::nat_tests, crate::proofs::Behind::behind_full, crate::proofs::Behind::behind_copy))]
     pub fn put(&mut self, octets: &[u8])
         ensures put { record { end = self.new.end; text = self.new.memory.now } ≡ behind octets.now self.old.end self.old.memory.now }
         ensures same { self.new.memory.ghost_name ≡ self.old.memory.ghost_name }
