@@ -109,7 +109,9 @@ pub fn plan_answer(plan: Plan) -> Result<(), Fault>
     if plan.count > SLOTS {
         return Err(Refusal::PlanLength.into());
     }
-    entries_answer(&plan.entries[..plan.count])
+    // Stays a variable: a slice of the field would keep the whole plan on the stack beside the array that it was made of.
+    let entries = plan.entries;
+    entries_answer(&entries[..plan.count])
 }
 
 // Whether the current plan and the previous one are good and the current one has slots, and if not why.
