@@ -1,7 +1,8 @@
 -- `plan_read::read_plan` meets its contract: the front's answer, then the plan's.
-use Rattle.laws.proofs.Base.{sym, ap, arith}
+use Rattle.laws.proofs.Base.{sym, ap, ◌∙◌, arith}
 use Rattle.refusals.proofs.Inverse.{number_of_positive}
 use Rattle.plan.specs.Paper.{Verdict}
+use Rattle.plan.specs.Coded.{verdict_of}
 use Rattle.std.proofs.lemmas.Result.{err_from_is_err_and}
 use Rattle.plan_read.proofs.Answers.{front_refuses, front_counts, plan_refuses, plan_passes}
 use Rattle.plan_read.proofs.read_plan.Goals as goal
@@ -17,16 +18,14 @@ bounds-file-5 c = let n = front_counts c.args.file.now (sym c.in_ok-front_answer
 pub entries_of-requires : goal.entries_of-requires
 entries_of-requires c = let n = front_counts c.args.file.now (sym c.in_ok-front_answer.ensures) in (n.0, omega arith)
 
-pub returns-in_err-plan_answer : goal.returns-in_err-plan_answer
-returns-in_err-plan_answer c =
-    let p = err_from_is_err_and c.from_residual-in_err-plan_answer.result c.from_residual-in_err-plan_answer.ensures.1 in
-    rw (p.1, p.2)
-    (sym
-    (plan_refuses c.args.file.now (sym c.in_ok-front_answer.ensures) _ c.entries_of.ensures _ _ (sym c.in_err-plan_answer.ensures)
-    (number_of_positive _)))
-
-pub returns : goal.returns
-returns c =
+pub returns-in-Ok : goal.returns-in-Ok
+returns-in-Ok c =
     sym
     (plan_passes c.args.file.now (sym c.in_ok-front_answer.ensures) _ c.entries_of.ensures
-    (ap (λ (v : Verdict). v.number) (sym c.in_ok-plan_answer.ensures)))
+    (ap (λ (v : Verdict). v.number) (sym c.plan_answer-answer.ensures ∙ ap verdict_of c.in-Ok.is)))
+
+pub returns-in-Err : goal.returns-in-Err
+returns-in-Err c =
+    sym
+    (plan_refuses c.args.file.now (sym c.in_ok-front_answer.ensures) _ c.entries_of.ensures _ _
+    (sym c.plan_answer-answer.ensures ∙ ap verdict_of c.in-Err.is) (number_of_positive _))
