@@ -91,10 +91,11 @@ pub fn entered_under_on(known: bool, message: &[u8], received: usize, slot: usiz
     let Ok(found) = schedule_places::read_places(message, received) else {
         return slot;
     };
+    // Stays before the test: taken out behind it, the places would lie on the stack twice.
+    let places = found.places;
     if !tells_of(Ok(found.span), slot) {
         return slot;
     }
-    let places = found.places;
     let description = schedule::told_at(message, places[slot - 1] as usize);
     entry_for(slot, description)
 }
