@@ -1,9 +1,11 @@
 -- What the inner functions ask and promise.
-use Rattle.std.specs.Prelude.{ℕ, ◌+◌, ◌*◌, ◌/◌, ◌%◌, ◌^◌, ◌<◌, ◌≤◌, ◌≡◌, Bool, false, cond, Option, None, Some, List, [], ◌∷◌, eqb, leb, length, take, set}
+use Rattle.std.specs.Prelude.{ℕ, ◌+◌, ◌*◌, ◌/◌, ◌%◌, ◌^◌, ◌<◌, ◌≤◌, ◌≡◌, Bool, false, cond, Option, None, Some, List, [], ◌∷◌, eqb, leb, ltb, length, take, set}
 use Rattle.laws.specs.Radix.{Below, value, digits}
+use Rattle.laws.specs.Ruled.{ruled}
 use Rattle.laws.specs.Search.{some}
 use Rattle.alphabet.specs.Paper.{septet_of, no_septet}
-use Rattle.text.specs.Paper.{foreign, septets_of, unpadded}
+use Rattle.page.specs.Paper.{Heading}
+use Rattle.text.specs.Paper.{PageLeft, foreign, septets_of, unpadded, ends_in_cr, used_octets, page_octets}
 use Rattle.text_writer.specs.declared.filling.Filling.{Filling}
 
 -- some character is past the table of septets
@@ -22,6 +24,14 @@ looked t = cond (foreign t) None (Some (length (unpadded t)))
 pub record Known (text : List ℕ) (count : ℕ) : Type 0 where
   pub known : foreign text ≡ false
   pub counted : count ≡ length (unpadded text)
+
+-- 02 No. 5, order of the text writer: what writing a text h leaves of the page p where 15, 13, 14 and 11 are past
+unfoldable pub counted_page : Heading → List ℕ → List ℕ → PageLeft
+counted_page h t p =
+    ruled
+    (λ n. record { number = n; used = 0; page = p })
+    ((ltb 93 (length (unpadded t)), 10) ∷ (ends_in_cr t, 12) ∷ [])
+    (record { number = 0; used = used_octets t; page = page_octets h t })
 
 -- a text that can be written into so much room
 pub record Writable (text : List ℕ) (count size : ℕ) (out : List ℕ) : Type 0 where

@@ -4,11 +4,11 @@
 mod filling;
 mod septets;
 
-ghost use Rattle.std.specs.Prelude.{◌≡◌, [], ◌∷◌, false, not};
+ghost use Rattle.std.specs.Prelude.{◌≡◌, [], ◌∷◌, false, not, length};
 ghost use Rattle.page.specs.Coded.{heading_of};
 ghost use Rattle.text.specs.Paper.{bad_parameter, ends_in_cr, page_octets, written_page};
 ghost use Rattle.text_writer.specs.Coded.{heading_with, writing_of};
-ghost use Rattle.text_writer.specs.Inner.{Writable, looked, odd, past};
+ghost use Rattle.text_writer.specs.Inner.{Known, Writable, counted_page, looked, odd, past};
 
 use page::{Header, MessageId, Serial};
 use refusals::Refusal;
@@ -124,10 +124,34 @@ fn put_page(table: Septets<'_>, heading: Header, text: &[u16], count: usize, pag
     filling::pack(table, text, count, &mut page[6..]);
 }
 
+// Writes a page of a text that has so many septets, if there are not too many and it does not end in CR.
+// Stays a function of its own: behind all six tests the compiler leaves `put_page` a call, with a frame of its own on the stack.
+// Stays a count beside the text: it is of septets, of which a pair has two.
+#[tactic(auto, using(std::proofs::lemmas::Bool::Decides::nat_tests), unfolding(crate::specs::Inner::counted_page))]
+fn write_counted(
+    table: Septets<'_>,
+    heading: Header,
+    text: &[u16],
+    count: usize,
+    page: &mut [u8],
+) -> Result<usize, Refusal>
+    requires { Known text.now count × (length page.old ≡ 88) }
+    ensures { writing_of result page.new ≡ counted_page (heading_of heading) text.now page.old }
+{
+    if count > PLACES {
+        return Err(Refusal::TextLength);
+    }
+    if ends_in_cr(text) {
+        return Err(Refusal::EndsInCr);
+    }
+    put_page(table, heading, text, count, page);
+    Ok(6 + (7 * count + 7) / 8)
+}
+
 // Writes a page of text, or refuses it and leaves the page as it is: 88 octets, of which six are the header (GSM 03.41 9.3.2), and
 // the rest 93 septets of GSM 03.38, padded with CR. Text is code points, and the answer is the number of octets used. Refused, in
 // this order: OutputLength, Scheme, PageParameter, NotInAlphabet, TextLength, EndsInCr.
-#[tactic(auto, using(std::proofs::lemmas::Bool::Decides::nat_tests), unfolding(text::specs::Paper::written_page))]
+#[tactic(auto, using(std::proofs::lemmas::Bool::Decides::nat_tests), unfolding(text::specs::Paper::written_page, crate::specs::Inner::counted_page))]
 pub fn write_text(
     serial: Serial,
     id: MessageId,
@@ -151,18 +175,11 @@ pub fn write_text(
     let Some(count) = look(table, text) else {
         return Err(Refusal::NotInAlphabet);
     };
-    if count > PLACES {
-        return Err(Refusal::TextLength);
-    }
-    if ends_in_cr(text) {
-        return Err(Refusal::EndsInCr);
-    }
     let heading = Header {
         serial,
         id,
         scheme,
         parameter,
     };
-    put_page(table, heading, text, count, page);
-    Ok(6 + (7 * count + 7) / 8)
+    write_counted(table, heading, text, count, page)
 }
