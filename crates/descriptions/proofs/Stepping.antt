@@ -42,3 +42,6 @@ module _ (m : List ℕ) (received : ℕ) where
   module _ (k : ℕ) (t : SteppedCode) (step : stepped_of t ≡ stepped m received k) (x : Result (Option NumberedCode) Refusal) (gave : t.given ≡ x) where
     pub step_gave : given_of x ≡ given m received k
     step_gave = sym (ap given_of gave) ∙ ap (λ (s : Stepped). s.given) step
+
+    pub step_left : t.place ≡ k + passed (given_of x)
+    step_left = ap (λ (s : Stepped). s.place) step ∙ ap (λ (y : GivenSlot). k + passed y) (sym step_gave)

@@ -12,7 +12,7 @@ use schedule_given::Numbered;
 use sizes::SLOTS;
 
 // All that the description reader gives, in the message's order: how many slots, or the refusal, and the slots themselves.
-// Stays an array beside its count: there is no heap here, and on a refusal the slots given before it stand.
+// Stays an array beside its count: there is no heap here. With a refusal no slot is given, as the message is refused at its first place.
 #[derive(Clone, Copy)]
 pub struct Ordered {
     pub answer: Result<usize, Refusal>,
@@ -107,7 +107,9 @@ pub fn all_given(message: &[u8], received: usize) -> Ordered
             description: Description::Optional,
         },
     }; SLOTS];
-    for place in 0..SLOTS {
+    // Stays a place beside the count of calls: each call is asked at the place that the one before it left.
+    let mut place = 0;
+    for _ in 0..SLOTS {
         let step = given_at(message, received, place);
         let given = step.given;
         match given {
@@ -127,9 +129,10 @@ pub fn all_given(message: &[u8], received: usize) -> Ordered
                 };
             }
         }
+        place = step.place;
     }
     Ordered {
-        answer: Ok(SLOTS),
+        answer: Ok(place),
         given: slots,
     }
 }
