@@ -1,7 +1,7 @@
 // Messages cut into blocks.
 #![tactic(auto)]
 
-ghost use Rattle.std.specs.Prelude.{◌≡◌, ◌<◌, length};
+ghost use Rattle.std.specs.Prelude.{◌≡◌, ◌<◌, ◌≤◌, length};
 ghost use Rattle.block.specs.Paper.{sequence_code};
 ghost use Rattle.block.specs.Coded.{kind_of};
 ghost use Rattle.block_writer.specs.Paper.{type_of, blocks, written_blocks};
@@ -33,6 +33,7 @@ pub fn write_blocks(message: &[u8], kind: Kind, used: usize, out: &mut [u8]) -> 
 
 // The four blocks, over the output.
 fn put_blocks(message: &[u8; MESSAGE], kind: Kind, used: usize, out: &mut [u8; BLOCKS])
+    requires { used ≤ 88 }
     ensures { out.new ≡ blocks (kind_of kind) used message.now 4 }
 {
     for i in 0..4 {
@@ -45,12 +46,13 @@ fn put_blocks(message: &[u8; MESSAGE], kind: Kind, used: usize, out: &mut [u8; B
 }
 
 // The type octet of block i, counted from 0: the discriminator, the last-block mark from the last used octet on, the code.
+// Stays a division: it is done before the loop, and a product in each turn takes a register more, which some boards save first.
 fn block_type(kind: Kind, used: usize, i: usize) -> u8
-    requires { i < 4 }
+    requires { (used ≤ 88) × (i < 4) }
     ensures { result ≡ type_of (kind_of kind) used i }
 {
     let code = sequence_code(kind, i);
-    if used <= CONTENT * (i + 1) {
+    if (used + 21) / CONTENT <= i + 1 {
         return 0x30 + code;
     }
     0x20 + code
