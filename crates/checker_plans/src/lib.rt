@@ -19,6 +19,7 @@ pub struct Said {
 }
 
 // What the current plan and the previous one say, for any number of messages; or why they are refused, and the entry that is named.
+#[tactic(auto, using(crate::proofs::Answers::refused_unsaid, refusals::proofs::Inverse::number_of_positive))]
 pub fn beside(current: Plan, previous: Plan) -> Result<Said, Fault>
     ensures { plans_of result ≡ beside_them (plan_of current) (plan_of previous) }
 {

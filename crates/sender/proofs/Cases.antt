@@ -1,5 +1,5 @@
 -- Each case of the writer's order, and what is named in it, on plain facts; and what its acceptance means.
-use Rattle.laws.proofs.Base.{◌≡◌, sym, ap, ◌∙◌, and-true, List, ℕ, ◌≤◌, ◌<◌, arith, length, drop, leb, eq-eqb, ne_eqb, le-leb, eqb-true, leb-true, ltb-false, not-false}
+use Rattle.laws.proofs.Base.{◌≡◌, refl, sym, ap, ◌∙◌, and-true, List, ℕ, ◌≤◌, ◌<◌, arith, length, drop, leb, eq-eqb, ne_eqb, le-leb, eqb-true, leb-true, ltb-false, not-false}
 use Rattle.laws.specs.Ruled.{ruled}
 use Rattle.laws.proofs.Ruled.{ruled_map, none_holds, ruled_none, unless0_numbered}
 use Rattle.laws.proofs.Tests.{both}
@@ -40,6 +40,10 @@ module _ (c p : Plan) where
           let entry : naming n (plans_entry c p) ≡ s =
           sym (ap (λ (m : ℕ). naming m (plans_entry c p)) number) ∙ plans_named c p ∙ ap (λ (v : Verdict). v.entry) q in
           leaves (unwritten o n) (write_plans n number k) ∙ (λ i. record { left = unwritten o n; entry = entry i })
+
+      -- the same of what answers the plans, so that the check finds it for any code that hands a refusal on
+      pub plans_refused : (plans_number c p ≡ 0 → ⊥) → write_schedule c p b o ≡ record { left = unwritten o (plans_number c p); entry = plans_entry c p }
+      plans_refused k = leaves_plans (plans_number c p) (plans_entry c p) refl k
 
       -- past those of the plans, the writing of what is planned
       write_planned : plans_number c p ≡ 0 → write c p b o ≡ write_message b (planned c p) c.count o

@@ -61,6 +61,7 @@ fn telling(current: Plan, previous: Plan) -> [Slot; SLOTS]
 // Writes the schedule message of a plan (GSM 04.12 3.5), beside the plan before it, which says what pages are new, and gives the octets
 // that it uses of the 88. `begin` is the slot in which the schedule begins, counted from 1. Refuses by 15, by what refuses a plan, by 35,
 // 21 and 34 (docs/FORMATS.md), and leaves the output as it is then.
+#[tactic(auto, using(crate::proofs::Cases::plans_refused, refusals::proofs::Inverse::number_of_positive))]
 pub fn write_schedule(
     current: Plan,
     previous: Plan,
