@@ -54,6 +54,14 @@ lowest_breaks n v m few =
     at : (i : ℕ) → i < 48 → breaks (each (rule_to n v m) 48) i ≡ not (eqb (rule_to n v m i) 0)
     at i l = ap (λ (x : ℕ). not (eqb x 0)) (each_at (rule_to n v m) 48 i 0 l)
 
+-- a message that is refused is judged no further; so the check finds it for any code that hands a refusal on
+pub message_refused : (n : ℕ) (v : List Planned) (m : List ℕ) (received : ℕ) (w : List ℕ) → ((placed m received).read.number ≡ 0 → ⊥)
+    → compared n v m received w ≡ unjudged 0 w (placed m received).read.number
+unfolding compared
+message_refused n v m received w k =
+    let e : (placed m received).read.number ≡ (read m received).number = ap (λ (r : Read). r.number) (read_placed m received) in
+    rw (e, ne_eqb (read m received).number 0 (λ z. k (e ∙ z)))
+
 module _ (n : ℕ) (xs : List PlannedCode) (m : List ℕ) (received : ℕ) (w : List ℕ) (t : Placed) (q : t ≡ placed m received) where
   abbrev answer : SlotsChecked
   answer = compared n (map planned_of xs) m received w
