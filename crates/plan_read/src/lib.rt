@@ -95,12 +95,12 @@ pub fn read_plan(file: &[u8]) -> Result<Plan, Fault>
         count,
         entries: entries_of(file, count),
     };
-    // Stays a match and no `?`: must-fail/entry_of_the_plan_dropped changes what it hands on.
+    // Stays a test and no `?`: must-fail/entry_of_the_plan_dropped changes what it hands on.
     let answer = plan::plan_answer(plan);
-    match answer {
-        Ok(()) => Ok(plan),
-        Err(fault) => Err(fault),
+    if let Err(fault) = answer {
+        return Err(fault);
     }
+    Ok(plan)
 }
 
 // The octet where the kind of an entry stands in a file, entries counted from 1; 0 past the file's end. The front is as long as an entry, so

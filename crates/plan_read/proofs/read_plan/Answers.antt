@@ -18,11 +18,11 @@ bounds-file-5 c = let n = front_counts c.args.file.now (sym c.in_ok-front_answer
 pub entries_of-requires : goal.entries_of-requires
 entries_of-requires c = let n = front_counts c.args.file.now (sym c.in_ok-front_answer.ensures) in (n.0, omega arith)
 
-pub returns-in-Ok : goal.returns-in-Ok
-returns-in-Ok c =
+pub returns : goal.returns
+returns c =
     sym
     (plan_passes c.args.file.now (sym c.in_ok-front_answer.ensures) _ c.entries_of.ensures
-    (ap (λ (v : Verdict). v.number) (sym c.plan_answer-answer.ensures ∙ ap verdict_of c.in-Ok.is)))
+    (ap (λ (v : Verdict). v.number) (sym c.plan_answer-answer.ensures ∙ ap verdict_of c.in_default.is)))
 
 pub returns-in-Err : goal.returns-in-Err
 returns-in-Err c =
