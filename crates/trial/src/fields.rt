@@ -67,11 +67,12 @@ fn octets_in(text: &[u8], room: &mut [u8]) -> usize
     ensures { result ≤ length room.new }
 {
     let (pairs, _) = text.as_chunks::<2>();
-    let told = pairs
+    // No more of a field is looked at than has room: one that is longer is told otherwise, and so unread.
+    let fitting = &pairs[..pairs.len().min(room.len())];
+    let count = fitting
         .iter()
         .position(|pair| digit(pair[0]).is_none())
-        .unwrap_or(pairs.len());
-    let count = told.min(room.len());
+        .unwrap_or(fitting.len());
     for (octet, pair) in room[..count].iter_mut().zip(pairs) {
         *octet = 16 * digit(pair[0]).unwrap_or(0) + digit(pair[1]).unwrap_or(0);
     }

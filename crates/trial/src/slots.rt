@@ -63,14 +63,19 @@ pub(crate) fn description(line: &mut Line) {
 // D: known (0 or 1), message, received, slot, wanted, held; number, 1 read or 0 skip.
 pub(crate) fn decision(line: &mut Line) {
     let mut room = fields::room();
-    let (given, slot) = take_schedule(line, &mut room);
+    let (known, message, received, slot) = take_schedule(line, &mut room);
     let mut words = fields::room();
-    let wanted = wanted_from(line.take_octets(&mut words));
+    let wanted = line.take_octets(&mut words);
     let held = Held(line.take_number(u64::MAX));
-    let Some(given) = given else {
-        return line.end(Unlike::NoValue);
-    };
-    match board::decide(given, slot, wanted, held) {
+    match schedule_of(known, message, received) {
+        Some(given) => decided(line, given, slot, wanted, held),
+        None => line.end(Unlike::NoValue),
+    }
+}
+
+// Stays apart from what reads the line: only a line that has a value pays for the arrays.
+fn decided(line: &mut Line, given: Schedule, slot: usize, wanted: &[u8], held: Held) {
+    match board::decide(given, slot, wanted_from(wanted), held) {
         Ok(Decision::Read) => line.numbers(&[0, 1]),
         Ok(Decision::Skip) => line.numbers(&[0, 0]),
         Err(refusal) => line.numbers(&[u64::from(u8::from(refusal)), 0]),
@@ -80,26 +85,31 @@ pub(crate) fn decision(line: &mut Line) {
 // E: known (0 or 1), message, received, slot, held; held after.
 pub(crate) fn entry(line: &mut Line) {
     let mut room = fields::room();
-    let (given, slot) = take_schedule(line, &mut room);
+    let (known, message, received, slot) = take_schedule(line, &mut room);
     let held = Held(line.take_number(u64::MAX));
-    let Some(given) = given else {
-        return line.end(Unlike::NoValue);
-    };
-    line.number(held.with(board_held::entered_under(given, slot)).0);
+    match schedule_of(known, message, received) {
+        Some(given) => line.number(held.with(board_held::entered_under(given, slot)).0),
+        None => line.end(Unlike::NoValue),
+    }
 }
 
-// Reads what D and E begin with: a schedule, where its message has the octets of one by value, and a slot.
-fn take_schedule(line: &mut Line, room: &mut [u8]) -> (Option<Schedule>, usize) {
+// Reads what D and E begin with: known, a message, the octets received of it, and a slot.
+fn take_schedule<'r>(line: &mut Line, room: &'r mut [u8]) -> (bool, &'r [u8], usize, usize) {
     let known = line.take_number(1) == 1;
-    let message = <[u8; MESSAGE]>::try_from(line.take_octets(room));
+    let message = line.take_octets(room);
     let received = line.take_number(u64::MAX) as usize;
     let slot = line.take_number(u64::MAX) as usize;
-    let schedule = message.ok().map(|message| Schedule {
+    (known, message, received, slot)
+}
+
+// A schedule, where its message has the octets of one by value.
+fn schedule_of(known: bool, message: &[u8], received: usize) -> Option<Schedule> {
+    let message = <[u8; MESSAGE]>::try_from(message).ok()?;
+    Some(Schedule {
         known,
         message,
         received,
-    });
-    (schedule, slot)
+    })
 }
 
 // The identifiers that are wanted by value, from two octets each.

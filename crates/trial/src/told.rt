@@ -53,7 +53,10 @@ impl<'a> Line<'a> {
     // Some characters.
     fn text(&mut self, characters: &[u8]) {
         if let Ok(rest) = self.rest {
-            self.rest = rest.strip_prefix(characters).ok_or(Unlike::Differs);
+            match rest.strip_prefix(characters) {
+                Some(behind) => self.rest = Ok(behind),
+                None => self.rest = Err(Unlike::Differs),
+            }
         }
     }
 
