@@ -24,6 +24,7 @@ fn say_why(errors: &impl Print, program: &[u8], about: &[u8], file: &[u8], fault
 }
 
 // Takes the plan of a file's octets.
+#[tactic(auto, using(crate::proofs::Good::takes))]
 fn take_octets(errors: &impl Print, program: &[u8], about: &[u8], file: &[u8]) -> Option<Plan>
     ensures { taken_of result ≡ taken file.now }
 {
