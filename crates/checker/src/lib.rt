@@ -111,6 +111,7 @@ fn compare(
 
 // Checks a message, of which some octets are received, by what the plans say, and leaves which rule each slot breaks. Where slots aren't
 // judged one by one, their verdicts are left as they were.
+#[tactic(auto, using(crate::proofs::Answers::length_refused))]
 pub fn check_slots(
     plans: Result<Said, Fault>,
     message: &[u8],

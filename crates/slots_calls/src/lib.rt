@@ -34,6 +34,7 @@ fn tell(message: &[u8], places: &[u8; SLOTS], end: usize, slots: &mut [u32; SLOT
 }
 
 // Tells all slots of a schedule message, each as code + 2^16 × new bit: number + 2^8 × Begin + 2^16 × End.
+#[tactic(auto, using(crate::proofs::Slots::slots_length))]
 pub fn cb_slots(message: &[u8], received: usize, slots: &mut [u32]) -> u32
     ensures { record { returned = result; memory = slots.new } ≡ slots_call message.now received slots.old }
 {

@@ -3,14 +3,9 @@ use Rattle.laws.proofs.Base.{◌≡◌, refl, ◌∙◌}
 use Rattle.std.proofs.lemmas.Result.{err_from_is_err_and}
 use Rattle.refusals.proofs.Inverse.{number_of_positive}
 use Rattle.checker_plans.specs.Coded.{plans_of}
-use Rattle.checker.proofs.Answers.{length_refused, plans_refused, plans_good}
+use Rattle.checker.proofs.Answers.{plans_refused, plans_good}
 use Rattle.std.proofs.Common.{rules}
 use Rattle.checker.proofs.check_slots.Goals as goal
-
-pub returns-in_default : goal.returns-in_default
-returns-in_default c =
-    let a = c.args in
-    rw c.into.ensures (length_refused (plans_of a.plans) a.message.now a.received a.verdicts.now (search rules))
 
 pub returns-in_err-said : goal.returns-in_err-said
 returns-in_err-said c =

@@ -1,13 +1,8 @@
 -- `slots_calls::cb_slots` meets its contract: all slots told from the places of the message's descriptions.
 use Rattle.laws.proofs.Base.{◌≡◌, sym, ◌<◌, arith}
-use Rattle.slots_calls.proofs.Slots.{slots_length, refuses_slots, found_shows, found_small, tells_slots}
+use Rattle.slots_calls.proofs.Slots.{refuses_slots, found_shows, found_small, tells_slots}
 use Rattle.std.proofs.Common.{rules}
 use Rattle.slots_calls.proofs.cb_slots.Goals as goal
-
-pub returns-in_default : goal.returns-in_default
-returns-in_default c =
-    let a = c.args in
-    rw (c.from-in_default.ensures, c.from.ensures) (sym (slots_length a.message.now a.received a.slots.now (search rules)))
 
 pub tell-requires : goal.tell-requires
 tell-requires c =
