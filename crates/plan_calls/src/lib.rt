@@ -1,7 +1,7 @@
 // The entries for C that take plans, as files: they read them, and write and check schedule messages beside them.
 #![tactic(auto)]
 
-ghost use Rattle.std.specs.Prelude.{◌≡◌};
+ghost use Rattle.std.specs.Prelude.{◌≡◌, length};
 ghost use Rattle.refusals.specs.Number.{number_of};
 ghost use Rattle.calls.specs.Paper.{in_one};
 ghost use Rattle.plan_calls.specs.Paper.{plan_call, write_schedule_call, check_slots_call, check_schedule_call};
@@ -67,6 +67,21 @@ pub fn cb_check_slots(
     if verdicts.len() != SLOTS {
         return u32::from(u8::from(Refusal::OutputLength));
     }
+    check_files(current, previous, message, received, verdicts)
+}
+
+// The check beside two plan files, where there is room for the verdicts.
+// Stays a function: a call's room for plans is laid out as it begins, which a call that is refused for its length would pay for.
+fn check_files(
+    current: &[u8],
+    previous: &[u8],
+    message: &[u8],
+    received: usize,
+    verdicts: &mut [u8],
+) -> u32
+    requires { length verdicts.old ≡ 48 }
+    ensures { record { returned = result; memory = verdicts.new } ≡ check_slots_call current.now previous.now message.now received verdicts.old }
+{
     let this = plan_read::read_plan(current);
     let plan = match this {
         Ok(plan) => plan,
